@@ -27,6 +27,7 @@ class Mail:
         self.number, self.row = number, row
         self.sender, self.receiver = text["from"], text["to"]
         ((self.kind, self.fields),) = text["body"].items()
+        self.cause = None  # of an answer `not leader`, where `causes` has looked for it
 
 
 class Row:
@@ -151,6 +152,11 @@ def operation(said):
     return " ".join([kind.lower(), *words])
 
 
+def ballot(said):
+    """A ballot, so that it does not look like a group's name."""
+    return "{} of n{}".format(*said)
+
+
 def vote(said):
     if isinstance(said, str):
         return said
@@ -174,7 +180,8 @@ def answer(said):
     if kind == "NotLeader":
         return "not leader" + ("" if fields["hint"] is None else f", ask n{fields['hint']}")
     if kind == "NotMine":
-        return f"not mine, mine is {fields['arc']}"
+        lo, length = fields["arc"]
+        return f"not mine, mine is {length} positions from {lo} on"
     if kind == "Gone":
         return f"gone into {fields['into']['group']}"
     return f"stale, last is {fields['last']}"
@@ -184,22 +191,23 @@ def words(mail):
     """What a mail says, in a few words."""
     kind, said = mail.kind, mail.fields
     start = " ".join([kind, *([said["group"]] if "group" in said else [])])
-    ballot = " ballot {}.{}".format(*said["ballot"]) if "ballot" in said else ""
+    tried = f" ballot {ballot(said['ballot'])}" if "ballot" in said else ""
     slot = f" slot {said['slot']}" if "slot" in said else ""
     if kind == "Request":
         return f"{start} {said['seq']}: {operation(said['op'])}"
     if kind == "Answer":
-        return f"{start} {said['seq']}: {answer(said['answer'])}"
+        cause = f" ({mail.cause})" if mail.cause else ""
+        return f"{start} {said['seq']}: {answer(said['answer'])}{cause}"
     if kind in ("Accept", "Learn"):
-        return f"{start}{slot}{ballot}: {command(said['command'])}"
+        return f"{start}{slot}{tried}: {command(said['command'])}"
     if kind == "Promise":
-        return f"{start}{ballot}, {len(said['reports'])} accepted"
+        return f"{start}{tried}, {len(said['reports'])} accepted"
     if kind == "Prepare":
-        return f"{start}{ballot} from slot {said['from_slot']}"
+        return f"{start}{tried} from slot {said['from_slot']}"
     if kind == "Ask":
         return f"{start} from slot {said['from_slot']}"
     if kind == "Nack":
-        return "{}, promised {}.{}".format(start, *said["promised"])
+        return f"{start}, promised {ballot(said['promised'])}"
     if kind == "TxPrepare":
         offer = said["offer"]
         return f"{kind} {said['tx']}: {offer['coord']} asks {offer['part']}, {command(offer['body'])}"
@@ -211,7 +219,7 @@ def words(mail):
         return f"{kind} {said['tx']}: {said['watch']['coord']} asks {said['watch']['part']}"
     if kind == "Told":
         return f"Told order {said['order']}: {phrase(said['result'])}"
-    return f"{start}{slot}{ballot}" + (f" {said['tx']}" if "tx" in said else "")
+    return f"{start}{slot}{tried}" + (f" {said['tx']}" if "tx" in said else "")
 
 
 def order(said):

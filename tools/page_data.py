@@ -9,7 +9,9 @@ import array
 import base64
 import sys
 
+import causes
 import journals
+import page_waits
 
 EVENTS = ["Deliver", "Tick", "Go", "Told", "Crash", "Drop", "Again"]
 DESK = 0
@@ -69,6 +71,7 @@ class Page:
 
     def __init__(self, journal):
         self.journal, self.decided = journal, journal.decided()
+        causes.mark(journal)
         self.texts, self.kinds = Names(""), Names()
         self.groups, self.txs, self.keys = Names(""), Names(""), Names("")
         for name in self.decided.groups:
@@ -160,6 +163,7 @@ class Page:
             "event": column([EVENTS.index(row.event) for row in rows]),
             "of": column(of),
             "sent": column([len(row.sent) for row in rows]),
+            "line": column(page_waits.lines_of_rows(self.journal)),
         }
 
     def mails(self):
@@ -256,7 +260,8 @@ class Page:
         desk = [DESK] if self.orders else []
         return [*desk, *range(1, nodes + 1), *sorted(clients)]
 
-    def all(self, title):
+    def all(self, title, is_tried=False):
+        """All that the page has; where it is wished, lines that free what waits are tried."""
         return {
             "title": title,
             "scenario": self.journal.scenario,
@@ -270,6 +275,7 @@ class Page:
                 [one.number, one.node, one.said, one.row, one.result, one.ended]
                 for one in self.orders
             ],
+            "waits": page_waits.waits_of(self, is_tried),
             "shapes": self.shapes(),
             "rings": self.rings(),
             "ballots": self.ballots(),

@@ -129,6 +129,10 @@ class Cluster:
             return self.client.submit(played_there, *words, pure=False, workers=where)
         except GONE:
             return None
+        except Exception:  # pylint: disable=broad-except # a closed client raises no other one
+            if self.is_closed():
+                return None
+            raise
 
     def refuse(self, address):
         """Leaves out one more worker, that came later or whose program was replaced."""
@@ -160,7 +164,11 @@ class Cluster:
     def is_there(self, alone):
         """Whether somebody may still do something: the client closes itself without a scheduler."""
         is_alone = alone is not None and time.monotonic() - alone >= self.patience
-        return not is_alone and self.client.status not in ("closing", "closed")
+        return not is_alone and not self.is_closed()
+
+    def is_closed(self):
+        """Whether the client has closed itself, as it does where the scheduler is gone for long."""
+        return self.client.status in ("closing", "closed")
 
     def runs(self, plan, numbers):
         """All runs, each as soon as it has ended: the number, and what it came to. Those that were

@@ -1,8 +1,9 @@
 """Surveys by a dask.distributed scheduler and two workers on the loopback, for `survey_test --on`.
 
-Each worker has its own folder, and in it a program `there`, a script that notes each run, waits a
-little, and then runs the program. So two workers on one machine can have different programs, and a
-worker can be ended while it runs one. Only processes that are started here are ended, by their ids.
+Each worker has its own folder, and in it a program `there`, a script that notes each run and then
+runs the program. So two workers on one machine can have different programs. While the file `hold`
+is there, no more runs pass than it says, and each further one waits: so a worker is ended while it
+runs one, however fast the program is. Only processes that are started here are ended, by their ids.
 """
 
 import contextlib
@@ -32,11 +33,21 @@ def wait(what, is_so):
         time.sleep(0.05)
 
 
+NOTING = """#!/bin/sh
+{more}echo "$$" >> ../runs
+if [ -e ../hold ] && [ "$(wc -l < ../runs)" -gt "$(cat ../hold)" ]; then
+    echo "$$" >> ../held
+    while [ -e ../hold ]; do sleep 0.05; done
+fi
+exec {program} "$@"
+"""
+
+
 def note_runs(folder, program, more=""):
     """The program of a worker, which notes its runs in the file `runs` of the folder above."""
     path = os.path.join(folder, "there")
     with open(path, "w", encoding="utf-8") as out:
-        out.write(f'#!/bin/sh\n{more}echo "$$" >> ../runs\nsleep 0.3\nexec {program} "$@"\n')
+        out.write(NOTING.format(program=program, more=more))
     os.chmod(path, 0o755)
     return path
 
@@ -88,28 +99,42 @@ class Machines:
         except (OSError, TimeoutError, distributed.TimeoutError) as fault:
             raise Failed(f"the workers do not come: {fault}") from None
 
-    def noted(self):
-        """How many runs were begun."""
+    def lines(self, name):
+        """How many lines a file of the workers has."""
         try:
-            with open(os.path.join(self.folder, "runs"), encoding="utf-8") as notes:
+            with open(os.path.join(self.folder, name), encoding="utf-8") as notes:
                 return len(notes.readlines())
         except FileNotFoundError:
             return 0
 
-    def forget(self):
-        with contextlib.suppress(FileNotFoundError):
-            os.remove(os.path.join(self.folder, "runs"))
+    def noted(self):
+        """How many runs were begun."""
+        return self.lines("runs")
 
-    def survey(self, *words):
+    def hold(self, runs):
+        """Lets so many runs of the next survey pass, and each further one wait."""
+        with open(os.path.join(self.folder, "hold"), "w", encoding="utf-8") as out:
+            out.write(f"{runs}\n")
+
+    def wait_held(self, count):
+        """Waits until so many workers have a run that waits."""
+        wait("the survey has begun, and waits", lambda: self.lines("held") >= count)
+
+    def forget(self, *names):
+        for name in names:
+            with contextlib.suppress(FileNotFoundError):
+                os.remove(os.path.join(self.folder, name))
+
+    def survey(self, *words, files=SCENARIOS):
         """A survey by the workers, which has begun. Its own program is not that of a worker's
         folder, so it notes nothing, but it has the same bytes."""
-        self.forget()
+        self.forget("runs", "held")
         here = os.path.join(self.folder, "here")
         os.makedirs(os.path.join(here, "in"), exist_ok=True)
         shutil.copy(os.path.join(self.folder, "one", "there"), os.path.join(here, "in"))
         command = [sys.executable, SURVEY, "--ours", "there", "--on", self.address]
         return subprocess.Popen(
-            [*command, "--there", "./there", *words, *SCENARIOS, str(RUNS)],
+            [*command, "--there", "./there", *words, *files, str(RUNS)],
             cwd=os.path.join(here, "in"),
             stdout=subprocess.PIPE,
             stderr=subprocess.PIPE,
@@ -162,10 +187,12 @@ def one_differs(machines, wanted, program):
 
 def one_is_ended(machines, wanted):
     """The runs of a worker that is lost in the middle are tried again."""
+    machines.hold(5)
     process = machines.survey()
-    wait("the survey has begun", lambda: machines.noted() >= 6)
+    machines.wait_held(2)
     machines.workers[0].kill()
     machines.workers[0].wait()
+    machines.forget("hold")
     out, _ = ended(process, 0)
     same("a survey in which a worker is lost", out, wanted)
     same("a run was tried again", machines.noted() > 2 * RUNS, True)
@@ -173,11 +200,13 @@ def one_is_ended(machines, wanted):
 
 def all_are_ended(machines):
     """Without workers it is said what was not run."""
+    machines.hold(4)
     process = machines.survey("--patience", "3")
-    wait("the survey has begun", lambda: machines.noted() >= 5)
+    machines.wait_held(1)
     machines.workers[1].kill()
     machines.workers[1].wait()
     out, _ = ended(process, 1)
+    machines.forget("hold")
     lines = out.split("\n")
     lost = [line for line in lines if line.startswith("not run: ")]
     same("files with lost runs", len(lost), 2)
@@ -198,14 +227,20 @@ def named(line):
 
 
 def scheduler_is_ended(machines):
-    """Without the scheduler it is said what was not run, too."""
-    process = machines.survey("--patience", "3")
-    wait("the survey has begun", lambda: machines.noted() >= 3)
+    """Without the scheduler it is said what was not run, too: of the file that is under way, of one
+    that is begun while the client looks for the scheduler, and of one after it has given up."""
+    machines.hold(2)
+    process = machines.survey("--patience", str(PATIENCE), files=[*SCENARIOS, SCENARIOS[0]])
+    machines.wait_held(2)
     machines.scheduler.kill()
     machines.scheduler.wait()
-    out, _ = ended(process, 1)
+    out, err = ended(process, 1)
+    machines.forget("hold")
     lost = [line for line in out.split("\n") if line.startswith("not run: ")]
-    same("nothing of the second file was run", lost[1:], [f"not run: 1 to {RUNS}"])
+    same("files with lost runs", len(lost), 3)
+    same("the last runs were not run", lost[0].endswith(f" to {RUNS}"), True)
+    same("nothing of the others was run", lost[1:], [f"not run: 1 to {RUNS}"] * 2)
+    same("a fault that was not foreseen", "Traceback" in err, False)
 
 
 def other_machines(program, folder):

@@ -5,7 +5,17 @@ const MOST_STEPS = 300; // lines of a card
 function showNow() {
   const count = `Row ${spelled(state.row)} of ${spelled(ROWS)}`;
   const lines = make("div", { id: "said-now" }, rowLines(state.row));
-  find("now").replaceChildren(make("h2", {}, count), lines);
+  const line = rows.line[state.row];
+  const by = line ? `by line ${line}: ${run.scenario[line - 1].trim()}` : "";
+  find("now").replaceChildren(make("h2", {}, count),
+    make("p", { class: "note", id: "line-now" }, by), lines);
+}
+
+/** What an unanswered request or an open order waits for. */
+function waiting(lines) {
+  if (!lines) return [];
+  return [make("h4", {}, "Waits"),
+    make("ul", { id: "waits" }, lines.map((one) => make("li", {}, one)))];
 }
 
 /** A line of a card: a row, and what happened. */
@@ -117,7 +127,7 @@ function requestCard(request) {
   if (owner) list.push(["kept by", groupLink(owner), " at this row"]);
   const text = run.texts[requests.text[request]];
   return [make("h3", {}, `Request ${requestName(request)}: ${text}`), facts(list),
-    stepsOf(mailsOfRequest(request), entriesOfRequest(request))];
+    waiting(run.waits.requests[request]), stepsOf(mailsOfRequest(request), entriesOfRequest(request))];
 }
 
 /** The places of logs of a transaction as a table, group by group. */
@@ -148,7 +158,7 @@ function orderCard(order) {
   list.push(ended ? ["came to", make("b", {}, result), ", ", rowLink(ended)]
     : ["came to", "nothing yet"]);
   return [make("h3", {}, `Order ${number}: ${text}`), facts(list),
-    stepsOf(mailsOfOrder(order), entriesOfOrder(order))];
+    waiting(run.waits.orders[order]), stepsOf(mailsOfOrder(order), entriesOfOrder(order))];
 }
 
 function groupCard(group) {

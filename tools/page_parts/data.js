@@ -34,7 +34,10 @@ orders.unshift(null);
 const ROWS = rows.who.length - 1;
 const MAILS = mails.from.length - 1;
 const ENTRIES = entries.row.length - 1;
-const REQUESTS = requests.client.length - 1;
+const REQUESTS = requests.client.length - 1; // those that were sent
+const WRITTEN = run.scenario.filter((line, place) => (
+  !(place && line.startsWith("#")) && /^\s*(get|put|del|add|cas)\s/.test(line)
+)).length; // those that the scenario has
 const EVENT = Object.fromEntries(run.events.map((name, place) => [name, place]));
 const CLIENT = 32; // actors above are clients
 const RING = 2 ** 32;

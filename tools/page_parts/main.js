@@ -308,7 +308,7 @@ function start() {
   find("title").textContent = run.title;
   find("count").textContent = spelled(ROWS);
   find("slider").max = String(Math.max(1, ROWS));
-  find("said").textContent = `${spelled(MAILS)} mails, ${spelled(REQUESTS)} requests, `
+  find("said").textContent = `${spelled(MAILS)} mails, ${spelled(REQUESTS)} of ${spelled(WRITTEN)} requests sent, `
     + `${spelled(ENTRIES)} places of logs decided`;
   fillFilters();
   showFilters();

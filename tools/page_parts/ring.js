@@ -159,7 +159,7 @@ function groupRow(lo, group) {
     make("td", {}, make("i", { class: `chip look${group % COLOURS}` }), groupLink(group)),
     make("td", { class: "figure" }, lo === null ? "" : String(lo)),
     make("td", {}, nodes),
-    make("td", {}, ballot ? `${ballot.round}.${ballot.node}` : "none"),
+    make("td", {}, ballot ? `${ballot.round} of n${ballot.node}` : "none"),
     make("td", { class: "figure" }, String(logAt(group, state.row))),
     make("td", { class: shape?.role ? "locked" : "" },
       shape?.role ? [`${shape.role} `, txLink(shape.tx)] : lockText(shape)));

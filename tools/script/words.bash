@@ -171,6 +171,7 @@ help_page() {
     done
     wrapped '  ./scatter --version' 29 'prints which version this is, and whether it is built'
     wrapped '' 0 'Other words are answered by the usage line and status 2.'
+    wrapped '' 0 'In place of < FILE its name alone may stand there. What is refused is explained on standard error.'
     echo
     wrapped '' 0 "Until it is built, a run is of the same code unproved, and says so on standard error:
         the first compiles it in one to three minutes, and it is kept. The first report to look at is
@@ -200,7 +201,7 @@ help_word() {
         [ "$range" = "$argument" ] ||
             wrapped '' 2 "$(name_of "$argument") is a number from ${range%%..*} to ${range##*..}"
     done
-    [ "${input["$1"]}" = - ] || wrapped '' 2 "FILE has at most ${input["$1"]} bytes"
+    [ "${input["$1"]}" = - ] || wrapped '' 2 "FILE has at most ${input["$1"]} bytes; it may stand there without <"
     if [ "${by["$1"]}" = program ]; then
         wrapped '' 2 "until the program is built, the same code runs unproved, compiled once in one to three minutes"
     fi

@@ -5,8 +5,7 @@ use Rattle.std.proofs.lemmas.List.Sums.{sum_by-append, sum_by-cons}
 use Rattle.sc_actor.specs.declared.rows.Row.{Row}
 use Rattle.sc_actor.specs.declared.rows.Event.{Event}
 use Rattle.sc_actor.specs.declared.rows.Event.TheVariants.{Deliver, Drop, Again, Go, Tick, Crash, Told}
-use Rattle.sc_actor.specs.Mail.{mails, copies, counts_at, counts_after}
-use Rattle.sc_actor.specs.Counted.{mail_bytes, row_bytes, journal_bytes}
+use Rattle.sc_actor.specs.Definitions.{mails, copies, counts_at, counts_after, mail_bytes, row_bytes, journal_bytes}
 
 abbrev UpTo : ℕ → ℕ → Type 0
 UpTo n count = count ≤ n

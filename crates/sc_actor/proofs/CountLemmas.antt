@@ -4,7 +4,7 @@ use Rattle.std.proofs.Math.ListN.{length-set, length-replicate}
 use Rattle.sc_actor.specs.declared.rows.Row.{Row}
 use Rattle.sc_actor.specs.declared.rows.Event.{Event}
 use Rattle.sc_actor.specs.declared.rows.Event.TheVariants.{Deliver, Drop, Again, Go, Tick, Crash, Told}
-use Rattle.sc_actor.specs.Mail.{mails, copies, counts_at, counts_after}
+use Rattle.sc_actor.specs.Definitions.{mails, copies, counts_at, counts_after}
 
 -- an event changes no number of counts
 pub length-counts_at : {O : Type 0} (counts : List ℕ) (event : Event O) → length (counts_at counts event) ≡ length counts

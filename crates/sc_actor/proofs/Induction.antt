@@ -4,21 +4,18 @@ use Rattle.std.specs.Prelude.{slice_get}
 use Rattle.std.specs.List.{flat_map}
 use Rattle.std.proofs.lemmas.Bool.{eqb-true}
 use Rattle.std.proofs.lemmas.Option.{same_Some, cond_some}
-use Rattle.sc_base.proofs.CommonLemmas.{and_then-some, map-some}
+use Rattle.sc_base.proofs.Lemmas.{and_then-some, map-some}
 use Rattle.sc_actor.specs.declared.rows.Row.{Row}
 use Rattle.sc_actor.specs.declared.actors.Seat.{Seat}
 use Rattle.sc_actor.specs.declared.rows.Event.{Event}
 use Rattle.sc_actor.specs.declared.rows.Event.TheVariants.{Deliver, Drop, Again, Go, Tick, Crash, Told}
 use Rattle.sc_actor.specs.declared.schedules.Line.{Line}
 use Rattle.sc_actor.specs.declared.schedules.Line.TheVariants.{Go as GoLine, Deliver as DeliverLine, Drop as DropLine, Again as AgainLine, Tick as TickLine, Crash as CrashLine, Told as ToldLine, Settle, Free, Storm}
-use Rattle.sc_actor.specs.Mail.{mails, numbered, may_get, has_crashed}
-use Rattle.sc_actor.specs.System.{System, acts, row_of, network, waiting, kth, numbers_of, has_gone}
-use Rattle.sc_actor.specs.Steps.{IsUnderWay, IsOpen, IsLoose, IsStep}
-use Rattle.sc_actor.specs.Walk.{Task, Once, Settles, Frees, Storms, WalkPlace, Allows, MayAdd, IsWalk, IsLawful, after_row, start, rest_of_all, tasks_of, delivery, repeat_of, picked, storm_row}
+use Rattle.sc_actor.specs.Definitions.{mails, numbered, may_get, has_crashed, System, acts, row_of, network, waiting, kth, numbers_of, has_gone, IsUnderWay, IsOpen, IsLoose, IsStep, Task, Once, Settles, Frees, Storms, WalkPlace, Allows, MayAdd, IsWalk, IsLawful, after_row, start, rest_of_all, tasks_of, delivery, repeat_of, picked, storm_row}
 use Rattle.sc_actor.proofs.PendingLemmas.{waiting_one, waiting_any, waiting_at}
 use Rattle.sc_actor.proofs.WalkLemmas.{onward-rows}
 
-unless-some : {Y : Type 0} (b : Bool) (o : Option Y) (y : Y) → cond b None o ≡ Some y → (b ≡ false) × (o ≡ Some y)
+pub unless-some : {Y : Type 0} (b : Bool) (o : Option Y) (y : Y) → cond b None o ≡ Some y → (b ≡ false) × (o ≡ Some y)
 unless-some true o y e = cc
 unless-some false o y e = (refl, e)
 

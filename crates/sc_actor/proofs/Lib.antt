@@ -6,3 +6,4 @@ pub mod CountLemmas
 pub mod BoundLemmas
 pub mod Numbers
 pub mod TaskLemmas
+pub mod Lemmas

@@ -1,8 +1,7 @@
 -- The k-th of the pending numbers, mail by mail.
 use Rattle.std.proofs.Common.{◌≡◌, ℕ, zero, suc, ◌+◌, ◌-◌, ◌<◌, ◌≤◌, List, [], ◌∷◌, ◌++◌, length, Bool, true, false, cond, drop, replicate, get_or, min, map, refl, ap, arith, None, Some, add-one, ◌||◌}
 use Rattle.std.specs.List.{list_any}
-use Rattle.sc_actor.specs.Mail.{numbers}
-use Rattle.sc_actor.specs.System.{kth}
+use Rattle.sc_actor.specs.Definitions.{numbers, kth}
 
 -- within the copies of one mail
 pub kth-here : (count number k : ℕ) (xs : List ℕ) → 0 < k → k ≤ count → kth (replicate count number ++ xs) k ≡ Some number

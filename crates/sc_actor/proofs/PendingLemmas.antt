@@ -3,10 +3,7 @@ use Rattle.std.proofs.Common.{◌≡◌, ℕ, zero, suc, ◌+◌, ◌-◌, ◌<�
 use Rattle.std.specs.Prelude.{slice_get, is_none}
 use Rattle.std.proofs.lemmas.Bool.{eqb-true, and_parts, false≢true}
 use Rattle.sc_actor.specs.declared.rows.Row.{Row}
-use Rattle.sc_actor.specs.Mail.{mails, copies, numbers, numbered, may_get, is_for}
-use Rattle.sc_actor.specs.System.{System, waiting, kth, numbers_of}
-use Rattle.sc_actor.specs.Steps.{IsUnderWay}
-use Rattle.sc_actor.specs.Walk.{is_quiet}
+use Rattle.sc_actor.specs.Definitions.{mails, copies, numbers, numbered, may_get, is_for, System, waiting, kth, numbers_of, IsUnderWay, is_quiet}
 
 -- A number that is pending is that of a mail that passes the test, and it has a copy.
 pub record Pending {M : Type 0} (test : M → Bool) (first : ℕ) (sent : List M) (counts : List ℕ) (number : ℕ) : Type 0 where

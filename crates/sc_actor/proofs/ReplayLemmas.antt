@@ -3,8 +3,7 @@ use Rattle.std.proofs.Common.{◌≡◌, ℕ, List, [], ◌∷◌, ◌++◌, con
 use Rattle.std.proofs.lemmas.List.Sums.{fold-append}
 use Rattle.sc_actor.specs.declared.rows.Row.{Row}
 use Rattle.sc_actor.specs.declared.actors.Seat.{Seat}
-use Rattle.sc_actor.specs.Mail.{mails, copies, counts_after}
-use Rattle.sc_actor.specs.Replay.{Table, input_of, acted, replay, value}
+use Rattle.sc_actor.specs.Definitions.{mails, copies, counts_after, Table, input_of, acted, replay, value}
 
 module _ {M O : Type 0} where
   -- the mail of more rows comes behind

@@ -3,7 +3,7 @@ use Rattle.std.proofs.Common.{◌≡◌, ℕ, suc, ◌+◌, ◌-◌, ◌<◌, Li
 use Rattle.std.specs.List.{flat_map}
 use Rattle.sc_actor.specs.declared.schedules.Line.{Line}
 use Rattle.sc_actor.specs.declared.schedules.Line.TheVariants.{Go as GoLine, Deliver as DeliverLine, Drop as DropLine, Again as AgainLine, Tick as TickLine, Crash as CrashLine, Told as ToldLine, Settle, Free, Storm}
-use Rattle.sc_actor.specs.Walk.{Task, Once, Storms, tasks_of, storm_steps}
+use Rattle.sc_actor.specs.Definitions.{Task, Once, Storms, tasks_of, storm_steps}
 
 -- the tasks from a line on begin with the line's own
 pub split : {O : Type 0} (words : ℕ → ℕ → ℕ × ℕ) (lines : List (Line O)) (i : ℕ) (line : Line O) → i < length lines → line ≡ get_or lines i line → flat_map (tasks_of words) (drop i lines) ≡ tasks_of words line ++ flat_map (tasks_of words) (drop (i + 1) lines)

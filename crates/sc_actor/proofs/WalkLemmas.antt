@@ -5,8 +5,7 @@ use Rattle.std.proofs.lemmas.Bool.{cond_both}
 use Rattle.std.proofs.lemmas.List.Sums.{fold-append}
 use Rattle.sc_actor.specs.declared.rows.Row.{Row}
 use Rattle.sc_actor.specs.declared.schedules.Line.{Line}
-use Rattle.sc_actor.specs.System.{System}
-use Rattle.sc_actor.specs.Walk.{Task, WalkPlace, Allows, MayAdd, IsWalk, IsLawful, IsWhole, IsNext, is_over, skips, cuts, rest_of_task, rest_of_all, onward, start, tasks_of, after_row, place_after, skipped, unsettled}
+use Rattle.sc_actor.specs.Definitions.{System, Task, WalkPlace, Allows, MayAdd, IsWalk, IsLawful, IsWhole, IsNext, is_over, skips, cuts, rest_of_task, rest_of_all, onward, start, tasks_of, after_row, place_after, skipped, unsettled}
 
 module _ {A M O : Type 0} (s : System A M O) where
   -- a walk goes on by a row that it may add

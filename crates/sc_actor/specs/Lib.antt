@@ -4,3 +4,4 @@ pub mod Counted
 pub mod System
 pub mod Walk
 pub mod Steps
+pub mod Definitions

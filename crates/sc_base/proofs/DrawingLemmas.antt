@@ -1,6 +1,6 @@
 -- No name is drawn twice.
 use Rattle.std.proofs.Common.{◌≡◌, ℕ, zero, suc, ◌+◌, arith, ap}
-use Rattle.sc_base.specs.Drawing.{Drawer, drawn_by, Apart}
+use Rattle.sc_base.specs.Definitions.{Drawer, drawn_by, Apart}
 
 -- n draws add n to the count
 count_after : (n : ℕ) (drawer : Drawer) → (drawn_by n drawer).next ≡ drawer.next + n

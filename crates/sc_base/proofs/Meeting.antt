@@ -3,12 +3,10 @@ use Rattle.std.proofs.Common.{◌≡◌, ℕ, ◌+◌, ◌<◌, ◌≤◌, Bool,
 use Rattle.std.proofs.lemmas.Bool.{cases_Bool, cond-false, cond_both, or_left, or_right, eq-eqb}
 use Rattle.std.proofs.lemmas.List.Sums.{sum_by-cons, sum_by-append}
 use Rattle.std.proofs.lemmas.List.{length-append}
-use Rattle.sc_base.specs.Roster.{is_member, with_member}
-use Rattle.sc_base.specs.Majority.{IsMajority}
-use Rattle.sc_base.specs.MajorityLaws.{SharesMember}
+use Rattle.sc_base.specs.Definitions.{is_member, with_member, IsMajority, SharesMember}
 use Rattle.sc_base.proofs.SetLemmas.{split_le, split_length}
 
-at_most_one : (b : Bool) → cond b 1 0 ≤ 1
+pub at_most_one : (b : Bool) → cond b 1 0 ≤ 1
 at_most_one b = cond_both b 1 0 (λ n. n ≤ 1) (λ e. omega arith) (λ e. omega arith)
 
 -- an element of the list that passes both tests

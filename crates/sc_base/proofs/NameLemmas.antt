@@ -3,7 +3,7 @@ use Rattle.std.proofs.Common.{◌≡◌, ℕ, true, eqb, refl, ◌∙◌, ap}
 use Rattle.std.proofs.lemmas.Bool.{eqb-true, eq-eqb, and_from, and_parts}
 use Rattle.sc_base.specs.declared.names.Ballot.{Ballot}
 use Rattle.sc_base.specs.declared.names.Draw.{Draw}
-use Rattle.sc_base.specs.Same.{same_draw, same_ballot}
+use Rattle.sc_base.specs.Definitions.{same_draw, same_ballot}
 
 -- ballots with the same parts are the same
 pub ballots_equal : (r n s m : ℕ) → r ≡ s → n ≡ m → (let a : Ballot = record { round = r; node = n } in a) ≡ record { round = s; node = m }

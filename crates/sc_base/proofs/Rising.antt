@@ -6,7 +6,7 @@ use Rattle.std.proofs.lemmas.Bool.{cases_Bool, cond-true, cond-false, ltb-true, 
 use Rattle.std.proofs.lemmas.List.Kept.{AllPairs-cons, AllPairs-filter, AllPairs-from_increasing, IsStrictlyIncreasing-filter}
 use Rattle.std.proofs.lemmas.List.Elements.{All-cons, All-tail, All-head, All-append, All-weaker, filter_passes}
 use Rattle.std.proofs.lemmas.List.{length-append}
-use Rattle.sc_base.specs.Roster.{IsRoster, is_member, with_member, without_member}
+use Rattle.sc_base.specs.Definitions.{IsRoster, is_member, with_member, without_member}
 use Rattle.sc_base.proofs.SetLemmas.{split_length, length-filter-le}
 use Rattle.sc_base.proofs.Pairs.{AllPairs-head, AllPairs-tail}
 

@@ -6,9 +6,7 @@ use Rattle.std.proofs.lemmas.Bool.{cases_Bool, cond-true, cond-false, cases_orde
 use Rattle.std.proofs.lemmas.List.Folds.{list_any-append}
 use Rattle.std.proofs.lemmas.List.Elements.{All-tail, All-head}
 use Rattle.std.proofs.lemmas.List.Kept.{AllPairs-from_increasing}
-use Rattle.sc_base.specs.Roster.{is_member, with_member}
-use Rattle.sc_base.specs.Faults.{add_fault}
-use Rattle.sc_base.specs.Union.{with_any, united}
+use Rattle.sc_base.specs.Definitions.{is_member, with_member, add_fault, with_any, united}
 use Rattle.sc_base.proofs.Meeting.{length_with}
 use Rattle.sc_base.proofs.Rising.{Below}
 use Rattle.sc_base.proofs.Pairs.{AllPairs-head, AllPairs-tail}

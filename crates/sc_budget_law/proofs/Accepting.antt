@@ -3,40 +3,15 @@ use Rattle.std.proofs.Common.{◌≡◌, ℕ, ◌+◌, ◌-◌, ◌≤◌, ◌&&
 use Rattle.std.specs.Prelude.{nat_le, nat_lt}
 use Rattle.std.specs.Option.{option_map}
 use Rattle.std.proofs.lemmas.Bool.{cond_both, cond-true, cond-false, eq-eqb, lt-leb, le-ltb, and_left, and_from, and_parts}
-use Rattle.sc_base.specs.declared.names.Ballot.{Ballot}
-use Rattle.sc_base.specs.declared.names.Draw.{Draw}
-use Rattle.sc_base.specs.declared.ops.Op.{Op}
-use Rattle.sc_cmd.specs.declared.commands.Command.{Command}
-use Rattle.sc_cmd.specs.declared.commands.Command.TheVariants.{Call}
-use Rattle.sc_cmd.specs.declared.cores.Core.{Core}
-use Rattle.sc_mail.specs.declared.bodies.Mail.{Mail}
-use Rattle.sc_mail.specs.declared.bodies.MailBody.TheVariants.{Accepted}
-use Rattle.sc_base.specs.Majority.{is_majority}
-use Rattle.sc_base.specs.Roster.{is_member}
-use Rattle.sc_paxos_words.specs.declared.answers.AcceptAnswer.{AcceptAnswer}
+use Rattle.sc_node_table.specs.Values.{Ballot, Draw, Op, Command, Call, Core, Mail, Accepted, AcceptAnswer, Flight, Report}
+use Rattle.sc_base.specs.Definitions.{is_majority, is_member}
 use Rattle.sc_paxos_words.specs.declared.answers.AcceptAnswer.TheVariants as Asked
-use Rattle.sc_paxos_words.specs.declared.flights.Flight.{Flight}
-use Rattle.sc_paxos_words.specs.declared.reports.Report.{Report}
-use Rattle.sc_paxos_words.specs.Accepting.{accepted as accepted_by}
-use Rattle.sc_paxos_words.specs.Acceptors.{AcceptorState, may_accept, after_accept}
-use Rattle.sc_paxos_words.specs.Ballots.{below, IsAtLeast}
-use Rattle.sc_paxos_words.specs.Leaders.{flight_at, without_flight}
-use Rattle.sc_paxos_words.proofs.BallotLemmas.{at_least_itself}
-use Rattle.sc_machine_table.specs.Machine.{applied}
-use Rattle.sc_node_table.specs.Election.{stopped, saw}
-use Rattle.sc_node_table.specs.Execute.{entered, is_among, executed_one, executed_ready, all_ready, executed}
-use Rattle.sc_node_table.specs.Install.{install_to}
-use Rattle.sc_node_table.specs.Pump.{pumped_from, pumped}
-use Rattle.sc_node_table.specs.Replica.{ReplicaState, Place, Executed, childless, name_of, next, members, settled, flying, forgotten, last_slot}
-use Rattle.sc_node_table.specs.Rows.{learn_row}
-use Rattle.sc_node_table.specs.Slots.{without_slot}
-use Rattle.sc_node_table.specs.Voting.{hinted, accepted_to, took, accept_row}
-use Rattle.sc_law_lemmas.proofs.Places.{cleared}
-use Rattle.sc_budget_law.specs.Frames.{Frame, IsFrame}
-use Rattle.sc_budget_law.specs.Owed.{replica_owes}
-use Rattle.sc_budget_law.specs.PlainMail.{Requests, IsPlainCall}
-use Rattle.sc_budget_law.specs.PlainNode.{AreTaken, IsPlainLeader, IsPlainFollower, IsPlainVoter, IsPlainReplica, HasOffered}
-use Rattle.sc_law_lemmas.proofs.Entries.{entered_next}
+use Rattle.sc_paxos_words.specs.Definitions.{accepted as accepted_by, AcceptorState, may_accept, after_accept, below, IsAtLeast, flight_at, without_flight}
+use Rattle.sc_paxos_words.proofs.Lemmas.{at_least_itself}
+use Rattle.sc_machine_table.specs.Definitions.{applied}
+use Rattle.sc_node_table.specs.Definitions.{stopped, saw, entered, is_among, executed_one, executed_ready, all_ready, executed, install_to, pumped_from, pumped, ReplicaState, Place, Executed, childless, name_of, next, members, settled, flying, forgotten, last_slot, learn_row, without_slot, hinted, accepted_to, took, accept_row}
+use Rattle.sc_law_lemmas.proofs.Lemmas.{cleared, entered_next}
+use Rattle.sc_budget_law.specs.Definitions.{Frame, IsFrame, replica_owes, Requests, IsPlainCall, AreTaken, IsPlainLeader, IsPlainFollower, IsPlainVoter, IsPlainReplica, HasOffered}
 use Rattle.sc_budget_law.proofs.Entry.{entered_plain, learnt_call}
 use Rattle.sc_budget_law.proofs.Leading.{IsHeld}
 use Rattle.sc_budget_law.proofs.Sends.{mail_of}

@@ -3,27 +3,13 @@ use Rattle.std.proofs.Common.{◌≡◌, ℕ, suc, ◌+◌, ◌-◌, ◌≤◌, 
 use Rattle.std.specs.Prelude.{nat_le}
 use Rattle.std.proofs.lemmas.Bool.{cond_both, cond-true, cond-false, eqb-true, leb-true, leb-false, cases_Bool, and_from, and_right}
 use Rattle.std.proofs.lemmas.List.{length_push}
-use Rattle.sc_base.specs.Among.{Among, Each}
-use Rattle.sc_base.specs.Limits.{client_actor}
-use Rattle.sc_base.specs.declared.ops.Op.{Op}
-use Rattle.sc_ideal.specs.IdealStore.{key_of, holds_key}
-use Rattle.sc_cmd.specs.declared.commands.Command.{Command}
-use Rattle.sc_cmd.specs.declared.commands.Command.TheVariants.{Call}
-use Rattle.sc_cmd.specs.declared.cores.Core.{Core}
-use Rattle.sc_cmd.specs.declared.links.Route.{Route}
-use Rattle.sc_mail.specs.declared.bodies.AnswerBody.{AnswerBody}
+use Rattle.sc_base.specs.Definitions.{Among, Each, client_actor}
+use Rattle.sc_node_table.specs.Values.{Op, Command, Call, Core, Route, AnswerBody, Answer}
+use Rattle.sc_ideal.specs.Definitions.{key_of, holds_key}
 use Rattle.sc_mail.specs.declared.bodies.AnswerBody.TheVariants as Says
-use Rattle.sc_mail.specs.declared.bodies.MailBody.TheVariants.{Answer}
-use Rattle.sc_paxos_words.proofs.ListLemmas.{Each-push}
-use Rattle.sc_node_table.specs.Pump.{serves_calls, pumped}
-use Rattle.sc_node_table.specs.Queues.{call_of, is_call_of, without_call}
-use Rattle.sc_node_table.specs.Replica.{ReplicaState, Place, next, last_slot}
-use Rattle.sc_node_table.specs.Rows.{call_refusal, queued, requested, request_row}
-use Rattle.sc_node_table.specs.Slots.{numbers_from}
-use Rattle.sc_budget_law.specs.Frames.{Frame, IsFrame}
-use Rattle.sc_budget_law.specs.Owed.{replica_owes}
-use Rattle.sc_budget_law.specs.PlainMail.{Requests, IsPlainCommand, IsPlainCall}
-use Rattle.sc_budget_law.specs.PlainNode.{IsPlainLeader, IsPlainReplica, HasOffered}
+use Rattle.sc_paxos_words.proofs.Lemmas.{Each-push}
+use Rattle.sc_node_table.specs.Definitions.{serves_calls, pumped, call_of, is_call_of, without_call, ReplicaState, Place, next, last_slot, call_refusal, queued, requested, request_row, numbers_from}
+use Rattle.sc_budget_law.specs.Definitions.{Frame, IsFrame, replica_owes, Requests, IsPlainCommand, IsPlainCall, IsPlainLeader, IsPlainReplica, HasOffered}
 use Rattle.sc_budget_law.proofs.Leading.{early_taken, IsHeld, Leads}
 use Rattle.sc_budget_law.proofs.Executing.{IsRun, pumped_run}
 use Rattle.sc_budget_law.proofs.Sends.{mail_of, among_push, last_among}

@@ -1,46 +1,26 @@
 -- From a quiet journal on clients may ask.
 use Rattle.std.proofs.Common.{◌≡◌, ℕ, ◌+◌, ◌≤◌, Bool, true, false, List, [], ◌∷◌, map, Option, Some, None, inl, inr, refl, sym, ◌∙◌, ap, subst, arith}
 use Rattle.std.proofs.lemmas.Bool.{cases_Bool, both_ways}
-use Rattle.sc_base.specs.Among.{Among, Each}
-use Rattle.sc_base.specs.Limits.{client_actor}
-use Rattle.sc_base.specs.declared.names.Draw.{Draw}
-use Rattle.sc_cmd.specs.declared.cores.Base.{Base}
-use Rattle.sc_cmd.specs.declared.links.Route.{Route}
-use Rattle.sc_lookup.specs.Ways.{new_way}
-use Rattle.sc_mail.specs.declared.bodies.Mail.{Mail}
-use Rattle.sc_mail.specs.declared.roles.Role.TheVariants.{Node}
-use Rattle.sc_base.specs.Roster.{is_member}
-use Rattle.sc_client_table.specs.Client.{Client as ClientState}
-use Rattle.sc_node_table.specs.Node.{NodeState, replica_of}
-use Rattle.sc_node_table.specs.Replica.{ReplicaState, name_of}
-use Rattle.sc_paxos_words.proofs.ListLemmas.{Each-among}
+use Rattle.sc_base.specs.Definitions.{Among, Each, client_actor, is_member}
+use Rattle.sc_node_table.specs.Values.{Draw, Base, Route, Mail, Node}
+use Rattle.sc_lookup.specs.Definitions.{new_way}
+use Rattle.sc_client_table.specs.Definitions.{Client as ClientState}
+use Rattle.sc_node_table.specs.Definitions.{NodeState, replica_of, ReplicaState, name_of}
+use Rattle.sc_paxos_words.proofs.Lemmas.{Each-among}
 use Rattle.sc_scenario.specs.declared.scenarios.Asks.{Asks}
 use Rattle.sc_scenario.specs.declared.scenarios.Scenario.{Scenario}
-use Rattle.sc_scenario.specs.Valid.{ValidScenariosAreBounded}
-use Rattle.sc_sound.specs.Players.{player_table, node_seat, route_of, system_of, as_nodes}
-use Rattle.sc_orderly_law.specs.Orderly.{rest, is_born}
-use Rattle.sc_actor.specs.Replay.{value}
-use Rattle.sc_actor.specs.System.{has_gone}
-use Rattle.sc_calm_law.specs.Owed.{Ways}
-use Rattle.sc_calm_law.specs.Quiet.{View as Replicas, StandsQuiet, IsAnswered}
-use Rattle.sc_budget_law.specs.Asking.{IsAskingNode, IsAskingClient, IsAsking}
-use Rattle.sc_budget_law.specs.AskingLines.{NobodyWaits}
-use Rattle.sc_budget_law.specs.AskingQuiet.{replicas_after, setting_at, AreFramesOf, DoHintsRise, IsQuietJournal, QuietJournalsAsk}
-use Rattle.sc_budget_law.specs.AtRest.{frame_at_rest, StandsPlain}
-use Rattle.sc_budget_law.specs.Between.{Mark, Asks as AsksFor, Votes, Tells, Other, mark, AreInOrder, IsBelow, View, told, IsBetween}
-use Rattle.sc_budget_law.specs.BetweenJournal.{replica_at, next_in, voters_in, votes_in, view_at, marks_at, IsGroupAt}
-use Rattle.sc_budget_law.specs.BetweenRows.{IsOther}
-use Rattle.sc_budget_law.specs.CalmAsking.{CanBeAsked, IsCalmClient}
-use Rattle.sc_budget_law.specs.CalmNode.{Setting, IsHome, IsSetting, KnowsBetter, IsCalmNode, IsCalmMail}
-use Rattle.sc_budget_law.specs.Frames.{Frame, IsFrame}
-use Rattle.sc_budget_law.specs.PlainClient.{IsBegun}
-use Rattle.sc_budget_law.specs.PlainMail.{Requests}
-use Rattle.sc_budget_law.specs.PlainNode.{IsPlainAt}
+use Rattle.sc_scenario.specs.Definitions.{ValidScenariosAreBounded}
+use Rattle.sc_sound.specs.Definitions.{player_table, node_seat, route_of, system_of, as_nodes}
+use Rattle.sc_orderly_law.specs.Definitions.{rest, is_born}
+use Rattle.sc_actor.specs.Definitions.{value, has_gone}
+use Rattle.sc_calm_law.specs.Definitions.{Ways, View as Replicas, StandsQuiet, IsAnswered}
+use Rattle.sc_budget_law.specs.Definitions.{IsAskingNode, IsAskingClient, IsAsking, NobodyWaits, replicas_after, setting_at, AreFramesOf, DoHintsRise, IsQuietJournal, QuietJournalsAsk, frame_at_rest, StandsPlain, Mark, Asks as AsksFor, Votes, Tells, Other, mark, AreInOrder, IsBelow, View, IsBetween, replica_at, next_in, voters_in, votes_in, view_at, marks_at, IsGroupAt, IsOther, CanBeAsked, IsCalmClient, Setting, IsHome, IsSetting, KnowsBetter, IsCalmNode, IsCalmMail, Frame, IsFrame, IsBegun, Requests, IsPlainAt}
 use Rattle.sc_budget_law.proofs.BetweenStage.{IsStage, stage}
 use Rattle.sc_budget_law.proofs.BetweenSteps.{node_number}
 use Rattle.sc_budget_law.proofs.BetweenViews.{Journal, replica_is}
 use Rattle.sc_budget_law.proofs.QuietTurns.{client_is}
 use Rattle.sc_budget_law.proofs.RestingFrames.{quiet_stand_plain}
+use Rattle.sc_budget_law.proofs.BetweenLists.{told-other as other_told}
 
 -- ---- mail that is nothing to a group
 
@@ -59,13 +39,6 @@ other_order low (Tells slot ∷ marks) e = (let bad : Tells slot ≡ Other = e.0
 other_below : (bound : ℕ) (marks : List Mark) → Each IsOther marks → Each (IsBelow bound) marks
 other_below bound [] e = tt
 other_below bound (m ∷ marks) e = (subst (IsBelow bound) (sym e.0) tt, other_below bound marks e.1)
-
-other_told : (marks : List Mark) → Each IsOther marks → told marks ≡ []
-other_told [] e = refl
-other_told (Other ∷ marks) e = other_told marks e.1
-other_told (AsksFor slot ∷ marks) e = (let bad : AsksFor slot ≡ Other = e.0 in cc)
-other_told (Votes node slot ∷ marks) e = (let bad : Votes node slot ≡ Other = e.0 in cc)
-other_told (Tells slot ∷ marks) e = (let bad : Tells slot ≡ Other = e.0 in cc)
 
 -- beside such mail stands what stands where none is under way
 between_others : (frame : Frame) (view : View) (marks : ℕ → List Mark) → ((node : ℕ) → Each IsOther (marks node)) → IsBetween frame view (λ node. [])

@@ -1,37 +1,19 @@
 -- Lines of requests are answered: where no mail is left, no request waits.
 use Rattle.std.proofs.Common.{◌≡◌, ℕ, ◌+◌, ◌≤◌, true, List, [], ◌∷◌, ◌++◌, length, map, Some, None, inl, inr, refl, sym, ◌∙◌, ap, subst, arith, append_assoc, append-nil}
 use Rattle.std.proofs.lemmas.Bool.{both_ways}
-use Rattle.sc_base.specs.Among.{Among}
-use Rattle.sc_base.specs.Limits.{client_actor}
-use Rattle.sc_cmd.specs.declared.cores.Base.{Base}
-use Rattle.sc_cmd.specs.declared.orders.OrderLine.{OrderLine}
-use Rattle.sc_mail.specs.declared.bodies.Mail.{Mail}
-use Rattle.sc_mail.specs.declared.bodies.MailBody.TheVariants.{Answer}
-use Rattle.sc_mail.specs.declared.roles.Role.TheVariants.{Node, Client}
-use Rattle.sc_base.specs.Roster.{is_member}
-use Rattle.sc_actor.specs.declared.actors.Seat.{Seat}
-use Rattle.sc_actor.specs.Replay.{value}
-use Rattle.sc_actor.specs.System.{System, has_gone}
-use Rattle.sc_client_table.specs.Client.{Client as ClientState}
-use Rattle.sc_node_table.specs.Node.{replica_of}
-use Rattle.sc_node_table.specs.Replica.{ReplicaState}
-use Rattle.sc_node_table.specs.Slots.{numbers_from, slots_ahead}
+use Rattle.sc_base.specs.Definitions.{Among, client_actor, is_member}
+use Rattle.sc_node_table.specs.Values.{Base, OrderLine, Mail, Answer, Node, Client, Seat}
+use Rattle.sc_actor.specs.Definitions.{value, System, has_gone}
+use Rattle.sc_client_table.specs.Definitions.{Client as ClientState}
+use Rattle.sc_node_table.specs.Definitions.{replica_of, ReplicaState, numbers_from, slots_ahead}
 use Rattle.sc_scenario.specs.declared.scenarios.Asks.{Asks}
 use Rattle.sc_scenario.specs.declared.scenarios.Scenario.{Scenario}
-use Rattle.sc_scenario.specs.Valid.{ValidScenariosAreBounded}
-use Rattle.sc_sound.specs.Players.{Player, player_table, node_seat, client_seat, route_of, births, system_of, as_nodes}
-use Rattle.sc_orderly_law.specs.Orderly.{rest, is_born}
-use Rattle.sc_orderly_law.proofs.Resting.{is_born-from}
-use Rattle.sc_orderly_law.proofs.Seats.{seat_found}
-use Rattle.sc_paxos_law.proofs.Among.{Among-right}
-use Rattle.sc_budget_law.specs.Asking.{IsAsking}
-use Rattle.sc_budget_law.specs.AskingLines.{AreRequests, NobodyWaits, AreSeated, HaveAllReplies, LinesAreAnswered}
-use Rattle.sc_budget_law.specs.Between.{Asks as AsksFor, Votes, mark, IsVoting}
-use Rattle.sc_budget_law.specs.BetweenJournal.{replica_at, votes_in, marks_at}
-use Rattle.sc_budget_law.specs.CalmAsking.{IsLinkedSetting, IsCalmClient}
-use Rattle.sc_budget_law.specs.CalmNode.{Setting, IsSetting}
-use Rattle.sc_budget_law.specs.Frames.{Frame}
-use Rattle.sc_budget_law.specs.PlainClient.{IsBegun, IsWaiting}
+use Rattle.sc_scenario.specs.Definitions.{ValidScenariosAreBounded}
+use Rattle.sc_sound.specs.Definitions.{Player, player_table, node_seat, client_seat, route_of, births, system_of, as_nodes}
+use Rattle.sc_orderly_law.specs.Definitions.{rest, is_born}
+use Rattle.sc_orderly_law.proofs.Lemmas.{is_born-from, seat_found}
+use Rattle.sc_paxos_law.proofs.Lemmas.{Among-right}
+use Rattle.sc_budget_law.specs.Definitions.{IsAsking, AreRequests, NobodyWaits, AreSeated, HaveAllReplies, LinesAreAnswered, Asks as AsksFor, Votes, mark, IsVoting, replica_at, votes_in, marks_at, IsLinkedSetting, IsCalmClient, Setting, IsSetting, Frame, IsBegun, IsWaiting}
 use Rattle.sc_budget_law.proofs.AskingClients.{asking_row}
 use Rattle.sc_budget_law.proofs.AskingSought.{AreSought, sought_row}
 use Rattle.sc_budget_law.proofs.BetweenStage.{IsStage, stage}

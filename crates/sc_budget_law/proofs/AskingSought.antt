@@ -1,44 +1,21 @@
 -- Between two orders each request that waits is on its way, or its answer is, or its call is at the leader that was asked.
 use Rattle.std.proofs.Common.{◌≡◌, ℕ, ◌≤◌, eqb, true, false, List, [], ◌∷◌, ◌++◌, drop, find, Option, Some, None, ◌⊎◌, inl, inr, refl, sym, ◌∙◌, ap, subst, arith}
 use Rattle.std.proofs.lemmas.Bool.{cases_eq, cases_Bool, both_ways}
-use Rattle.sc_base.specs.Among.{Among}
-use Rattle.sc_base.specs.Limits.{client_actor}
-use Rattle.sc_base.specs.Same.{same_draw}
-use Rattle.sc_base.specs.declared.names.Draw.{Draw}
-use Rattle.sc_base.specs.declared.ops.Op.{Op}
-use Rattle.sc_base.proofs.NameLemmas.{draw_is, same_name}
-use Rattle.sc_cmd.specs.declared.links.Route.{Route}
-use Rattle.sc_cmd.specs.declared.orders.OrderLine.{OrderLine}
-use Rattle.sc_mail.specs.declared.bodies.AnswerBody.{AnswerBody}
-use Rattle.sc_mail.specs.declared.bodies.AnswerBody.TheVariants.{Value, NotLeader, NotMine, Gone, Stale}
-use Rattle.sc_mail.specs.declared.bodies.Mail.{Mail}
-use Rattle.sc_mail.specs.declared.bodies.MailBody.TheVariants.{Request, Answer}
-use Rattle.sc_mail.specs.declared.roles.Role.TheVariants.{Node, Client}
-use Rattle.sc_actor.specs.declared.actors.Seat.{Seat}
-use Rattle.sc_actor.specs.declared.rows.Event.{Event}
-use Rattle.sc_actor.specs.declared.rows.Event.TheVariants.{Deliver, Tick, Go, Told, Crash, Drop, Again}
-use Rattle.sc_actor.specs.declared.rows.Input.TheVariants.{Got, Go as GoInput}
-use Rattle.sc_actor.specs.declared.rows.Row.{Row}
-use Rattle.sc_actor.specs.Mail.{mails}
-use Rattle.sc_actor.specs.Replay.{value, acted, input_of}
-use Rattle.sc_actor.specs.System.{System, row_of, has_gone, waiting, kth}
-use Rattle.sc_paxos_words.proofs.ListLemmas.{find_found}
-use Rattle.sc_client_table.specs.Client.{Client as ClientState}
-use Rattle.sc_client_table.specs.Table.{ClientStep, table}
-use Rattle.sc_node_table.specs.Node.{NodeState, replica_of, is_node, node_table}
-use Rattle.sc_node_table.specs.Replica.{ReplicaState, Place, name_of}
+use Rattle.sc_base.specs.Definitions.{Among, client_actor, same_draw}
+use Rattle.sc_node_table.specs.Values.{Draw, Op, Route, OrderLine, AnswerBody, Value, NotLeader, NotMine, Gone, Stale, Mail, Request, Answer, Node, Client, Seat, Event, Deliver, Tick, Go, Crash, Drop, Again, Got, Row}
+use Rattle.sc_base.proofs.Lemmas.{draw_is, same_name}
+use Rattle.sc_actor.specs.declared.rows.Event.TheVariants.{Told}
+use Rattle.sc_actor.specs.declared.rows.Input.TheVariants.{Go as GoInput}
+use Rattle.sc_actor.specs.Definitions.{mails, value, acted, input_of, System, row_of, has_gone, waiting, kth}
+use Rattle.sc_paxos_words.proofs.Lemmas.{find_found}
+use Rattle.sc_client_table.specs.Definitions.{Client as ClientState, ClientStep, table}
+use Rattle.sc_node_table.specs.Definitions.{NodeState, replica_of, is_node, node_table, ReplicaState, Place, name_of}
 use Rattle.sc_scenario.specs.declared.scenarios.Asks.{Asks}
 use Rattle.sc_scenario.specs.declared.scenarios.Scenario.{Scenario}
-use Rattle.sc_sound.specs.Players.{Player, player_table, node_seat, client_seat, route_of, births, system_of, as_nodes}
-use Rattle.sc_orderly_law.specs.Orderly.{IsTidy, IsOrderly, IsInOrder, rest, mail_for, taken}
-use Rattle.sc_orderly_law.proofs.Resting.{TakesFirst, rest-row}
-use Rattle.sc_budget_law.specs.Asking.{IsAskingNode, IsAsking, AreFarFromLast}
-use Rattle.sc_budget_law.specs.BetweenJournal.{replica_at}
-use Rattle.sc_budget_law.specs.CalmAsking.{IsLinkedSetting}
-use Rattle.sc_budget_law.specs.CalmNode.{Setting, IsSetting}
-use Rattle.sc_budget_law.specs.Frames.{Frame}
-use Rattle.sc_budget_law.specs.PlainClient.{IsBegun, IsWaiting}
-use Rattle.sc_budget_law.specs.PlainMail.{IsPlainBody}
+use Rattle.sc_sound.specs.Definitions.{Player, player_table, node_seat, client_seat, route_of, births, system_of, as_nodes}
+use Rattle.sc_orderly_law.specs.Definitions.{IsTidy, IsOrderly, IsInOrder, rest, mail_for, taken}
+use Rattle.sc_orderly_law.proofs.Lemmas.{TakesFirst, rest-row}
+use Rattle.sc_budget_law.specs.Definitions.{IsAskingNode, IsAsking, AreFarFromLast, replica_at, IsLinkedSetting, Setting, IsSetting, Frame, IsBegun, IsWaiting, IsPlainBody}
 use Rattle.sc_budget_law.proofs.AskingClients as clients_of
 use Rattle.sc_budget_law.proofs.AskingTurns as turns_of
 use Rattle.sc_budget_law.proofs.BetweenStage.{IsStage}

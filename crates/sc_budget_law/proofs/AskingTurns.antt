@@ -2,36 +2,20 @@
 use Rattle.std.proofs.Common.{◌≡◌, ℕ, zero, suc, ◌≤◌, eqb, true, false, cond, List, [], ◌∷◌, ◌++◌, map, drop, find, Some, inl, inr, refl, sym, ◌∙◌, ap, subst, arith}
 use Rattle.std.specs.Option.{option_map}
 use Rattle.std.proofs.lemmas.Bool.{cases_eq, both_ways, eq-eqb}
-use Rattle.sc_base.specs.Among.{Among, Each}
-use Rattle.sc_base.specs.Limits.{client_actor}
-use Rattle.sc_base.specs.declared.ops.Op.{Op}
-use Rattle.sc_cmd.specs.declared.orders.OrderLine.{OrderLine}
-use Rattle.sc_mail.specs.declared.bodies.Mail.{Mail}
-use Rattle.sc_actor.specs.declared.actors.Seat.{Seat}
-use Rattle.sc_actor.specs.declared.rows.Event.{Event}
-use Rattle.sc_actor.specs.declared.rows.Event.TheVariants.{Deliver, Tick, Go, Told, Crash, Drop, Again}
-use Rattle.sc_actor.specs.declared.rows.Input.TheVariants.{Got, Go as GoInput}
-use Rattle.sc_actor.specs.declared.rows.Row.{Row}
-use Rattle.sc_actor.specs.Mail.{mails}
-use Rattle.sc_actor.specs.Replay.{value, acted, input_of}
-use Rattle.sc_actor.specs.System.{System, row_of, has_gone, waiting, kth}
-use Rattle.sc_actor.proofs.ReplayLemmas.{value-snoc}
-use Rattle.sc_paxos_words.proofs.ListLemmas.{Each-weaker, Each-append, Each-filter}
-use Rattle.sc_node_table.specs.Node.{NodeState, is_node, node_table}
+use Rattle.sc_base.specs.Definitions.{Among, Each, client_actor}
+use Rattle.sc_node_table.specs.Values.{Op, OrderLine, Mail, Seat, Event, Deliver, Tick, Go, Crash, Drop, Again, Got, Row, Node}
+use Rattle.sc_actor.specs.declared.rows.Event.TheVariants.{Told}
+use Rattle.sc_actor.specs.declared.rows.Input.TheVariants.{Go as GoInput}
+use Rattle.sc_actor.specs.Definitions.{mails, value, acted, input_of, System, row_of, has_gone, waiting, kth}
+use Rattle.sc_actor.proofs.Lemmas.{value-snoc}
+use Rattle.sc_paxos_words.proofs.Lemmas.{Each-weaker, Each-append, Each-filter}
+use Rattle.sc_node_table.specs.Definitions.{NodeState, is_node, node_table}
 use Rattle.sc_scenario.specs.declared.scenarios.Asks.{Asks}
 use Rattle.sc_scenario.specs.declared.scenarios.Scenario.{Scenario}
-use Rattle.sc_sound.specs.Players.{Player, player_table, node_seat, client_seat, route_of, births, system_of, as_nodes}
-use Rattle.sc_mail.specs.declared.roles.Role.TheVariants.{Node}
-use Rattle.sc_orderly_law.specs.Orderly.{IsTidy, IsOrderly, IsInOrder, rest, is_born, mail_for, taken}
-use Rattle.sc_orderly_law.proofs.Resting.{TakesFirst, takes_first, is_born-from, rest-row}
-use Rattle.sc_budget_law.specs.Asking.{IsAskingNode, IsAskingClient, IsAsking, AreFarFromLast}
-use Rattle.sc_budget_law.specs.Between.{Other, mark}
-use Rattle.sc_budget_law.specs.BetweenJournal.{marks_for, marks_at, next_in, replica_at, IsGroupAt}
-use Rattle.sc_budget_law.specs.BetweenRows.{IsOther}
-use Rattle.sc_budget_law.specs.CalmAsking.{IsCalmClient}
-use Rattle.sc_budget_law.specs.CalmNode.{Setting, IsSetting, IsCalmNode, IsCalmMail, ComesInTime}
-use Rattle.sc_budget_law.specs.Frames.{Frame}
-use Rattle.sc_budget_law.specs.PlainClient.{IsBegun}
+use Rattle.sc_sound.specs.Definitions.{Player, player_table, node_seat, client_seat, route_of, births, system_of, as_nodes}
+use Rattle.sc_orderly_law.specs.Definitions.{IsTidy, IsOrderly, IsInOrder, rest, is_born, mail_for, taken}
+use Rattle.sc_orderly_law.proofs.Lemmas.{TakesFirst, takes_first, is_born-from, rest-row}
+use Rattle.sc_budget_law.specs.Definitions.{IsAskingNode, IsAskingClient, IsAsking, AreFarFromLast, Other, mark, marks_for, marks_at, next_in, replica_at, IsGroupAt, IsOther, IsCalmClient, Setting, IsSetting, IsCalmNode, IsCalmMail, ComesInTime, Frame, IsBegun}
 use Rattle.sc_budget_law.proofs.AskingMore.{calm_mail_more, calm_node_more}
 use Rattle.sc_budget_law.proofs.BetweenBegun.{IsMore}
 use Rattle.sc_budget_law.proofs.BetweenGroups.{due, group_idle, group_after}

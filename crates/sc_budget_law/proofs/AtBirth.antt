@@ -8,38 +8,23 @@ use Rattle.std.proofs.lemmas.Bool.{cond_both, cond-true, cond-false, cases_Bool,
 use Rattle.std.proofs.lemmas.List.{length-map, length_push}
 use Rattle.std.proofs.lemmas.List.Sums.{sum_by-cons, sum_by-append}
 use Rattle.std.proofs.Math.Nat.{suc-mul, mul-le-mul_left, mul-le-mul_right}
-use Rattle.sc_base.specs.Among.{Among, Each}
-use Rattle.sc_base.specs.Limits.{most_clients, most_requests}
-use Rattle.sc_base.specs.Same.{same_draw}
-use Rattle.sc_base.specs.declared.names.Draw.{Draw}
-use Rattle.sc_base.proofs.NameLemmas.{draw_is, same_name}
-use Rattle.sc_cmd.specs.declared.cores.Base.{Base}
-use Rattle.sc_base.specs.Roster.{is_member}
-use Rattle.sc_actor.specs.declared.actors.Seat.{Seat}
-use Rattle.sc_paxos_words.proofs.BallotLemmas.{at_least_itself}
-use Rattle.sc_paxos_words.proofs.ListLemmas.{Each-among, Each-from_All, find_found}
-use Rattle.sc_machine_table.specs.Group.{group_of}
-use Rattle.sc_node_table.specs.Node.{born_replicas, born_node, replica_of, is_node}
-use Rattle.sc_node_table.specs.Replica.{ReplicaState, name_of, first_ballot, born_replica}
-use Rattle.sc_node_table.specs.Slots.{slots_ahead, numbers_from}
-use Rattle.sc_scenario.specs.Groups.{base_at, bases_up_to}
-use Rattle.sc_scenario.specs.Valid.{IsBounded, IsBoundedClient}
+use Rattle.sc_base.specs.Definitions.{Among, Each, most_clients, most_requests, same_draw, is_member}
+use Rattle.sc_node_table.specs.Values.{Draw, Base, Seat}
+use Rattle.sc_base.proofs.Lemmas.{draw_is, same_name}
+use Rattle.sc_paxos_words.proofs.Lemmas.{at_least_itself, Each-among, Each-from_All, find_found}
+use Rattle.sc_machine_table.specs.Definitions.{group_of}
+use Rattle.sc_node_table.specs.Definitions.{born_replicas, born_node, replica_of, is_node, ReplicaState, name_of, first_ballot, born_replica, slots_ahead, numbers_from}
+use Rattle.sc_scenario.specs.Definitions.{base_at, bases_up_to, IsBounded, IsBoundedClient}
 use Rattle.sc_scenario.specs.declared.drafts.GroupLine.{GroupLine}
 use Rattle.sc_scenario.specs.declared.scenarios.Asks.{Asks}
 use Rattle.sc_scenario.specs.declared.scenarios.Scenario.{Scenario}
-use Rattle.sc_sound.specs.Players.{Player, node_seat, client_seat, route_of, system_of, as_nodes}
-use Rattle.sc_client_table.specs.Client.{born_client}
-use Rattle.sc_orderly_law.specs.Owing.{owed_at_birth}
-use Rattle.sc_paxos_law.proofs.Among.{from_map}
-use Rattle.sc_budget_law.specs.Budget.{requests_of, budget_of}
-use Rattle.sc_budget_law.specs.Frames.{Frame, frame_of}
-use Rattle.sc_budget_law.specs.Owed.{replica_owes, player_owes}
-use Rattle.sc_budget_law.specs.PlainClient.{way_of, IsBegun, IsPlainClient}
-use Rattle.sc_budget_law.specs.PlainMail.{Requests}
-use Rattle.sc_budget_law.specs.PlainNode.{AreTaken, IsPlainReplica, IsSettled, IsPlainAt, IsPlainNode}
+use Rattle.sc_sound.specs.Definitions.{Player, node_seat, client_seat, route_of, system_of, as_nodes}
+use Rattle.sc_client_table.specs.Definitions.{born_client}
+use Rattle.sc_orderly_law.specs.Definitions.{owed_at_birth}
+use Rattle.sc_paxos_law.proofs.Lemmas.{from_map}
+use Rattle.sc_budget_law.specs.Definitions.{requests_of, budget_of, Frame, frame_of, replica_owes, player_owes, way_of, IsBegun, IsPlainClient, Requests, AreTaken, IsPlainReplica, IsSettled, IsPlainAt, IsPlainNode, replica_at, next_in, votes_in, IsGroupAt}
 use Rattle.sc_budget_law.proofs.BetweenStage.{frames_of, stage, of_groups}
 use Rattle.sc_budget_law.proofs.Sums.{shares, sum_mapped, none_together}
-use Rattle.sc_budget_law.specs.BetweenJournal.{replica_at, next_in, votes_in, IsGroupAt}
 use Rattle.sc_budget_law.proofs.BetweenAll.{owing_of, IsPlainJournal}
 use Rattle.sc_budget_law.proofs.Leading.{in_range, range_before, range_behind}
 use Rattle.sc_budget_law.proofs.Counts.{one_if, one_no}

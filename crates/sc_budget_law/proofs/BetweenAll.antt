@@ -1,25 +1,15 @@
 -- Induction over plain journals: what all players, all mail, all groups and what is owed are after each lawful journal.
 use Rattle.std.proofs.Common.{◌≡◌, ℕ, ◌+◌, ◌≤◌, length}
-use Rattle.sc_base.specs.Among.{Among, Each}
-use Rattle.sc_base.specs.Limits.{client_actor}
-use Rattle.sc_mail.specs.declared.bodies.Mail.{Mail}
-use Rattle.sc_actor.specs.Mail.{mails}
-use Rattle.sc_actor.specs.Replay.{value}
-use Rattle.sc_actor.specs.System.{has_gone}
-use Rattle.sc_node_table.specs.Node.{NodeState}
-use Rattle.sc_client_table.specs.Client.{Client as ClientState}
+use Rattle.sc_base.specs.Definitions.{Among, Each, client_actor}
+use Rattle.sc_node_table.specs.Values.{Mail, Node, Client}
+use Rattle.sc_actor.specs.Definitions.{mails, value, has_gone}
+use Rattle.sc_node_table.specs.Definitions.{NodeState}
+use Rattle.sc_client_table.specs.Definitions.{Client as ClientState}
 use Rattle.sc_scenario.specs.declared.scenarios.Asks.{Asks}
 use Rattle.sc_scenario.specs.declared.scenarios.Scenario.{Scenario}
-use Rattle.sc_sound.specs.Players.{Player, player_table, node_seat, client_seat, route_of, system_of, as_nodes}
-use Rattle.sc_mail.specs.declared.roles.Role.TheVariants.{Node, Client}
-use Rattle.sc_orderly_law.specs.Orderly.{deliveries}
-use Rattle.sc_orderly_law.specs.Owing.{Owing, owed, owed_at_birth}
-use Rattle.sc_budget_law.specs.BetweenJournal.{IsGroupAt}
-use Rattle.sc_budget_law.specs.Frames.{Frame}
-use Rattle.sc_budget_law.specs.Owed.{player_owes, mail_owes}
-use Rattle.sc_budget_law.specs.PlainClient.{IsBegun, IsPlainClient}
-use Rattle.sc_budget_law.specs.PlainMail.{IsPlainMail}
-use Rattle.sc_budget_law.specs.PlainNode.{IsPlainNode}
+use Rattle.sc_sound.specs.Definitions.{Player, player_table, node_seat, client_seat, route_of, system_of, as_nodes}
+use Rattle.sc_orderly_law.specs.Definitions.{deliveries, Owing, owed, owed_at_birth}
+use Rattle.sc_budget_law.specs.Definitions.{IsGroupAt, Frame, player_owes, mail_owes, IsBegun, IsPlainClient, IsPlainMail, IsPlainNode}
 use Rattle.sc_budget_law.proofs.BetweenStage.{frames_of, IsStage}
 use Rattle.sc_budget_law.proofs.BetweenViews.{Journal}
 

@@ -4,42 +4,20 @@ use Rattle.std.specs.Prelude.{slice_get}
 use Rattle.std.specs.Option.{option_map}
 use Rattle.std.proofs.lemmas.Bool.{cases_eq, both_ways, eq-eqb, or_right}
 use Rattle.std.proofs.lemmas.List.Folds.{list_any-append}
-use Rattle.sc_base.specs.Among.{Among, Each}
-use Rattle.sc_base.specs.Limits.{client_actor}
-use Rattle.sc_base.specs.declared.names.Draw.{Draw}
-use Rattle.sc_base.specs.declared.ops.Op.{Op}
-use Rattle.sc_cmd.specs.declared.orders.OrderLine.{OrderLine}
-use Rattle.sc_mail.specs.declared.bodies.Mail.{Mail}
-use Rattle.sc_mail.specs.declared.bodies.MailBody.{MailBody}
-use Rattle.sc_mail.specs.declared.bodies.MailBody.TheVariants.{Request, Answer, Prepare, Promise, Accept, Accepted, Nack, Learn, Ask, Install, TxPrepare, TxVote, TxOutcome, TxElsewhere, TxWatch, TxWatched, Told as ToldMail}
-use Rattle.sc_actor.specs.declared.actors.Seat.{Seat}
-use Rattle.sc_actor.specs.declared.rows.Row.{Row}
-use Rattle.sc_actor.specs.declared.rows.Event.{Event}
-use Rattle.sc_actor.specs.declared.rows.Event.TheVariants.{Deliver, Tick, Go, Told, Crash, Drop, Again}
-use Rattle.sc_actor.specs.declared.rows.Input.TheVariants.{Got, Go as GoInput}
-use Rattle.sc_actor.specs.Mail.{mails, is_delivery}
-use Rattle.sc_actor.specs.Replay.{value, acted, input_of}
-use Rattle.sc_actor.specs.System.{System, row_of, has_gone, is_go, waiting, kth}
-use Rattle.sc_actor.proofs.ReplayLemmas.{value-snoc}
-use Rattle.sc_base.specs.Roster.{is_member}
-use Rattle.sc_node_table.specs.Node.{is_node}
-use Rattle.sc_node_table.specs.Slots.{slots_ahead}
-use Rattle.sc_client_table.specs.Table.{ClientStep, table}
+use Rattle.sc_base.specs.Definitions.{Among, Each, client_actor, is_member}
+use Rattle.sc_node_table.specs.Values.{Draw, Op, OrderLine, Mail, MailBody, Request, Answer, Prepare, Promise, Accept, Accepted, Nack, Learn, Ask, Install, TxPrepare, TxVote, TxOutcome, TxElsewhere, TxWatch, TxWatched, Told as ToldMail, Seat, Row, Event, Deliver, Tick, Go, Crash, Drop, Again, Got, Client}
+use Rattle.sc_actor.specs.declared.rows.Event.TheVariants.{Told}
+use Rattle.sc_actor.specs.declared.rows.Input.TheVariants.{Go as GoInput}
+use Rattle.sc_actor.specs.Definitions.{mails, is_delivery, value, acted, input_of, System, row_of, has_gone, is_go, waiting, kth}
+use Rattle.sc_actor.proofs.Lemmas.{value-snoc}
+use Rattle.sc_node_table.specs.Definitions.{is_node, slots_ahead}
+use Rattle.sc_client_table.specs.Definitions.{ClientStep, table}
 use Rattle.sc_scenario.specs.declared.scenarios.Asks.{Asks}
 use Rattle.sc_scenario.specs.declared.scenarios.Scenario.{Scenario}
-use Rattle.sc_sound.specs.Players.{Player, player_table, client_seat, route_of, births, system_of, as_nodes}
-use Rattle.sc_mail.specs.declared.roles.Role.TheVariants.{Client}
-use Rattle.sc_orderly_law.specs.Orderly.{IsTidy, IsOrderly, IsInOrder, rest, mail_for, taken}
-use Rattle.sc_orderly_law.specs.Owing.{owed_by}
-use Rattle.sc_orderly_law.proofs.Paying.{IsPaid, pays}
-use Rattle.sc_orderly_law.proofs.Resting.{TakesFirst, takes_first, is_born-from, rest-row}
-use Rattle.sc_budget_law.specs.Frames.{Frame, IsFrame}
-use Rattle.sc_budget_law.specs.Between.{Mark, Other, mark, mark_of}
-use Rattle.sc_budget_law.specs.BetweenJournal.{marks_for, marks_at}
-use Rattle.sc_budget_law.specs.BetweenRows.{IsOther, IsTaken}
-use Rattle.sc_budget_law.specs.Owed.{player_owes, mail_owes, begun_ones, waiting_ones}
-use Rattle.sc_budget_law.specs.PlainClient.{begun_of, IsBegun, IsPlainClient}
-use Rattle.sc_budget_law.specs.PlainMail.{Requests, IsPlainBody, IsPlainMail}
+use Rattle.sc_sound.specs.Definitions.{Player, player_table, client_seat, route_of, births, system_of, as_nodes}
+use Rattle.sc_orderly_law.specs.Definitions.{IsTidy, IsOrderly, IsInOrder, rest, mail_for, taken, owed_by}
+use Rattle.sc_orderly_law.proofs.Lemmas.{IsPaid, pays, TakesFirst, takes_first, is_born-from, rest-row}
+use Rattle.sc_budget_law.specs.Definitions.{Frame, IsFrame, Mark, Other, mark, mark_of, marks_for, marks_at, IsOther, IsTaken, player_owes, mail_owes, begun_ones, waiting_ones, begun_of, IsBegun, IsPlainClient, Requests, IsPlainBody, IsPlainMail}
 use Rattle.sc_budget_law.proofs.BetweenAll.{owing_of, IsClientAt, IsPlainJournal}
 use Rattle.sc_budget_law.proofs.BetweenBegun.{IsMore}
 use Rattle.sc_budget_law.proofs.BetweenGroups.{group_idle}

@@ -1,22 +1,12 @@
 -- What a row of a plain group's replica does, as marks, by its mail.
 use Rattle.std.proofs.Common.{◌≡◌, ℕ, ◌+◌, ◌<◌, cond, List, [], ◌∷◌, inl, inr, refl, sym, ◌∙◌, ap, subst, arith}
 use Rattle.std.proofs.lemmas.Bool.{cases_lt, cases_eq, cond-true}
-use Rattle.sc_base.specs.Among.{Each}
-use Rattle.sc_base.specs.Limits.{client_actor}
-use Rattle.sc_base.specs.Same.{same_draw}
-use Rattle.sc_base.specs.declared.names.Draw.{Draw}
-use Rattle.sc_base.proofs.NameLemmas.{same_name}
+use Rattle.sc_base.specs.Definitions.{Each, client_actor, same_draw}
+use Rattle.sc_node_table.specs.Values.{Draw, Mail, MailBody, Request, Answer, Prepare, Promise, Accept, Accepted, Nack, Learn, Ask, Install, TxPrepare, TxVote, TxOutcome, TxElsewhere, TxWatch, TxWatched, Told}
+use Rattle.sc_base.proofs.Lemmas.{same_name}
 use Rattle.sc_mail.specs.declared.bodies.AnswerBody.TheVariants as Says
-use Rattle.sc_mail.specs.declared.bodies.Mail.{Mail}
-use Rattle.sc_mail.specs.declared.bodies.MailBody.{MailBody}
-use Rattle.sc_mail.specs.declared.bodies.MailBody.TheVariants.{Request, Answer, Prepare, Promise, Accept, Accepted, Nack, Learn, Ask, Install, TxPrepare, TxVote, TxOutcome, TxElsewhere, TxWatch, TxWatched, Told}
-use Rattle.sc_node_table.specs.Replica.{ReplicaState, Place, next}
-use Rattle.sc_budget_law.specs.Frames.{Frame, IsFrame}
-use Rattle.sc_budget_law.specs.Between.{Mark, Asks, Votes, Tells, Other, mark_of, mark}
-use Rattle.sc_budget_law.specs.BetweenJournal.{marks_for}
-use Rattle.sc_budget_law.specs.BetweenRows.{IsOther, MovesBy}
-use Rattle.sc_budget_law.specs.PlainMail.{Requests, IsPlainBody}
-use Rattle.sc_budget_law.specs.PlainNode.{AreTaken}
+use Rattle.sc_node_table.specs.Definitions.{ReplicaState, Place, next}
+use Rattle.sc_budget_law.specs.Definitions.{Frame, IsFrame, Mark, Asks, Votes, Tells, Other, mark_of, mark, marks_for, IsOther, MovesBy, Requests, IsPlainBody, AreTaken}
 use Rattle.sc_budget_law.proofs.BetweenLeads.{each_mark}
 use Rattle.sc_budget_law.proofs.BetweenReplicas.{idle_moves, accept_moves, learn_moves, counted_moves, asked_moves}
 use Rattle.sc_budget_law.proofs.Counts.{one_yes, one_no}

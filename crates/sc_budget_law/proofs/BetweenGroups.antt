@@ -1,31 +1,15 @@
 -- What stands between the leader of each group and its nodes, after a row of a node.
 use Rattle.std.proofs.Common.{◌≡◌, ℕ, zero, suc, ◌+◌, true, false, cond, List, [], ◌∷◌, ◌++◌, map, drop, Some, inl, inr, refl, sym, ◌∙◌, ap, subst}
 use Rattle.std.proofs.lemmas.Bool.{cases_Bool, cases_eq, cond-true, cond-false, both_ways}
-use Rattle.sc_base.specs.Among.{Among, Each}
-use Rattle.sc_base.specs.Same.{same_draw}
-use Rattle.sc_base.specs.declared.names.Draw.{Draw}
-use Rattle.sc_base.proofs.NameLemmas.{draw_is, same_name}
-use Rattle.sc_cmd.specs.declared.orders.OrderLine.{OrderLine}
-use Rattle.sc_mail.specs.declared.bodies.Mail.{Mail}
-use Rattle.sc_mail.specs.declared.bodies.MailBody.{MailBody}
-use Rattle.sc_mail.specs.declared.bodies.MailBody.TheVariants.{Request, Answer, Prepare, Promise, Accept, Accepted, Nack, Learn, Ask, Install, TxPrepare, TxVote, TxOutcome, TxElsewhere, TxWatch, TxWatched, Told}
-use Rattle.sc_actor.specs.declared.rows.Row.{Row}
-use Rattle.sc_actor.specs.Mail.{is_delivery}
-use Rattle.sc_actor.specs.Replay.{value}
-use Rattle.sc_base.specs.Roster.{is_member}
-use Rattle.sc_node_table.specs.Node.{NodeState, replica_of, is_node}
-use Rattle.sc_node_table.specs.Replica.{ReplicaState, next}
-use Rattle.sc_node_table.specs.Slots.{numbers_from}
+use Rattle.sc_base.specs.Definitions.{Among, Each, same_draw, is_member}
+use Rattle.sc_node_table.specs.Values.{Draw, OrderLine, Mail, MailBody, Request, Answer, Prepare, Promise, Accept, Accepted, Nack, Learn, Ask, Install, TxPrepare, TxVote, TxOutcome, TxElsewhere, TxWatch, TxWatched, Told, Row, Node}
+use Rattle.sc_base.proofs.Lemmas.{draw_is, same_name}
+use Rattle.sc_actor.specs.Definitions.{is_delivery, value}
+use Rattle.sc_node_table.specs.Definitions.{NodeState, replica_of, is_node, ReplicaState, next, numbers_from}
 use Rattle.sc_scenario.specs.declared.scenarios.Scenario.{Scenario}
-use Rattle.sc_sound.specs.Players.{player_table, node_seat, system_of, as_nodes}
-use Rattle.sc_mail.specs.declared.roles.Role.TheVariants.{Node}
-use Rattle.sc_orderly_law.specs.Orderly.{rest, mail_for, taken}
-use Rattle.sc_budget_law.specs.Frames.{Frame, IsFrame, AreNamedApart}
-use Rattle.sc_budget_law.specs.Between.{Mark, Asks, Votes, Tells, Other, mark_of, mark, told, AreInOrder}
-use Rattle.sc_budget_law.specs.BetweenJournal.{marks_for, replica_at, next_in, votes_in, view_at, marks_at, IsGroupAt}
-use Rattle.sc_budget_law.specs.BetweenRows.{IsOther, How, IsTaken}
-use Rattle.sc_budget_law.specs.PlainMail.{Requests, IsPlainBody}
-use Rattle.sc_budget_law.specs.PlainNode.{AreTaken, IsPlainAt, IsPlainNode, IsDue}
+use Rattle.sc_sound.specs.Definitions.{player_table, node_seat, system_of, as_nodes}
+use Rattle.sc_orderly_law.specs.Definitions.{rest, mail_for, taken}
+use Rattle.sc_budget_law.specs.Definitions.{Frame, IsFrame, AreNamedApart, Mark, Asks, Votes, Tells, Other, mark_of, mark, told, AreInOrder, marks_for, replica_at, next_in, votes_in, view_at, marks_at, IsGroupAt, IsOther, How, IsTaken, Requests, IsPlainBody, AreTaken, IsPlainAt, IsPlainNode, IsDue}
 use Rattle.sc_budget_law.proofs.BetweenDoes.{does_moves}
 use Rattle.sc_budget_law.proofs.BetweenLeads.{each_mark}
 use Rattle.sc_budget_law.proofs.BetweenViews.{Journal, between_after, replica_others, replica_is}

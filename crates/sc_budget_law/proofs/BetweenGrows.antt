@@ -3,18 +3,12 @@ use Rattle.std.proofs.Common.{◌≡◌, ℕ, ◌+◌, ◌≤◌, true, cond, []
 use Rattle.std.specs.Prelude.{nat_le}
 use Rattle.std.proofs.lemmas.Bool.{cond_both}
 use Rattle.std.proofs.lemmas.List.{length_push}
-use Rattle.sc_base.specs.declared.names.Draw.{Draw}
-use Rattle.sc_base.specs.declared.ops.Op.{Op}
-use Rattle.sc_mail.specs.declared.bodies.AnswerBody.{AnswerBody}
-use Rattle.sc_mail.specs.declared.bodies.AnswerBody.TheVariants.{Value, NotLeader, NotMine, Gone, Stale}
-use Rattle.sc_mail.specs.declared.bodies.MailBody.{MailBody}
-use Rattle.sc_mail.specs.declared.bodies.MailBody.TheVariants.{Request, Answer, Prepare, Promise, Accept, Accepted, Nack, Learn, Ask, Install, TxPrepare, TxVote, TxOutcome, TxElsewhere, TxWatch, TxWatched, Told}
-use Rattle.sc_lookup.specs.Known.{target_in, preferring, passed_on, told_not_mine, told_gone}
-use Rattle.sc_client_table.specs.Client.{Client, waiting_request}
-use Rattle.sc_client_table.specs.Table.{asked_of, sent_where, chosen_for, request_sent, started, waits_for, was_asked, redirected, answer_taken, got}
-use Rattle.sc_budget_law.specs.Owed.{waiting_ones, begun_ones}
+use Rattle.sc_node_table.specs.Values.{Draw, Op, AnswerBody, Value, NotLeader, NotMine, Gone, Stale, MailBody, Request, Answer, Prepare, Promise, Accept, Accepted, Nack, Learn, Ask, Install, TxPrepare, TxVote, TxOutcome, TxElsewhere, TxWatch, TxWatched, Told}
+use Rattle.sc_lookup.specs.Definitions.{target_in, preferring, passed_on, told_not_mine, told_gone}
+use Rattle.sc_client_table.specs.Definitions.{Client, waiting_request, asked_of, sent_where, chosen_for, request_sent, started, waits_for, was_asked, redirected, answer_taken, got}
+use Rattle.sc_budget_law.specs.Definitions.{waiting_ones, begun_ones}
 
-asked_same : (client : Client) (group : Draw) (target : Option ℕ) (request : Option (ℕ × Op)) → begun_ones (asked_of client group target request).0 ≡ begun_ones client
+pub asked_same : (client : Client) (group : Draw) (target : Option ℕ) (request : Option (ℕ × Op)) → begun_ones (asked_of client group target request).0 ≡ begun_ones client
 asked_same client group (Some target) (Some request) = refl
 asked_same client group (Some target) None = refl
 asked_same client group None request = refl
@@ -23,7 +17,7 @@ sent_same : (client : Client) (o : Option Draw) → begun_ones (sent_where clien
 sent_same client (Some group) = asked_same client group (target_in group client.known) (waiting_request client)
 sent_same client None = refl
 
-request_same : (client : Client) → begun_ones (request_sent client).0 ≡ begun_ones client
+pub request_same : (client : Client) → begun_ones (request_sent client).0 ≡ begun_ones client
 request_same client = sent_same client (chosen_for client (waiting_request client))
 
 redirected_same : (group : Draw) (answer : AnswerBody) (client : Client) → begun_ones (redirected group answer client).0 ≡ begun_ones client

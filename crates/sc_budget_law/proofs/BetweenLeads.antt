@@ -4,28 +4,14 @@ use Rattle.std.specs.Prelude.{find}
 use Rattle.std.specs.Option.{option_map}
 use Rattle.std.specs.List.{filter}
 use Rattle.std.proofs.lemmas.Bool.{cases_lt, cond_both, cond-true, cond-false, eqb-true, eq-eqb, ne_eqb}
-use Rattle.sc_base.specs.Among.{Among, Each}
-use Rattle.sc_base.specs.Same.{same_draw}
-use Rattle.sc_base.specs.declared.names.Draw.{Draw}
-use Rattle.sc_base.proofs.NameLemmas.{same_name}
-use Rattle.sc_cmd.specs.declared.commands.Command.{Command}
-use Rattle.sc_mail.specs.declared.bodies.Mail.{Mail}
-use Rattle.sc_mail.specs.declared.bodies.MailBody.{MailBody}
-use Rattle.sc_mail.specs.declared.bodies.MailBody.TheVariants.{Request, Answer, Prepare, Promise, Accept, Accepted, Nack, Learn, Ask, Install, TxPrepare, TxVote, TxOutcome, TxElsewhere, TxWatch, TxWatched, Told}
-use Rattle.sc_base.specs.Roster.{is_member}
-use Rattle.sc_paxos_words.specs.declared.flights.Flight.{Flight}
-use Rattle.sc_paxos_words.specs.Leaders.{flight_at}
-use Rattle.sc_paxos_words.specs.Votes.{kept_voters}
-use Rattle.sc_paxos_words.proofs.ListLemmas.{Each-among, find_found}
-use Rattle.sc_node_table.specs.Replica.{Place, next}
-use Rattle.sc_node_table.specs.Slots.{numbers_from}
-use Rattle.sc_paxos_law.proofs.Among.{member-among}
-use Rattle.sc_budget_law.specs.Frames.{Frame}
-use Rattle.sc_budget_law.specs.Between.{Mark, Asks, Votes, Tells, Other, mark_of, mark, told, View}
-use Rattle.sc_budget_law.specs.BetweenJournal.{voters_in, marks_for}
-use Rattle.sc_budget_law.specs.BetweenRows.{IsNew as IsNewMark, IsCount, IsElsewhere, Leads as LeadsTo}
-use Rattle.sc_budget_law.specs.PlainMail.{Requests}
-use Rattle.sc_budget_law.specs.PlainNode.{takers}
+use Rattle.sc_base.specs.Definitions.{Among, Each, same_draw, is_member}
+use Rattle.sc_node_table.specs.Values.{Draw, Command, Mail, MailBody, Request, Answer, Prepare, Promise, Accept, Accepted, Nack, Learn, Ask, Install, TxPrepare, TxVote, TxOutcome, TxElsewhere, TxWatch, TxWatched, Told, Flight}
+use Rattle.sc_base.proofs.Lemmas.{same_name}
+use Rattle.sc_paxos_words.specs.Definitions.{flight_at, kept_voters}
+use Rattle.sc_paxos_words.proofs.Lemmas.{Each-among, find_found}
+use Rattle.sc_node_table.specs.Definitions.{Place, next, numbers_from}
+use Rattle.sc_paxos_law.proofs.Lemmas.{member-among}
+use Rattle.sc_budget_law.specs.Definitions.{Frame, Mark, Asks, Votes, Tells, Other, mark_of, mark, told, View, voters_in, marks_for, IsNew as IsNewMark, IsCount, IsElsewhere, Leads as LeadsTo, Requests, takers}
 use Rattle.sc_budget_law.proofs.Counts.{one_yes, one_no, count-cons, find_some, found_one, entries_at}
 use Rattle.sc_budget_law.proofs.Leading.{in_range, range_yes, range_before, range_behind, InRow, IsSaid, IsNew, Leads}
 use Rattle.sc_budget_law.proofs.Sends.{mail_of, learns_of, learns_to}

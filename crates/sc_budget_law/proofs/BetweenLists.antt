@@ -1,10 +1,9 @@
 -- Marks in order: the first is taken, and others come behind.
 use Rattle.std.proofs.Common.{◌≡◌, ℕ, zero, suc, ◌+◌, ◌≤◌, max, List, [], ◌∷◌, ◌++◌, inl, inr, refl, sym, ◌∙◌, ap, subst, arith}
-use Rattle.sc_base.specs.Among.{Among, Each}
-use Rattle.sc_paxos_words.proofs.ListLemmas.{Each-append, Each-weaker}
-use Rattle.sc_node_table.specs.Slots.{numbers_from}
-use Rattle.sc_budget_law.specs.Between.{Mark, Asks, Votes, Tells, Other, AreInOrder, IsBelow, told}
-use Rattle.sc_budget_law.specs.BetweenRows.{IsNew, IsOther}
+use Rattle.sc_base.specs.Definitions.{Among, Each}
+use Rattle.sc_paxos_words.proofs.Lemmas.{Each-append, Each-weaker}
+use Rattle.sc_node_table.specs.Definitions.{numbers_from}
+use Rattle.sc_budget_law.specs.Definitions.{Mark, Asks, Votes, Tells, Other, AreInOrder, IsBelow, told, IsNew, IsOther}
 
 -- ---- order
 

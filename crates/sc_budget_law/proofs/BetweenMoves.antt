@@ -1,13 +1,10 @@
 -- A row keeps what stands between the leader of a group and its nodes.
 use Rattle.std.proofs.Common.{◌≡◌, ℕ, zero, suc, ◌+◌, ◌<◌, ◌≤◌, max, true, List, [], ◌∷◌, ◌++◌, Some, ◌⊎◌, inl, inr, refl, sym, ◌∙◌, ap, subst, arith, append-nil}
 use Rattle.std.proofs.lemmas.Bool.{cases_eq}
-use Rattle.sc_base.specs.Among.{Among, Each}
-use Rattle.sc_base.specs.Roster.{is_member}
-use Rattle.sc_node_table.specs.Slots.{numbers_from}
-use Rattle.sc_paxos_law.proofs.Among.{Among-left, Among-right, Among-either}
-use Rattle.sc_budget_law.specs.Frames.{Frame}
-use Rattle.sc_budget_law.specs.Between.{Mark, Asks, Votes, Tells, Other, AreInOrder, IsBelow, told, View, IsLearning, IsVoting, IsBetween}
-use Rattle.sc_budget_law.specs.BetweenRows.{IsNew, IsIdle, Accepts, Learns, IsCount, IsElsewhere, IsOffered, IsCounted, Leads, Moves, IsTaken}
+use Rattle.sc_base.specs.Definitions.{Among, Each, is_member}
+use Rattle.sc_node_table.specs.Definitions.{numbers_from}
+use Rattle.sc_paxos_law.proofs.Lemmas.{Among-left, Among-right, Among-either}
+use Rattle.sc_budget_law.specs.Definitions.{Frame, Mark, Asks, Votes, Tells, Other, AreInOrder, IsBelow, told, View, IsLearning, IsVoting, IsBetween, IsNew, IsIdle, Accepts, Learns, IsCount, IsElsewhere, IsOffered, IsCounted, Leads, Moves, IsTaken}
 use Rattle.sc_budget_law.proofs.BetweenLists.{order-lower, order-tail, order-asks, order-append, order-raise, order-new, below-append, below-among, other-new, other-asks, asks≢other, votes≢other, told-append, told-other, numbers-append}
 
 -- ---- what is left after the first is taken

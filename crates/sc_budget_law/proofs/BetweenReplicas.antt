@@ -2,23 +2,12 @@
 use Rattle.std.proofs.Common.{◌≡◌, ℕ, ◌+◌, ◌≤◌, eqb, true, List, [], ◌∷◌, map, Option, Some, None, inl, inr, refl, sym, ◌∙◌, ap, subst, arith}
 use Rattle.std.specs.Option.{option_map}
 use Rattle.std.proofs.lemmas.Bool.{cases_eq, cond-true, cond-false, eq-eqb, ne_eqb}
-use Rattle.sc_base.specs.Among.{Each}
-use Rattle.sc_base.specs.Same.{same_draw}
-use Rattle.sc_base.proofs.NameLemmas.{same_name}
-use Rattle.sc_cmd.specs.declared.commands.Command.{Command}
-use Rattle.sc_mail.specs.declared.bodies.Mail.{Mail}
-use Rattle.sc_mail.specs.declared.bodies.MailBody.TheVariants.{Accepted}
-use Rattle.sc_base.specs.Roster.{is_member}
-use Rattle.sc_paxos_words.specs.declared.flights.Flight.{Flight}
-use Rattle.sc_paxos_words.specs.Leaders.{flight_at}
-use Rattle.sc_paxos_words.specs.Votes.{kept_voters}
-use Rattle.sc_node_table.specs.Replica.{ReplicaState, Place, next}
-use Rattle.sc_budget_law.specs.Frames.{Frame}
-use Rattle.sc_budget_law.specs.Between.{Mark, Asks, Votes, Tells, Other, mark}
-use Rattle.sc_budget_law.specs.BetweenJournal.{voters_in, marks_for}
-use Rattle.sc_budget_law.specs.BetweenRows.{IsOther, IsCount, MovesBy}
-use Rattle.sc_budget_law.specs.PlainMail.{Requests}
-use Rattle.sc_budget_law.specs.PlainNode.{AreTaken}
+use Rattle.sc_base.specs.Definitions.{Each, same_draw, is_member}
+use Rattle.sc_base.proofs.Lemmas.{same_name}
+use Rattle.sc_node_table.specs.Values.{Command, Mail, Accepted, Flight}
+use Rattle.sc_paxos_words.specs.Definitions.{flight_at, kept_voters}
+use Rattle.sc_node_table.specs.Definitions.{ReplicaState, Place, next}
+use Rattle.sc_budget_law.specs.Definitions.{Frame, Mark, Asks, Votes, Tells, Other, mark, voters_in, marks_for, IsOther, IsCount, MovesBy, Requests, AreTaken}
 use Rattle.sc_budget_law.proofs.BetweenLeads.{IsHeldOn, held_same, leads_moves}
 use Rattle.sc_budget_law.proofs.Counts.{one_no, find_none}
 use Rattle.sc_budget_law.proofs.Leading.{in_range, range_behind, Leads}

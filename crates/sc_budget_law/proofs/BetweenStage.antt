@@ -1,24 +1,19 @@
 -- How a plain journal begins: the frames of the groups of a valid scenario, and its seats.
 use Rattle.std.proofs.Common.{◌≡◌, ℕ, zero, suc, ◌+◌, ◌-◌, ◌<◌, ◌≤◌, eqb, leb, true, List, [], ◌∷◌, ◌++◌, length, map, inl, inr, refl, sym, ◌∙◌, ap, subst, arith}
 use Rattle.std.proofs.lemmas.Bool.{and_from, le-leb, eq-eqb, or_left}
-use Rattle.sc_base.specs.Among.{Among}
-use Rattle.sc_base.specs.Limits.{most_nodes}
-use Rattle.sc_base.specs.declared.names.Draw.{Draw}
-use Rattle.sc_cmd.specs.declared.cores.Base.{Base}
-use Rattle.sc_base.specs.Roster.{is_member, least_of}
-use Rattle.sc_actor.specs.System.{are_apart}
-use Rattle.sc_paxos_words.proofs.ListLemmas.{Each-among, Each-from_All, one_of_name}
-use Rattle.sc_node_table.specs.Slots.{numbers_from}
-use Rattle.sc_scenario.specs.Groups.{base_at, bases_up_to, group_at}
-use Rattle.sc_scenario.specs.Valid.{IsBounded, IsBoundedGroup, IsUpTo}
+use Rattle.sc_base.specs.Definitions.{Among, most_nodes, is_member, least_of}
+use Rattle.sc_node_table.specs.Values.{Draw, Base}
+use Rattle.sc_actor.specs.Definitions.{are_apart}
+use Rattle.sc_paxos_words.proofs.Lemmas.{Each-among, Each-from_All, one_of_name}
+use Rattle.sc_node_table.specs.Definitions.{numbers_from}
+use Rattle.sc_scenario.specs.Definitions.{base_at, bases_up_to, group_at, IsBounded, IsBoundedGroup, IsUpTo}
 use Rattle.sc_scenario.specs.declared.drafts.GroupLine.{GroupLine}
 use Rattle.sc_scenario.specs.declared.scenarios.Asks.{Asks}
 use Rattle.sc_scenario.specs.declared.scenarios.Scenario.{Scenario}
-use Rattle.sc_sound.specs.Players.{node_seat, client_seat, client_seats, route_of, births, as_nodes}
-use Rattle.sc_whole_law.proofs.Seats.{all_apart}
-use Rattle.sc_whole_law.proofs.Starts.{bases_from, first_and_others}
-use Rattle.sc_paxos_law.proofs.Among.{Among-either, from_map, member-among}
-use Rattle.sc_budget_law.specs.Frames.{Frame, frame_of, IsFrame, AreNamedApart}
+use Rattle.sc_sound.specs.Definitions.{node_seat, client_seat, client_seats, route_of, births, as_nodes}
+use Rattle.sc_whole_law.proofs.Lemmas.{all_apart, bases_from, first_and_others}
+use Rattle.sc_paxos_law.proofs.Lemmas.{Among-either, from_map, member-among}
+use Rattle.sc_budget_law.specs.Definitions.{Frame, frame_of, IsFrame, AreNamedApart}
 
 -- the frames of the groups of a scenario
 abbrev pub frames_of : Scenario → List Frame

@@ -5,34 +5,18 @@ use Rattle.std.proofs.Math.Bool.{or-false}
 use Rattle.std.proofs.lemmas.Bool.{cases_eq, cases_lt, ne_eqb, and_from, le-leb, lt-leb, and_right, cond-true}
 use Rattle.std.proofs.lemmas.List.Folds.{list_any-append}
 use Rattle.std.proofs.lemmas.List.Sums.{sum_by-cons}
-use Rattle.sc_base.specs.Among.{Among, Each}
-use Rattle.sc_base.specs.Limits.{client_actor, most_nodes}
-use Rattle.sc_base.specs.Same.{same_draw}
-use Rattle.sc_cmd.specs.declared.cores.Base.{Base}
-use Rattle.sc_cmd.specs.declared.orders.OrderLine.{OrderLine}
-use Rattle.sc_mail.specs.declared.bodies.Mail.{Mail}
-use Rattle.sc_actor.specs.declared.actors.Seat.{Seat}
-use Rattle.sc_actor.specs.declared.rows.Row.{Row}
-use Rattle.sc_actor.specs.Mail.{mails, numbered}
-use Rattle.sc_actor.specs.Replay.{value, acted, input_of}
-use Rattle.sc_actor.specs.System.{System, has_gone, is_go}
-use Rattle.sc_actor.proofs.ReplayLemmas.{value-snoc, mails-snoc}
-use Rattle.sc_paxos_words.proofs.ListLemmas.{Each-append, Each-weaker, find_found}
-use Rattle.sc_base.specs.Roster.{is_member}
-use Rattle.sc_node_table.specs.Node.{replica_of, is_node}
-use Rattle.sc_node_table.specs.Replica.{ReplicaState, name_of, next, last_slot}
-use Rattle.sc_node_table.specs.Slots.{numbers_from, slots_ahead}
+use Rattle.sc_base.specs.Definitions.{Among, Each, client_actor, most_nodes, same_draw, is_member}
+use Rattle.sc_node_table.specs.Values.{Base, OrderLine, Mail, Seat, Row, Node}
+use Rattle.sc_actor.specs.Definitions.{mails, numbered, value, acted, input_of, System, has_gone, is_go}
+use Rattle.sc_actor.proofs.Lemmas.{value-snoc, mails-snoc}
+use Rattle.sc_paxos_words.proofs.Lemmas.{Each-append, Each-weaker, find_found}
+use Rattle.sc_node_table.specs.Definitions.{replica_of, is_node, ReplicaState, name_of, next, last_slot, numbers_from, slots_ahead}
 use Rattle.sc_scenario.specs.declared.scenarios.Asks.{Asks}
 use Rattle.sc_scenario.specs.declared.scenarios.Scenario.{Scenario}
-use Rattle.sc_sound.specs.Players.{Player, player_table, node_seat, client_seat, route_of, births, system_of, as_nodes}
-use Rattle.sc_mail.specs.declared.roles.Role.TheVariants.{Node}
-use Rattle.sc_orderly_law.specs.Owing.{owed, owed_at_birth}
-use Rattle.sc_paxos_law.proofs.Among.{Among-left}
-use Rattle.sc_budget_law.specs.BetweenJournal.{replica_at, next_in}
-use Rattle.sc_budget_law.specs.Frames.{Frame}
-use Rattle.sc_budget_law.specs.Owed.{replica_owes, player_owes}
-use Rattle.sc_budget_law.specs.PlainClient.{begun_of, IsBegun, IsPlainClient}
-use Rattle.sc_budget_law.specs.PlainMail.{IsPlainMail}
+use Rattle.sc_sound.specs.Definitions.{Player, player_table, node_seat, client_seat, route_of, births, system_of, as_nodes}
+use Rattle.sc_orderly_law.specs.Definitions.{owed, owed_at_birth}
+use Rattle.sc_paxos_law.proofs.Lemmas.{Among-left}
+use Rattle.sc_budget_law.specs.Definitions.{replica_at, next_in, Frame, replica_owes, player_owes, begun_of, IsBegun, IsPlainClient, IsPlainMail}
 use Rattle.sc_budget_law.proofs.BetweenAll.{owing_of, IsNodeAt, IsClientAt, IsPlainJournal}
 use Rattle.sc_budget_law.proofs.BetweenBegun.{IsMore, mail_more, node_more}
 use Rattle.sc_budget_law.proofs.BetweenStage.{frames_of, IsStage}

@@ -2,36 +2,20 @@
 use Rattle.std.proofs.Common.{◌≡◌, ℕ, ◌+◌, ◌≤◌, eqb, false, cond, List, [], ◌∷◌, ◌++◌, length, map, drop, find, Some, inl, inr, refl, sym, ◌∙◌, ap, subst, arith}
 use Rattle.std.specs.Option.{option_map}
 use Rattle.std.proofs.lemmas.Bool.{cases_eq, both_ways, eq-eqb}
-use Rattle.sc_base.specs.Among.{Among, Each}
-use Rattle.sc_base.specs.Limits.{client_actor}
-use Rattle.sc_base.specs.declared.ops.Op.{Op}
-use Rattle.sc_cmd.specs.declared.orders.OrderLine.{OrderLine}
-use Rattle.sc_mail.specs.declared.bodies.Mail.{Mail}
-use Rattle.sc_actor.specs.declared.actors.Seat.{Seat}
-use Rattle.sc_actor.specs.declared.rows.Event.{Event}
-use Rattle.sc_actor.specs.declared.rows.Event.TheVariants.{Deliver, Tick, Go, Told, Crash, Drop, Again}
-use Rattle.sc_actor.specs.declared.rows.Input.TheVariants.{Got, Go as GoInput}
-use Rattle.sc_actor.specs.Mail.{mails}
-use Rattle.sc_actor.specs.Replay.{value, acted, input_of}
-use Rattle.sc_actor.specs.System.{System, row_of, has_gone, waiting, kth}
-use Rattle.sc_actor.proofs.ReplayLemmas.{value-snoc}
-use Rattle.sc_paxos_words.proofs.ListLemmas.{Each-weaker}
-use Rattle.sc_node_table.specs.Node.{is_node, node_table}
-use Rattle.sc_node_table.specs.Replica.{last_slot}
+use Rattle.sc_base.specs.Definitions.{Among, Each, client_actor}
+use Rattle.sc_node_table.specs.Values.{Op, OrderLine, Mail, Seat, Event, Deliver, Tick, Go, Crash, Drop, Again, Got, Node}
+use Rattle.sc_actor.specs.declared.rows.Event.TheVariants.{Told}
+use Rattle.sc_actor.specs.declared.rows.Input.TheVariants.{Go as GoInput}
+use Rattle.sc_actor.specs.Definitions.{mails, value, acted, input_of, System, row_of, has_gone, waiting, kth}
+use Rattle.sc_actor.proofs.Lemmas.{value-snoc}
+use Rattle.sc_paxos_words.proofs.Lemmas.{Each-weaker}
+use Rattle.sc_node_table.specs.Definitions.{is_node, node_table, last_slot}
 use Rattle.sc_scenario.specs.declared.scenarios.Asks.{Asks}
 use Rattle.sc_scenario.specs.declared.scenarios.Scenario.{Scenario}
-use Rattle.sc_sound.specs.Players.{Player, player_table, node_seat, births, system_of, as_nodes}
-use Rattle.sc_mail.specs.declared.roles.Role.TheVariants.{Node}
-use Rattle.sc_orderly_law.specs.Orderly.{IsTidy, IsOrderly, IsInOrder, rest, mail_for, taken, deliveries}
-use Rattle.sc_orderly_law.specs.Owing.{owed, owed_at_birth, owed_by}
-use Rattle.sc_orderly_law.proofs.Paying.{IsPaid, pays}
-use Rattle.sc_orderly_law.proofs.Resting.{TakesFirst, takes_first, is_born-from, rest-row}
-use Rattle.sc_budget_law.specs.Between.{mark}
-use Rattle.sc_budget_law.specs.BetweenJournal.{marks_for, marks_at, next_in, replica_at}
-use Rattle.sc_budget_law.specs.BetweenRows.{IsOther}
-use Rattle.sc_budget_law.specs.Owed.{player_owes, mail_owes}
-use Rattle.sc_budget_law.specs.PlainClient.{IsBegun}
-use Rattle.sc_budget_law.specs.PlainMail.{Requests, IsPlainMail}
+use Rattle.sc_sound.specs.Definitions.{Player, player_table, node_seat, births, system_of, as_nodes}
+use Rattle.sc_orderly_law.specs.Definitions.{IsTidy, IsOrderly, IsInOrder, rest, mail_for, taken, deliveries, owed, owed_at_birth, owed_by}
+use Rattle.sc_orderly_law.proofs.Lemmas.{IsPaid, pays, TakesFirst, takes_first, is_born-from, rest-row}
+use Rattle.sc_budget_law.specs.Definitions.{mark, marks_for, marks_at, next_in, replica_at, IsOther, player_owes, mail_owes, IsBegun, Requests, IsPlainMail}
 use Rattle.sc_budget_law.proofs.BetweenAll.{owing_of, IsNodeAt, IsPlainJournal}
 use Rattle.sc_budget_law.proofs.BetweenBegun.{mail_more, node_more}
 use Rattle.sc_budget_law.proofs.BetweenGroups.{due, group_idle, group_after}

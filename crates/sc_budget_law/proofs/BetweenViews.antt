@@ -2,22 +2,14 @@
 use Rattle.std.proofs.Common.{◌≡◌, ℕ, ◌&&◌, true, false, cond, List, [], ◌∷◌, ◌++◌, map, drop, None, refl, sym, ◌∙◌, ap}
 use Rattle.std.proofs.lemmas.Bool.{cond-true, cond-false, ne_eqb, eq-eqb}
 use Rattle.std.proofs.lemmas.List.{map-append, drop-map}
-use Rattle.sc_base.specs.declared.names.Draw.{Draw}
-use Rattle.sc_cmd.specs.declared.orders.OrderLine.{OrderLine}
-use Rattle.sc_mail.specs.declared.bodies.Mail.{Mail}
-use Rattle.sc_actor.specs.declared.rows.Row.{Row}
-use Rattle.sc_actor.specs.Mail.{mails, is_delivery}
-use Rattle.sc_actor.specs.Replay.{value, acted, input_of}
-use Rattle.sc_actor.proofs.ReplayLemmas.{value-snoc}
-use Rattle.sc_node_table.specs.Node.{replica_of, is_node}
-use Rattle.sc_node_table.specs.Replica.{next}
+use Rattle.sc_node_table.specs.Values.{Draw, OrderLine, Mail, Row}
+use Rattle.sc_actor.specs.Definitions.{mails, is_delivery, value, acted, input_of}
+use Rattle.sc_actor.proofs.Lemmas.{value-snoc}
+use Rattle.sc_node_table.specs.Definitions.{replica_of, is_node, next}
 use Rattle.sc_scenario.specs.declared.scenarios.Scenario.{Scenario}
-use Rattle.sc_sound.specs.Players.{Player, player_table, node_seat, system_of, as_nodes}
-use Rattle.sc_orderly_law.specs.Orderly.{rest, mail_for, taken}
-use Rattle.sc_budget_law.specs.Frames.{Frame}
-use Rattle.sc_budget_law.specs.Between.{Mark, mark, IsBetween}
-use Rattle.sc_budget_law.specs.BetweenJournal.{marks_for, replicas_of, replica_at, view_at, marks_at}
-use Rattle.sc_budget_law.specs.BetweenRows.{Moves, IsTaken}
+use Rattle.sc_sound.specs.Definitions.{Player, player_table, node_seat, system_of, as_nodes}
+use Rattle.sc_orderly_law.specs.Definitions.{rest, mail_for, taken}
+use Rattle.sc_budget_law.specs.Definitions.{Frame, Mark, mark, IsBetween, marks_for, replicas_of, replica_at, view_at, marks_at, Moves, IsTaken}
 use Rattle.sc_budget_law.proofs.BetweenMoves.{between-row}
 
 -- rows of the system

@@ -1,25 +1,17 @@
 -- Every lawful journal of a plain scenario is a plain journal.
 use Rattle.std.proofs.Common.{◌≡◌, ℕ, ◌+◌, ◌≤◌, eqb, List, [], ◌∷◌, ◌++◌, map, find, Some, ◌⊎◌, inl, inr, sym, ◌∙◌, ap, subst, arith}
-use Rattle.sc_base.specs.Among.{Among, Each}
-use Rattle.sc_cmd.specs.declared.orders.OrderLine.{OrderLine}
-use Rattle.sc_mail.specs.declared.bodies.Mail.{Mail}
-use Rattle.sc_actor.specs.declared.actors.Seat.{Seat}
-use Rattle.sc_actor.specs.declared.rows.Row.{Row}
-use Rattle.sc_actor.specs.declared.schedules.Line.{Line}
-use Rattle.sc_actor.specs.System.{System, row_of}
-use Rattle.sc_actor.specs.Walk.{IsLawful}
-use Rattle.sc_paxos_words.proofs.ListLemmas.{find_found}
-use Rattle.sc_node_table.specs.Replica.{last_slot}
-use Rattle.sc_node_table.specs.Slots.{numbers_from}
+use Rattle.sc_base.specs.Definitions.{Among, Each}
+use Rattle.sc_node_table.specs.Values.{OrderLine, Mail, Seat, Row, Line}
+use Rattle.sc_actor.specs.Definitions.{System, row_of, IsLawful}
+use Rattle.sc_paxos_words.proofs.Lemmas.{find_found}
+use Rattle.sc_node_table.specs.Definitions.{last_slot, numbers_from}
 use Rattle.sc_scenario.specs.declared.scenarios.Asks.{Asks}
 use Rattle.sc_scenario.specs.declared.scenarios.Scenario.{Scenario}
-use Rattle.sc_sound.specs.Players.{Player, player_table, node_seat, client_seat, route_of, births, system_of, as_nodes}
-use Rattle.sc_orderly_law.specs.Orderly.{IsPlainLine, IsOrderly, IsInOrder, IsTidy}
-use Rattle.sc_orderly_law.specs.Owing.{owed_at_birth}
-use Rattle.sc_orderly_law.proofs.Ordering.{orderly, by_rows}
-use Rattle.sc_orderly_law.proofs.Resting.{tidy}
-use Rattle.sc_actor.proofs.WalkLemmas.{lawful-prefix}
-use Rattle.sc_paxos_law.proofs.Among.{Among-either, from_map}
+use Rattle.sc_sound.specs.Definitions.{Player, player_table, node_seat, client_seat, route_of, births, system_of, as_nodes}
+use Rattle.sc_orderly_law.specs.Definitions.{IsPlainLine, IsOrderly, IsInOrder, IsTidy, owed_at_birth}
+use Rattle.sc_orderly_law.proofs.Lemmas.{orderly, by_rows, tidy}
+use Rattle.sc_actor.proofs.Lemmas.{lawful-prefix}
+use Rattle.sc_paxos_law.proofs.Lemmas.{Among-either, from_map}
 use Rattle.sc_budget_law.proofs.BetweenAll.{owing_of, IsPlainJournal}
 use Rattle.sc_budget_law.proofs.BetweenClients.{client_event}
 use Rattle.sc_budget_law.proofs.BetweenStage.{frames_of, IsStage}

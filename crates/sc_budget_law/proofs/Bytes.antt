@@ -2,28 +2,16 @@
 use Rattle.std.proofs.Common.{◌≡◌, ℕ, ◌+◌, ◌-◌, ◌*◌, ◌≤◌, List, [], ◌∷◌, length, Option, Some, None, refl, ap, arith, length-append}
 use Rattle.std.specs.List.{sum_by}
 use Rattle.std.proofs.lemmas.List.Sums.{sum_by-cons}
-use Rattle.sc_base.specs.Among.{Each}
-use Rattle.sc_base.specs.declared.ops.Op.{Op}
-use Rattle.sc_base.specs.declared.ops.Op.TheVariants.{Get, Put, Del, Add, Cas}
-use Rattle.sc_cmd.specs.Weight.{op_weight, value_weight, command_weight}
-use Rattle.sc_cmd.specs.declared.commands.Command.{Command}
-use Rattle.sc_cmd.specs.declared.commands.Command.TheVariants.{Call, Noop, Join, Leave, Split, Begin, Prepared, RecordVote, GiveUp, Finish, Watched, RecordWatch}
-use Rattle.sc_cmd.specs.declared.orders.OrderLine.{OrderLine}
-use Rattle.sc_mail.specs.Weight.{body_weight}
-use Rattle.sc_mail.specs.declared.bodies.AnswerBody.TheVariants.{Value, NotLeader, NotMine, Gone, Stale}
-use Rattle.sc_mail.specs.declared.bodies.Mail.{Mail}
-use Rattle.sc_mail.specs.declared.bodies.MailBody.{MailBody}
-use Rattle.sc_mail.specs.declared.bodies.MailBody.TheVariants.{Request, Answer, Prepare, Promise, Accept, Accepted, Nack, Learn, Ask, Install, TxPrepare, TxVote, TxOutcome, TxElsewhere, TxWatch, TxWatched, Told as ToldMail}
-use Rattle.sc_actor.specs.Counted.{mail_bytes, row_bytes, journal_bytes}
-use Rattle.sc_actor.specs.declared.rows.Row.{Row}
-use Rattle.sc_actor.specs.Mail.{mails}
-use Rattle.sc_scenario.specs.Valid.{IsShortOp, IsBounded, IsBoundedClient}
+use Rattle.sc_base.specs.Definitions.{Each}
+use Rattle.sc_node_table.specs.Values.{Op, Get, Put, Del, Add, Cas, Command, Call, Noop, Join, Leave, Split, Begin, Prepared, RecordVote, GiveUp, Finish, Watched, RecordWatch, OrderLine, Value, NotLeader, NotMine, Gone, Stale, Mail, MailBody, Request, Answer, Prepare, Promise, Accept, Accepted, Nack, Learn, Ask, Install, TxPrepare, TxVote, TxOutcome, TxElsewhere, TxWatch, TxWatched, Told as ToldMail, Row}
+use Rattle.sc_cmd.specs.Definitions.{op_weight, value_weight, command_weight}
+use Rattle.sc_mail.specs.Definitions.{body_weight}
+use Rattle.sc_actor.specs.Definitions.{mail_bytes, row_bytes, journal_bytes, mails}
+use Rattle.sc_scenario.specs.Definitions.{IsShortOp, IsBounded, IsBoundedClient}
 use Rattle.sc_scenario.specs.declared.scenarios.Scenario.{Scenario}
-use Rattle.sc_paxos_words.proofs.ListLemmas.{Each-among, Each-from_All, Each-split}
-use Rattle.sc_paxos_law.proofs.Among.{place_among}
-use Rattle.sc_budget_law.specs.Frames.{Frame}
-use Rattle.sc_budget_law.specs.PlainClient.{IsBegun}
-use Rattle.sc_budget_law.specs.PlainMail.{Requests, written_by, IsWrittenValue, IsPlainCommand, IsPlainBody, IsPlainMail}
+use Rattle.sc_paxos_words.proofs.Lemmas.{Each-among, Each-from_All, Each-split}
+use Rattle.sc_paxos_law.proofs.Lemmas.{place_among}
+use Rattle.sc_budget_law.specs.Definitions.{Frame, IsBegun, Requests, written_by, IsWrittenValue, IsPlainCommand, IsPlainBody, IsPlainMail}
 use Rattle.sc_budget_law.proofs.Lists.{some_is}
 
 -- ---- what a mail weighs

@@ -6,45 +6,23 @@ use Rattle.std.specs.Map.{set_value, remove_entry}
 use Rattle.std.proofs.lemmas.Bool.{cond_both, cond-true, cond-false, cases_Bool, eqb-true, leb-true, leb-false, le-leb, and_parts, and_from, eq-eqb, both_ways}
 use Rattle.std.proofs.lemmas.List.{length_push, length-map, length-take-le}
 use Rattle.std.proofs.lemmas.Option.{slice_get-get_or, slice_get_within}
-use Rattle.sc_base.specs.Among.{Among, Each}
-use Rattle.sc_base.specs.Arc.{Arc, end_of}
-use Rattle.sc_base.specs.Limits.{client_actor}
-use Rattle.sc_base.specs.Operation.{key_of}
-use Rattle.sc_base.specs.Same.{same_draw}
-use Rattle.sc_base.specs.Text.{pos_of}
-use Rattle.sc_base.specs.declared.names.Draw.{Draw}
-use Rattle.sc_base.specs.declared.ops.Op.{Op}
-use Rattle.sc_base.specs.declared.ops.Op.TheVariants.{Get}
-use Rattle.sc_base.specs.declared.ops.Reply.{Reply}
-use Rattle.sc_base.proofs.NameLemmas.{draw_is, same_name}
-use Rattle.sc_ideal.specs.IdealStore.{holds_key}
-use Rattle.sc_actor.specs.declared.rows.Input.TheVariants.{Got, Go}
-use Rattle.sc_cmd.specs.declared.links.Link.{Link}
-use Rattle.sc_cmd.specs.declared.links.Route.{Route}
-use Rattle.sc_lookup.specs.Known.{KnownGroups, way_to, nearer, better, chosen, target_in, changed, preferring, starting, group_learnt, told_not_mine, told_gone}
-use Rattle.sc_lookup.specs.Ways.{far, new_way, target_of}
+use Rattle.sc_base.specs.Definitions.{Among, Each, Arc, end_of, client_actor, key_of, same_draw, pos_of}
+use Rattle.sc_node_table.specs.Values.{Draw, Op, Get, Reply, Got, Link, Route, AnswerBody, Value, NotLeader, NotMine, Gone, Stale, Mail, MailBody, Request, Answer, Prepare, Promise, Accept, Accepted, Nack, Learn, Ask, Install, TxPrepare, TxVote, TxOutcome, TxElsewhere, TxWatch, TxWatched, Told}
+use Rattle.sc_base.proofs.Lemmas.{draw_is, same_name}
+use Rattle.sc_ideal.specs.Definitions.{holds_key}
+use Rattle.sc_actor.specs.declared.rows.Input.TheVariants.{Go}
+use Rattle.sc_lookup.specs.Definitions.{KnownGroups, way_to, nearer, better, chosen, target_in, changed, preferring, starting, group_learnt, told_not_mine, told_gone, far, new_way, target_of}
 use Rattle.sc_lookup.specs.declared.ways.Way.{Way}
-use Rattle.sc_mail.specs.declared.bodies.AnswerBody.{AnswerBody}
-use Rattle.sc_mail.specs.declared.bodies.AnswerBody.TheVariants.{Value, NotLeader, NotMine, Gone, Stale}
-use Rattle.sc_mail.specs.declared.bodies.Mail.{Mail}
-use Rattle.sc_mail.specs.declared.bodies.MailBody.{MailBody}
-use Rattle.sc_mail.specs.declared.bodies.MailBody.TheVariants.{Request, Answer, Prepare, Promise, Accept, Accepted, Nack, Learn, Ask, Install, TxPrepare, TxVote, TxOutcome, TxElsewhere, TxWatch, TxWatched, Told}
-use Rattle.sc_paxos_law.proofs.Among.{from_map, Among-left}
-use Rattle.sc_client_table.specs.Client.{Client as ClientState, request_at, waiting_request}
-use Rattle.sc_client_table.specs.Table.{ClientStep, asked_of, sent_to, sent_where, chosen_for, request_sent, started, waits_for, was_asked, redirected, answer_taken, got, table}
+use Rattle.sc_paxos_law.proofs.Lemmas.{from_map, Among-left}
+use Rattle.sc_client_table.specs.Definitions.{Client as ClientState, request_at, waiting_request, ClientStep, asked_of, sent_to, sent_where, chosen_for, request_sent, started, waits_for, was_asked, redirected, answer_taken, got, table}
 use Rattle.sc_scenario.specs.declared.scenarios.Asks.{Asks}
-use Rattle.sc_budget_law.specs.CalmAsking.{IsLinkedSetting, Knows, CanBeAsked, IsCalmClient, BeginsBy, StaysCalm, ClientsStayCalm}
-use Rattle.sc_budget_law.specs.CalmClient.{start_known}
-use Rattle.sc_budget_law.specs.CalmNode.{Setting, IsHome, HasGoneTo, IsSetting, IsAsideBody, IsCalmMail}
-use Rattle.sc_budget_law.specs.Frames.{Frame}
-use Rattle.sc_budget_law.specs.Owed.{begun_ones}
-use Rattle.sc_budget_law.specs.PlainClient.{IsWaiting, IsResting, IsBegun}
-use Rattle.sc_budget_law.specs.PlainMail.{Requests, IsPlainBody}
+use Rattle.sc_budget_law.specs.Definitions.{IsLinkedSetting, Knows, CanBeAsked, IsCalmClient, BeginsBy, StaysCalm, ClientsStayCalm, start_known, Setting, IsHome, HasGoneTo, IsSetting, IsAsideBody, IsCalmMail, Frame, begun_ones, IsWaiting, IsResting, IsBegun, Requests, IsPlainBody}
 use Rattle.sc_budget_law.proofs.CalmKnowing.{name_in, id_of, gap, one_of_one, preferring_names, preferring_starts, learn_in_turn}
 use Rattle.sc_budget_law.proofs.Clients.{asking}
 use Rattle.sc_budget_law.proofs.Knowing.{chosen_is, one_chosen}
 use Rattle.sc_budget_law.proofs.Lists.{some_is, map_among}
 use Rattle.sc_budget_law.proofs.Sends.{mail_of}
+use Rattle.sc_budget_law.proofs.BetweenGrows.{request_same as sent_begun}
 
 -- ---- what is known of a group
 
@@ -118,22 +96,10 @@ chosen_same p [] (y ∷ ys) e = cc
 chosen_same p (x ∷ xs) [] e = cc
 
 -- the chosen group is known
-chosen_among : (p : ℕ) (known : KnownGroups) (group : Draw) → chosen p known ≡ Some group → Among group (map name_in known)
+pub chosen_among : (p : ℕ) (known : KnownGroups) (group : Draw) → chosen p known ≡ Some group → Among group (map name_in known)
 chosen_among p known group e = (let c = chosen_is p known group e in subst (λ d. Among d (map name_in known)) c.name (map_among name_in known c.entry c.stands))
 
 -- ---- how many requests are begun
-
-asked_begun : (client : ClientState) (group : Draw) (target : Option ℕ) (request : Option (ℕ × Op)) → begun_ones (asked_of client group target request).0 ≡ begun_ones client
-asked_begun client group (Some target) (Some request) = refl
-asked_begun client group (Some target) None = refl
-asked_begun client group None request = refl
-
-sent_begun : (client : ClientState) → begun_ones (request_sent client).0 ≡ begun_ones client
-sent_begun client = by (chosen_for client (waiting_request client))
-  where
-    by : (o : Option Draw) → begun_ones (sent_where client o).0 ≡ begun_ones client
-    by (Some group) = asked_begun client group (target_in group client.known) (waiting_request client)
-    by None = refl
 
 started_begun : (seq : ℕ) (client : ClientState) → seq ≤ length client.requests → begun_ones (started seq client).0 ≡ length client.replies + 1
 started_begun seq client le =
@@ -509,6 +475,7 @@ waiting_home set asks gone client k w = by (way_to w.group client.known) refl w.
     by None e t = cc
     by (Some way) e t = subst (IsHome set w.group) (some_is t) (lookup_has (CanBeAsked set) client.known w.group way e (k.targets few))
 
+-- Between two orders, while clients ask alone, a client that goes or takes mail stays calm: it asks nodes that have a replica of the group, and its request goes where its answers send it.
 pub clients_calm : ClientsStayCalm
 clients_calm = record {
   go = λ scenario rows set asks client k now. (go_calm set asks (IsBegun scenario rows) client k now).0;

@@ -4,20 +4,17 @@ use Rattle.std.specs.Prelude.{is_some}
 use Rattle.std.specs.Map.{lookup, set_value}
 use Rattle.std.proofs.lemmas.Bool.{cond_both, cond-true, cond-false, cases_Bool, cases_lt, ltb-false}
 use Rattle.std.proofs.lemmas.List.{length-take-le}
-use Rattle.sc_base.specs.Among.{Among}
-use Rattle.sc_base.specs.Arc.{holds, end_of}
-use Rattle.sc_base.specs.Same.{same_draw}
-use Rattle.sc_base.specs.declared.names.Draw.{Draw}
-use Rattle.sc_base.proofs.NameLemmas.{draw_is, same_name}
-use Rattle.sc_paxos_words.proofs.ListLemmas.{Each-among}
+use Rattle.sc_base.specs.Definitions.{Among, holds, end_of, same_draw}
+use Rattle.sc_node_table.specs.Values.{Draw}
+use Rattle.sc_base.proofs.Lemmas.{draw_is, same_name}
+use Rattle.sc_paxos_words.proofs.Lemmas.{Each-among}
 use Rattle.sc_lookup.specs.declared.ways.Way.{Way}
-use Rattle.sc_lookup.specs.Ways.{far, new_way}
-use Rattle.sc_lookup.specs.Known.{KnownGroups, way_to, chosen, changed, preferring, starting, told_not_mine}
-use Rattle.sc_paxos_law.proofs.Among.{from_map, Among-left, Among-right, Among-either}
-use Rattle.sc_budget_law.specs.CalmClient.{FollowedBy, AreRoundRing, start_of, start_known, KnowsFirst, ClientsLearnInTurn}
-use Rattle.sc_budget_law.specs.Frames.{Frame}
-use Rattle.sc_budget_law.proofs.Knowing.{IsChosen, chosen_is, parts_of, map_push, take_front}
+use Rattle.sc_lookup.specs.Definitions.{far, new_way, KnownGroups, way_to, chosen, changed, preferring, starting, told_not_mine}
+use Rattle.sc_paxos_law.proofs.Lemmas.{from_map, Among-left, Among-right, Among-either}
+use Rattle.sc_budget_law.specs.Definitions.{FollowedBy, AreRoundRing, start_of, start_known, KnowsFirst, ClientsLearnInTurn, Frame}
+use Rattle.sc_budget_law.proofs.Knowing.{IsChosen, chosen_is, parts_of, take_front}
 use Rattle.sc_budget_law.proofs.Lists.{map_among}
+use Rattle.sc_budget_law.proofs.Knowing.{map_push as map_last}
 
 abbrev pub name_in : Draw × Way → Draw
 name_in entry = entry.0
@@ -30,13 +27,10 @@ abbrev pub gap : ℕ → ℕ → ℕ
 gap p lo = ((p + 2 ^ 32) - lo) % 2 ^ 32
 
 -- a position that an arc lacks is nearer to the arc's end than to its start
-near_behind : (p lo len : ℕ) → lo < 2 ^ 32 → 1 ≤ len → len ≤ 2 ^ 32 → len ≤ ((p + 2 ^ 32) - lo) % 2 ^ 32 → ((p + 2 ^ 32) - (lo + len) % 2 ^ 32) % 2 ^ 32 < ((p + 2 ^ 32) - lo) % 2 ^ 32
+pub near_behind : (p lo len : ℕ) → lo < 2 ^ 32 → 1 ≤ len → len ≤ 2 ^ 32 → len ≤ ((p + 2 ^ 32) - lo) % 2 ^ 32 → ((p + 2 ^ 32) - (lo + len) % 2 ^ 32) % 2 ^ 32 < ((p + 2 ^ 32) - lo) % 2 ^ 32
 near_behind p lo len low some most lacks = omega arith
 
 -- ---- lists
-
-map_last : {X Y : Type 0} (f : X → Y) (xs : List X) (x : X) → map f (xs ++ x ∷ []) ≡ map f xs ++ f x ∷ []
-map_last f xs x = map_push f xs x
 
 -- in lists of one length with an end each, an equation of both
 pub one_of_one : {X : Type 0} (f : X → Draw) (xs : List X) (d : Draw) → map f xs ≡ d ∷ [] → (x : X) × (xs ≡ x ∷ []) × (f x ≡ d)
@@ -310,6 +304,7 @@ module _ (frames : List Frame) (ring : AreRoundRing frames) where
     learns_next : (way_to frame.core.succ.group known ≡ None) × KnowsFirst frames (reached + 1) (told_not_mine frame.core.id frame.core.arc frame.core.succ known)
     learns_next = (is_new known k.names, record { some = omega arith; low = more; names = names_after; starts = λ two. starts_after })
 
+-- Between two orders a client comes to know the groups that stand round the ring, one after another, from the one that it reached first: told that a key is not that group's which it chose, it learns the next one, which it did not know. Only where that first one starts may be old.
 pub learn_in_turn : ClientsLearnInTurn
 learn_in_turn = record {
   not_mine = λ frames reached p frame known ring k a c lacks. learns_next frames ring reached p frame known k a c lacks;

@@ -1,32 +1,14 @@
 -- A node that takes mail while clients ask alone, between two orders.
 use Rattle.std.proofs.Common.{◌≡◌, ℕ, ◌+◌, ◌≤◌, true, false, List, [], ◌∷◌, Option, Some, None, ◌⊎◌, inl, inr, refl, sym, ◌∙◌, ap, subst}
 use Rattle.std.proofs.lemmas.Bool.{cond-true, cond-false, cases_Bool, both_ways}
-use Rattle.sc_base.specs.Among.{Each}
-use Rattle.sc_base.specs.Limits.{client_actor}
-use Rattle.sc_base.specs.Same.{same_draw}
-use Rattle.sc_base.specs.declared.names.Draw.{Draw}
-use Rattle.sc_base.specs.declared.ops.Op.{Op}
-use Rattle.sc_base.proofs.NameLemmas.{draw_is, same_name}
-use Rattle.sc_actor.specs.declared.rows.Input.TheVariants.{Got}
-use Rattle.sc_cmd.specs.declared.cores.Core.{Core}
-use Rattle.sc_cmd.specs.declared.links.Route.{Route}
-use Rattle.sc_mail.specs.declared.bodies.AnswerBody.{AnswerBody}
+use Rattle.sc_base.specs.Definitions.{Each, client_actor, same_draw, is_member}
+use Rattle.sc_node_table.specs.Values.{Draw, Op, Got, Core, Route, AnswerBody, Mail, MailBody, Request, Answer, Prepare, Promise, Accept, Accepted, Nack, Learn, Ask, Install, TxPrepare, TxVote, TxOutcome, TxElsewhere, TxWatch, TxWatched, Told}
+use Rattle.sc_base.proofs.Lemmas.{draw_is, same_name}
 use Rattle.sc_mail.specs.declared.bodies.AnswerBody.TheVariants as Says
-use Rattle.sc_mail.specs.declared.bodies.Mail.{Mail}
-use Rattle.sc_mail.specs.declared.bodies.MailBody.{MailBody}
-use Rattle.sc_mail.specs.declared.bodies.MailBody.TheVariants.{Request, Answer, Prepare, Promise, Accept, Accepted, Nack, Learn, Ask, Install, TxPrepare, TxVote, TxOutcome, TxElsewhere, TxWatch, TxWatched, Told}
-use Rattle.sc_machine_table.specs.Group.{Group}
-use Rattle.sc_base.specs.Roster.{is_member}
-use Rattle.sc_paxos_words.proofs.ListLemmas.{Each-weaker, find_found}
-use Rattle.sc_node_table.specs.Node.{NodeState, replica_of, with_replica, node_table}
-use Rattle.sc_node_table.specs.Replica.{ReplicaState, Executed, childless, name_of}
-use Rattle.sc_node_table.specs.Rows.{mailed, call_refusal, requested, request_row}
-use Rattle.sc_budget_law.specs.Between.{Other, mark}
-use Rattle.sc_budget_law.specs.CalmNode.{Setting, IsHome, HasGoneTo, IsSetting, IsNearer, KnowsBetter, IsCalmNode, IsAsideAnswer, IsAsideBody, IsCalmMail, ComesInTime, NodesStayCalm}
-use Rattle.sc_budget_law.specs.Frames.{IsFrame}
-use Rattle.sc_budget_law.specs.PlainClient.{IsBegun}
-use Rattle.sc_budget_law.specs.PlainMail.{Requests, IsPlainBody, IsPlainMail}
-use Rattle.sc_budget_law.specs.PlainNode.{IsPlainAt}
+use Rattle.sc_machine_table.specs.Definitions.{Group}
+use Rattle.sc_paxos_words.proofs.Lemmas.{Each-weaker, find_found}
+use Rattle.sc_node_table.specs.Definitions.{NodeState, replica_of, with_replica, node_table, ReplicaState, Executed, childless, name_of, mailed, call_refusal, requested, request_row}
+use Rattle.sc_budget_law.specs.Definitions.{Other, mark, Setting, IsHome, HasGoneTo, IsSetting, IsNearer, KnowsBetter, IsCalmNode, IsAsideAnswer, IsAsideBody, IsCalmMail, ComesInTime, NodesStayCalm, IsFrame, IsBegun, Requests, IsPlainBody, IsPlainMail, IsPlainAt}
 use Rattle.sc_budget_law.proofs.Lists.{some_is}
 use Rattle.sc_budget_law.proofs.NodeRows.{NodeRow, node_row, mail_is, node_plain, node_said, me_after, found_after, others_after}
 use Rattle.sc_budget_law.proofs.ReplicaRows.{DidAccept, Does}
@@ -284,5 +266,6 @@ module _ (begun : Requests) (set : Setting) (is : IsSetting set) (node : NodeSta
   me_stays (inl k) = me_is k
   me_stays (inr a) = ap (λ (x : NodeState × List Mail). x.0.me) (step_is a)
 
+-- Between two orders, while clients ask alone, a node that takes mail stays calm and sends such mail: its replicas of groups that stand stay plain, and all others answer whom to ask or where their group went.
 pub nodes_calm : NodesStayCalm
 nodes_calm scenario rows set node mail is n m to not_client due = stays_by (IsBegun scenario rows) set is node n mail to not_client due (turns (IsBegun scenario rows) set is node n mail to not_client due m)

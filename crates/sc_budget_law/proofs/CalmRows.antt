@@ -1,36 +1,15 @@
 -- The mail of requests lowers what is owed in a calm journal, replica by replica.
 use Rattle.std.proofs.Common.{◌≡◌, ℕ, ◌+◌, ◌*◌, ◌≤◌, ◌&&◌, false, List, [], ◌∷◌, length, map, Option, Some, None, refl, sym, ◌∙◌, ap, subst, arith}
 use Rattle.std.proofs.lemmas.Bool.{both_ways}
-use Rattle.sc_base.specs.Limits.{client_actor}
-use Rattle.sc_base.specs.declared.names.Ballot.{Ballot}
-use Rattle.sc_base.specs.declared.names.Draw.{Draw}
-use Rattle.sc_base.specs.declared.ops.Op.{Op}
-use Rattle.sc_ideal.specs.IdealStore.{key_of, holds_key}
-use Rattle.sc_cmd.specs.declared.commands.Command.{Command}
-use Rattle.sc_cmd.specs.declared.commands.Command.TheVariants.{Noop, Call, Join, Leave, Split, Begin, Prepared, RecordVote, GiveUp, Finish, Watched, RecordWatch}
-use Rattle.sc_cmd.specs.declared.cores.Core.{Core}
-use Rattle.sc_cmd.specs.declared.links.Route.{Route}
-use Rattle.sc_mail.specs.declared.bodies.AnswerBody.{AnswerBody}
+use Rattle.sc_base.specs.Definitions.{client_actor, is_member}
+use Rattle.sc_node_table.specs.Values.{Ballot, Draw, Op, Command, Noop, Call, Join, Leave, Split, Begin, Prepared, RecordVote, GiveUp, Finish, Watched, RecordWatch, Core, Route, AnswerBody, MailBody, Request, Answer, Prepare, Promise, Accept, Accepted, Nack, Learn, Ask, Install, TxPrepare, TxVote, TxOutcome, TxElsewhere, TxWatch, TxWatched, Told, Flight}
+use Rattle.sc_ideal.specs.Definitions.{key_of, holds_key}
 use Rattle.sc_mail.specs.declared.bodies.AnswerBody.TheVariants as Says
-use Rattle.sc_mail.specs.declared.bodies.MailBody.{MailBody}
-use Rattle.sc_mail.specs.declared.bodies.MailBody.TheVariants.{Request, Answer, Prepare, Promise, Accept, Accepted, Nack, Learn, Ask, Install, TxPrepare, TxVote, TxOutcome, TxElsewhere, TxWatch, TxWatched, Told}
-use Rattle.sc_base.specs.Roster.{is_member}
-use Rattle.sc_paxos_words.specs.Ballots.{below}
-use Rattle.sc_paxos_words.specs.declared.flights.Flight.{Flight}
-use Rattle.sc_paxos_words.proofs.ListLemmas.{Each-weaker}
-use Rattle.sc_node_table.specs.Execute.{entered}
-use Rattle.sc_node_table.specs.Pump.{serves_calls}
-use Rattle.sc_node_table.specs.Replica.{ReplicaState, Place, name_of, next}
-use Rattle.sc_node_table.specs.Rows.{mailed, refused_at, call_refusal, requested, request_row}
-use Rattle.sc_node_table.specs.Slots.{slots_ahead, numbers_from}
-use Rattle.sc_calm_law.specs.Executing.{AreBounded, IsServedCall, ServesAll, CallVotesLower}
-use Rattle.sc_calm_law.specs.Laws.{AreNines, MayPump, Lowers, AnswersLower, Follows, LearnsLower, Points, AsksLower}
-use Rattle.sc_calm_law.specs.Owed.{Ways, answer_owes, place_owes}
-use Rattle.sc_budget_law.specs.CalmRows.{RequestsLower}
-use Rattle.sc_budget_law.specs.Frames.{Frame, IsFrame}
-use Rattle.sc_budget_law.specs.PlainClient.{IsBegun}
-use Rattle.sc_budget_law.specs.PlainMail.{Requests, IsPlainCall, IsPlainCommand, IsPlainBody}
-use Rattle.sc_budget_law.specs.PlainNode.{IsPlainFlight, IsPlainFollower, IsPlainReplica, IsLeading, IsPlainAt, IsDue}
+use Rattle.sc_paxos_words.specs.Definitions.{below}
+use Rattle.sc_paxos_words.proofs.Lemmas.{Each-weaker}
+use Rattle.sc_node_table.specs.Definitions.{entered, serves_calls, ReplicaState, Place, name_of, next, mailed, refused_at, call_refusal, requested, request_row, slots_ahead, numbers_from}
+use Rattle.sc_calm_law.specs.Definitions.{AreBounded, IsServedCall, ServesAll, CallVotesLower, AreNines, MayPump, Lowers, AnswersLower, Follows, LearnsLower, Points, AsksLower, Ways, answer_owes, place_owes}
+use Rattle.sc_budget_law.specs.Definitions.{RequestsLower, Frame, IsFrame, IsBegun, Requests, IsPlainCall, IsPlainCommand, IsPlainBody, IsPlainFlight, IsPlainFollower, IsPlainReplica, IsLeading, IsPlainAt, IsDue}
 use Rattle.sc_budget_law.proofs.Entry.{entered_plain}
 use Rattle.sc_budget_law.proofs.Pumping.{call_is}
 use Rattle.sc_budget_law.proofs.ReplicaRows.{leading_at, following_at, none_stops}

@@ -5,33 +5,15 @@ use Rattle.std.specs.Option.{option_map}
 use Rattle.std.proofs.lemmas.Bool.{cond_both, cond-true, eqb-true, leb-true, leb-false, le-leb, lt-ltb, and_parts, eq-eqb, both_ways, and_from}
 use Rattle.std.proofs.lemmas.List.{length_push, length-map, length-take-le, take-map}
 use Rattle.std.proofs.lemmas.Option.{slice_get-get_or, slice_get_within}
-use Rattle.sc_base.specs.Among.{Among, Each}
-use Rattle.sc_base.specs.Arc.{Arc}
-use Rattle.sc_base.specs.Limits.{client_actor}
-use Rattle.sc_base.specs.Operation.{key_of}
-use Rattle.sc_base.specs.Same.{same_draw}
-use Rattle.sc_base.specs.Text.{pos_of}
-use Rattle.sc_base.specs.declared.names.Draw.{Draw}
-use Rattle.sc_base.specs.declared.ops.Op.{Op}
-use Rattle.sc_base.specs.declared.ops.Op.TheVariants.{Get}
-use Rattle.sc_base.specs.declared.ops.Reply.{Reply}
-use Rattle.sc_base.proofs.NameLemmas.{draw_is, same_name}
-use Rattle.sc_actor.specs.declared.rows.Input.TheVariants.{Got, Go}
-use Rattle.sc_ideal.specs.IdealStore.{holds_key}
-use Rattle.sc_cmd.specs.declared.links.Link.{Link}
-use Rattle.sc_mail.specs.declared.bodies.AnswerBody.{AnswerBody}
-use Rattle.sc_mail.specs.declared.bodies.AnswerBody.TheVariants.{Value, NotLeader, NotMine, Gone, Stale}
-use Rattle.sc_mail.specs.declared.bodies.Mail.{Mail}
-use Rattle.sc_mail.specs.declared.bodies.MailBody.{MailBody}
-use Rattle.sc_mail.specs.declared.bodies.MailBody.TheVariants.{Request, Answer, Prepare, Promise, Accept, Accepted, Nack, Learn, Ask, Install, TxPrepare, TxVote, TxOutcome, TxElsewhere, TxWatch, TxWatched, Told}
-use Rattle.sc_lookup.specs.Known.{KnownGroups, chosen, target_in, told_not_mine}
-use Rattle.sc_client_table.specs.Client.{Client, request_at, waiting_request}
-use Rattle.sc_client_table.specs.Table.{ClientStep, asked_of, sent_where, chosen_for, request_sent, started, waits_for, was_asked, answer_taken, got, table}
+use Rattle.sc_base.specs.Definitions.{Among, Each, Arc, client_actor, key_of, same_draw, pos_of}
+use Rattle.sc_node_table.specs.Values.{Draw, Op, Get, Reply, Got, Link, AnswerBody, Value, NotLeader, NotMine, Gone, Stale, Mail, MailBody, Request, Answer, Prepare, Promise, Accept, Accepted, Nack, Learn, Ask, Install, TxPrepare, TxVote, TxOutcome, TxElsewhere, TxWatch, TxWatched, Told}
+use Rattle.sc_base.proofs.Lemmas.{draw_is, same_name}
+use Rattle.sc_actor.specs.declared.rows.Input.TheVariants.{Go}
+use Rattle.sc_ideal.specs.Definitions.{holds_key}
+use Rattle.sc_lookup.specs.Definitions.{KnownGroups, chosen, target_in, told_not_mine}
+use Rattle.sc_client_table.specs.Definitions.{Client, request_at, waiting_request, ClientStep, asked_of, sent_where, chosen_for, request_sent, started, waits_for, was_asked, answer_taken, got, table}
 use Rattle.sc_scenario.specs.declared.scenarios.Asks.{Asks}
-use Rattle.sc_budget_law.specs.Frames.{Frame}
-use Rattle.sc_budget_law.specs.Owed.{body_owes, mail_owes, waiting_ones, begun_ones, client_owes}
-use Rattle.sc_budget_law.specs.PlainClient.{way_of, IsWaiting, IsResting, IsPlainClient}
-use Rattle.sc_budget_law.specs.PlainMail.{Requests, IsPlainBody, IsPlainMail}
+use Rattle.sc_budget_law.specs.Definitions.{Frame, body_owes, mail_owes, waiting_ones, begun_ones, client_owes, way_of, IsWaiting, IsResting, IsPlainClient, Requests, IsPlainBody, IsPlainMail}
 use Rattle.sc_budget_law.proofs.Knowing.{IsRound, chosen_frame, target_leads, one_chosen, known_grows, front_frames}
 use Rattle.sc_budget_law.proofs.Sends.{mail_of}
 use Rattle.sc_budget_law.proofs.Lists.{some_is}

@@ -1,26 +1,18 @@
 -- No line of a plain scenario at its budget is cut off with mail pending.
 use Rattle.std.proofs.Common.{ℕ, ◌+◌, ◌≤◌, List, [], ◌∷◌, map, arith}
-use Rattle.sc_base.specs.Among.{Each}
-use Rattle.sc_cmd.specs.declared.orders.OrderLine.{OrderLine}
-use Rattle.sc_mail.specs.declared.bodies.AnswerBody.TheVariants.{Value, NotLeader, NotMine, Gone, Stale}
-use Rattle.sc_mail.specs.declared.bodies.Mail.{Mail}
-use Rattle.sc_mail.specs.declared.bodies.MailBody.{MailBody}
-use Rattle.sc_mail.specs.declared.bodies.MailBody.TheVariants.{Request, Answer, Prepare, Promise, Accept, Accepted, Nack, Learn, Ask, Install, TxPrepare, TxVote, TxOutcome, TxElsewhere, TxWatch, TxWatched, Told as ToldMail}
-use Rattle.sc_actor.specs.Mail.{mails}
-use Rattle.sc_actor.specs.System.{System}
-use Rattle.sc_paxos_words.proofs.ListLemmas.{Each-from}
-use Rattle.sc_node_table.specs.Replica.{last_slot}
-use Rattle.sc_scenario.specs.Valid.{IsBounded, ValidScenariosAreBounded}
+use Rattle.sc_base.specs.Definitions.{Each}
+use Rattle.sc_node_table.specs.Values.{OrderLine, Value, NotLeader, NotMine, Gone, Stale, Mail, MailBody, Request, Answer, Prepare, Promise, Accept, Accepted, Nack, Learn, Ask, Install, TxPrepare, TxVote, TxOutcome, TxElsewhere, TxWatch, TxWatched, Told as ToldMail}
+use Rattle.sc_actor.specs.Definitions.{mails, System}
+use Rattle.sc_paxos_words.proofs.Lemmas.{Each-from}
+use Rattle.sc_node_table.specs.Definitions.{last_slot}
+use Rattle.sc_scenario.specs.Definitions.{IsBounded, ValidScenariosAreBounded}
 use Rattle.sc_scenario.specs.declared.scenarios.Scenario.{Scenario}
 use Rattle.sc_scenario.specs.declared.scenarios.SchedLine.{SchedLine}
 use Rattle.sc_scenario.specs.declared.scenarios.SchedLine.TheVariants.{Go, Deliver, Drop, Again, Tick, Crash, Told, Settle, Free, Storm}
-use Rattle.sc_sound.specs.Players.{Player, line_of, schedule, system_of, as_nodes}
-use Rattle.sc_orderly_law.specs.Orderly.{IsPlainLine}
-use Rattle.sc_orderly_law.specs.Owing.{HasRoom, owed_at_birth}
-use Rattle.sc_orderly_law.proofs.Settling.{never_cut_by}
-use Rattle.sc_budget_law.specs.Budget.{AllowsDeliveries, budget_of}
-use Rattle.sc_budget_law.specs.Owed.{body_owes, mail_owes}
-use Rattle.sc_budget_law.specs.Laws.{PlainLinesEndQuiet}
+use Rattle.sc_sound.specs.Definitions.{Player, line_of, schedule, system_of, as_nodes}
+use Rattle.sc_orderly_law.specs.Definitions.{IsPlainLine, HasRoom, owed_at_birth}
+use Rattle.sc_orderly_law.proofs.Lemmas.{never_cut_by}
+use Rattle.sc_budget_law.specs.Definitions.{AllowsDeliveries, budget_of, body_owes, mail_owes, PlainLinesEndQuiet}
 use Rattle.sc_budget_law.proofs.AtBirth.{birth_within, birth_few, journal_at_birth}
 use Rattle.sc_budget_law.proofs.BetweenAll.{owing_of}
 use Rattle.sc_budget_law.proofs.BetweenStage.{stage}

@@ -1,34 +1,14 @@
 -- One entry of a plain journal, executed by the replica that leads, and by another.
 use Rattle.std.proofs.Common.{◌≡◌, ℕ, ◌+◌, ◌≤◌, not, Bool, true, false, List, [], ◌∷◌, ◌++◌, map, filter, Option, Some, None, inl, inr, refl, sym, ◌∙◌, ap, arith}
 use Rattle.std.proofs.lemmas.Bool.{cond-true, cond-false}
-use Rattle.sc_base.specs.Among.{Among}
-use Rattle.sc_base.specs.declared.ops.Op.{Op}
-use Rattle.sc_cmd.specs.declared.commands.Command.{Command}
-use Rattle.sc_cmd.specs.declared.commands.Command.TheVariants.{Call}
-use Rattle.sc_cmd.specs.declared.cores.Core.{Core}
-use Rattle.sc_cmd.specs.declared.cores.Lock.{Lock}
-use Rattle.sc_cmd.specs.declared.cores.Lock.TheVariants.{Free}
-use Rattle.sc_cmd.specs.declared.effects.Effect.{Effect}
-use Rattle.sc_cmd.specs.declared.links.Route.{Route}
-use Rattle.sc_mail.specs.declared.bodies.AnswerBody.{AnswerBody}
-use Rattle.sc_mail.specs.declared.bodies.Mail.{Mail}
-use Rattle.sc_mail.specs.declared.bodies.MailBody.TheVariants.{Learn}
-use Rattle.sc_base.specs.Roster.{is_member, least_of}
-use Rattle.sc_machine_table.specs.Machine.{applied}
+use Rattle.sc_base.specs.Definitions.{Among, is_member, least_of}
+use Rattle.sc_node_table.specs.Values.{Op, Command, Call, Core, Lock, Free, Effect, Route, AnswerBody, Mail, Learn}
+use Rattle.sc_machine_table.specs.Definitions.{applied}
 use Rattle.sc_node_table.specs.declared.Before.{Before}
-use Rattle.sc_node_table.specs.Election.{stopped}
-use Rattle.sc_node_table.specs.Execute.{entered, answer_of, told_call, told_effect, announced, learnt_to, welcomed, slot_lost, landed, left_gone, left, is_among, looked_for, looked, executed_one}
-use Rattle.sc_node_table.specs.Install.{welcomed_all}
-use Rattle.sc_node_table.specs.Mails.{answer_to, sent_others}
-use Rattle.sc_node_table.specs.Replica.{ReplicaState, Place, name_of, next, members, flying, forgotten, waits_in}
-use Rattle.sc_node_table.specs.Slots.{rest_of, numbers_from, slots_ahead}
-use Rattle.sc_node_table.specs.Spoken.{before_of, spoken, spoken_mails, told_begun, went_on}
-use Rattle.sc_law_lemmas.proofs.Entries.{floor_under, entered_next}
-use Rattle.sc_law_lemmas.proofs.Places.{cleared}
-use Rattle.sc_paxos_law.proofs.Among.{among-member}
-use Rattle.sc_budget_law.specs.Frames.{Frame, IsFrame}
-use Rattle.sc_budget_law.specs.PlainMail.{Requests}
-use Rattle.sc_budget_law.specs.PlainNode.{IsPlainGroup, IsPlainReplica}
+use Rattle.sc_node_table.specs.Definitions.{stopped, entered, answer_of, told_call, told_effect, announced, learnt_to, welcomed, slot_lost, landed, left_gone, left, is_among, looked_for, looked, executed_one, welcomed_all, answer_to, sent_others, ReplicaState, Place, name_of, next, members, flying, forgotten, waits_in, rest_of, numbers_from, slots_ahead, before_of, spoken, spoken_mails, told_begun, went_on}
+use Rattle.sc_law_lemmas.proofs.Lemmas.{floor_under, entered_next, cleared}
+use Rattle.sc_paxos_law.proofs.Lemmas.{among-member}
+use Rattle.sc_budget_law.specs.Definitions.{Frame, IsFrame, Requests, IsPlainGroup, IsPlainReplica}
 
 -- ---- members
 

@@ -2,19 +2,10 @@
 use Rattle.std.proofs.Common.{◌≡◌, ℕ, ◌+◌, ◌-◌, ◌≤◌, ◌&&◌, eqb, true, List, [], ◌∷◌, ◌++◌, length, Option, Some, None, inl, inr, refl, sym, ◌∙◌, ap, subst, arith}
 use Rattle.std.proofs.lemmas.Bool.{cond-true, cases_lt, lt-ltb, and_from}
 use Rattle.std.proofs.lemmas.List.Sums.{count_by-le-length}
-use Rattle.sc_base.specs.declared.ops.Op.{Op}
-use Rattle.sc_cmd.specs.declared.commands.Command.{Command}
-use Rattle.sc_cmd.specs.declared.commands.Command.TheVariants.{Call}
-use Rattle.sc_mail.specs.declared.bodies.Mail.{Mail}
-use Rattle.sc_paxos_words.specs.declared.flights.Flight.{Flight}
-use Rattle.sc_paxos_words.proofs.ListLemmas.{Each-among}
-use Rattle.sc_node_table.specs.Execute.{executed_one, next_child, has_room, next_ready, ending, executed_ready, all_ready, executed}
-use Rattle.sc_node_table.specs.Pump.{pumped}
-use Rattle.sc_node_table.specs.Replica.{ReplicaState, Place, Executed, childless, next, last_slot}
-use Rattle.sc_node_table.specs.Slots.{at_slot}
-use Rattle.sc_budget_law.specs.Frames.{Frame, IsFrame}
-use Rattle.sc_budget_law.specs.PlainMail.{Requests, IsPlainCommand}
-use Rattle.sc_budget_law.specs.PlainNode.{HasOffered}
+use Rattle.sc_node_table.specs.Values.{Op, Command, Call, Mail, Flight}
+use Rattle.sc_paxos_words.proofs.Lemmas.{Each-among}
+use Rattle.sc_node_table.specs.Definitions.{executed_one, next_child, has_room, next_ready, ending, executed_ready, all_ready, executed, pumped, ReplicaState, Place, Executed, childless, next, last_slot, at_slot}
+use Rattle.sc_budget_law.specs.Definitions.{Frame, IsFrame, Requests, IsPlainCommand, HasOffered}
 use Rattle.sc_budget_law.proofs.Counts.{one_no, entries_at, at_found, at_nothing}
 use Rattle.sc_budget_law.proofs.Leading.{in_range, range_behind, Leads}
 use Rattle.sc_budget_law.proofs.Pumping.{call_is, pumped_leads}

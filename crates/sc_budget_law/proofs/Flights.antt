@@ -1,18 +1,14 @@
 -- What a vote makes of the flights, and of those that voted.
-use Rattle.std.proofs.Common.{◌≡◌, ℕ, zero, suc, ◌+◌, ◌*◌, ◌<◌, ◌≤◌, ◌||◌, not, ltb, eqb, Bool, true, false, cond, List, [], ◌∷◌, ◌++◌, length, map, filter, count_by, Option, Some, None, inl, inr, refl, sym, ◌∙◌, ap, subst, arith}
+use Rattle.std.proofs.Common.{◌≡◌, ℕ, zero, suc, ◌+◌, ◌*◌, ◌<◌, ◌≤◌, ◌||◌, ltb, eqb, Bool, true, false, cond, List, [], ◌∷◌, ◌++◌, length, map, filter, count_by, Option, Some, None, inl, inr, refl, sym, ◌∙◌, ap, subst, arith}
 use Rattle.std.specs.Prelude.{slice_get}
 use Rattle.std.proofs.lemmas.Bool.{cond_both, cond-true, cond-false, cases_Bool, cases_order, eqb-true, eq-eqb, ne_eqb, lt-ltb, both_ways, or_cases, or_parts, or_left}
-use Rattle.sc_base.specs.Among.{Among, Each}
-use Rattle.sc_cmd.specs.declared.commands.Command.{Command}
-use Rattle.sc_base.specs.Majority.{votes_of, is_majority}
-use Rattle.sc_base.specs.Roster.{is_member, with_member, IsRoster}
-use Rattle.sc_base.proofs.UnionLemmas.{count_united}
-use Rattle.sc_paxos_words.specs.declared.flights.Flight.{Flight}
-use Rattle.sc_paxos_words.specs.Leaders.{flight_at, without_flight}
-use Rattle.sc_paxos_words.specs.Votes.{kept_voters, add_voter, voters_after, with_voters}
-use Rattle.sc_paxos_words.proofs.ListLemmas.{Among-filter}
-use Rattle.sc_node_table.specs.Slots.{numbers_from}
-use Rattle.sc_paxos_law.proofs.Among.{member-among, among-member}
+use Rattle.sc_base.specs.Definitions.{Among, Each, votes_of, is_majority, is_member, with_member, IsRoster}
+use Rattle.sc_node_table.specs.Values.{Command, Flight}
+use Rattle.sc_base.proofs.Lemmas.{length_with as with_one}
+use Rattle.sc_paxos_words.specs.Definitions.{flight_at, without_flight, kept_voters, add_voter, voters_after, with_voters}
+use Rattle.sc_paxos_words.proofs.Lemmas.{Among-filter}
+use Rattle.sc_node_table.specs.Definitions.{numbers_from}
+use Rattle.sc_paxos_law.proofs.Lemmas.{member-among, among-member}
 use Rattle.sc_budget_law.proofs.Counts.{one_yes, one_no, count-cons}
 use Rattle.sc_budget_law.proofs.Leading.{flights_at}
 use Rattle.sc_budget_law.proofs.Lists.{some_is}
@@ -128,14 +124,6 @@ with_kept members node who m =
         | inr gt ↦ among_right low (node ∷ high) who (inr (Among-filter (λ member. ltb node member) members who a (lt-ltb node who gt)))
       ]
     ])
-
--- one more voter is one more
-pub with_one : (members : List ℕ) (node : ℕ) → is_member members node ≡ false → length (with_member members node) ≡ length members + 1
-with_one members node absent =
-    let united_ = count_united members (node ∷ []) (λ k low. absurd (omega (arith, low))) in
-    let same = ap length (cond-false (is_member members node) members (with_member members node) absent) in
-    let one = ap length (cond-true (not (is_member members node)) (node ∷ []) [] (ap not absent)) in
-    omega (arith, united_, same, one)
 
 -- what passes more tests, and one more element, counts more
 more_pass : (p q : ℕ → Bool) (x : ℕ) (xs : List ℕ) → ((y : ℕ) → p y ≡ true → q y ≡ true) → count_by p xs ≤ count_by q xs

@@ -2,11 +2,10 @@
 use Rattle.std.proofs.Common.{◌≡◌, ℕ, ◌+◌, ◌-◌, ◌<◌, ◌≤◌, ◌||◌, true, false, Option, Some, None, ◌⊎◌, inl, inr, refl, sym, ◌∙◌, ap, arith}
 use Rattle.std.specs.Prelude.{is_some}
 use Rattle.std.proofs.lemmas.Bool.{cond-true, cond-false, cases_Bool, or_left, or_right, or_from}
-use Rattle.sc_base.specs.declared.names.Draw.{Draw}
-use Rattle.sc_cmd.specs.declared.links.Route.{Route}
-use Rattle.sc_node_table.specs.Replica.{ReplicaState}
-use Rattle.sc_calm_law.specs.Quiet.{View as Replicas, StandsQuiet}
-use Rattle.sc_budget_law.specs.AskingQuiet.{hints_left, QuietHintsRise}
+use Rattle.sc_node_table.specs.Values.{Draw, Route}
+use Rattle.sc_node_table.specs.Definitions.{ReplicaState}
+use Rattle.sc_calm_law.specs.Definitions.{View as Replicas, StandsQuiet}
+use Rattle.sc_budget_law.specs.Definitions.{hints_left, QuietHintsRise}
 use Rattle.sc_budget_law.proofs.Lists.{some_is}
 
 -- none from one that runs or is gone
@@ -30,6 +29,7 @@ module _ (at : Replicas) (latest : Draw → ℕ) (rounds : (group : Draw) (node 
         omega (arith, some, high, later, low))
   ]
 
+-- In a quiet journal each hint leads nearer to a replica that runs, or knows where its group went: by the rounds of the greatest ballots that were seen, where none of a group that stands is gone.
 pub hints_rise : QuietHintsRise
 hints_rise at first clients latest most asks quiet own rounds stand = record {
   leads = λ group q node ne. (

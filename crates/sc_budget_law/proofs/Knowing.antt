@@ -5,19 +5,14 @@ use Rattle.std.specs.Option.{option_map}
 use Rattle.std.proofs.lemmas.Bool.{cond_both, cond-true, cond-false, leb-true, leb-false, cases_Bool, both_ways}
 use Rattle.std.proofs.lemmas.Map.Steps.{set_value_same}
 use Rattle.std.proofs.lemmas.List.{length-take-le, take-map}
-use Rattle.sc_base.specs.Among.{Among, Each}
-use Rattle.sc_base.specs.Arc.{holds, end_of}
-use Rattle.sc_base.specs.Same.{same_draw}
-use Rattle.sc_base.specs.declared.names.Draw.{Draw}
-use Rattle.sc_base.proofs.NameLemmas.{draw_is, same_name}
-use Rattle.sc_base.specs.Roster.{least_of}
-use Rattle.sc_paxos_words.proofs.ListLemmas.{Each-among}
+use Rattle.sc_base.specs.Definitions.{Among, Each, holds, end_of, same_draw, least_of}
+use Rattle.sc_node_table.specs.Values.{Draw}
+use Rattle.sc_base.proofs.Lemmas.{draw_is, same_name}
+use Rattle.sc_paxos_words.proofs.Lemmas.{Each-among}
 use Rattle.sc_lookup.specs.declared.ways.Way.{Way}
-use Rattle.sc_lookup.specs.Ways.{far, target_of}
-use Rattle.sc_lookup.specs.Known.{KnownGroups, way_to, nearer, better, chosen, target_in, changed, starting, group_learnt, told_not_mine}
-use Rattle.sc_paxos_law.proofs.Among.{from_map}
-use Rattle.sc_budget_law.specs.Frames.{Frame, AreNamedApart}
-use Rattle.sc_budget_law.specs.PlainClient.{way_of}
+use Rattle.sc_lookup.specs.Definitions.{far, target_of, KnownGroups, way_to, nearer, better, chosen, target_in, changed, starting, group_learnt, told_not_mine}
+use Rattle.sc_paxos_law.proofs.Lemmas.{from_map}
+use Rattle.sc_budget_law.specs.Definitions.{Frame, AreNamedApart, way_of}
 use Rattle.sc_budget_law.proofs.Lists.{map_among}
 
 -- ---- the nearest

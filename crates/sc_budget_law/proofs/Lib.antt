@@ -58,3 +58,5 @@ pub mod AskingBegins
 pub mod AskingSought
 pub mod AskingLines
 pub mod HintsRise
+pub mod Laws
+pub mod Lemmas

@@ -1,56 +1,30 @@
 -- A plain journal counts few bytes: few rows, and little mail.
-use Rattle.std.proofs.Common.{◌≡◌, ℕ, zero, suc, ◌+◌, ◌≤◌, eqb, leb, Bool, true, false, List, [], ◌∷◌, ◌++◌, length, map, fold, Option, Some, None, ◌⊎◌, inl, inr, refl, sym, ◌∙◌, ap, subst, arith, length-append}
+use Rattle.std.proofs.Common.{◌≡◌, ℕ, ◌+◌, ◌≤◌, eqb, leb, Bool, true, false, List, [], ◌∷◌, ◌++◌, length, map, fold, Option, Some, None, ◌⊎◌, inl, inr, refl, sym, ◌∙◌, ap, subst, arith, length-append}
 use Rattle.std.specs.Prelude.{find}
 use Rattle.std.specs.List.{flat_map, list_any}
 use Rattle.std.proofs.lemmas.Bool.{cond_both, or_left, or_right, eq-eqb}
 use Rattle.std.proofs.lemmas.List.{length-map}
-use Rattle.sc_base.specs.Among.{Among, Each}
-use Rattle.sc_base.specs.Limits.{client_actor}
-use Rattle.sc_base.proofs.CommonLemmas.{map-some}
-use Rattle.sc_base.specs.declared.names.Draw.{Draw}
-use Rattle.sc_base.specs.declared.ops.Op.{Op}
-use Rattle.sc_cmd.specs.declared.orders.OrderLine.{OrderLine}
-use Rattle.sc_mail.specs.Weight.{body_weight}
-use Rattle.sc_mail.specs.declared.bodies.Mail.{Mail}
-use Rattle.sc_mail.specs.declared.bodies.MailBody.{MailBody}
-use Rattle.sc_mail.specs.declared.bodies.MailBody.TheVariants.{Request, Answer, Prepare, Promise, Accept, Accepted, Nack, Learn, Ask, Install, TxPrepare, TxVote, TxOutcome, TxElsewhere, TxWatch, TxWatched, Told as ToldMail}
-use Rattle.sc_base.specs.Roster.{is_member}
-use Rattle.sc_actor.specs.declared.actors.Seat.{Seat}
-use Rattle.sc_actor.specs.declared.rows.Event.TheVariants.{Go}
+use Rattle.sc_base.specs.Definitions.{Among, Each, client_actor, is_member}
+use Rattle.sc_base.proofs.Lemmas.{map-some}
+use Rattle.sc_node_table.specs.Values.{Draw, Op, OrderLine, Mail, MailBody, Request, Answer, Prepare, Promise, Accept, Accepted, Nack, Learn, Ask, Install, TxPrepare, TxVote, TxOutcome, TxElsewhere, TxWatch, TxWatched, Told as ToldMail, Seat, Go, Row, Node, Client}
+use Rattle.sc_mail.specs.Definitions.{body_weight}
 use Rattle.sc_actor.specs.declared.rows.Input.TheVariants.{Go as GoInput}
-use Rattle.sc_actor.specs.declared.rows.Row.{Row}
 use Rattle.sc_actor.specs.declared.schedules.Line.TheVariants as line
-use Rattle.sc_actor.specs.Mail.{mails, is_delivery}
-use Rattle.sc_actor.specs.System.{System, numbers_of, row_of, acts, has_gone}
-use Rattle.sc_actor.specs.Replay.{value}
-use Rattle.sc_actor.specs.Walk.{Task, Once, Settles, Frees, Storms, tasks_of, WalkPlace, onward, after_row, rest_of_all, place_after, start, is_over, MayAdd, IsLawful}
-use Rattle.sc_actor.proofs.ReplayLemmas.{mails-snoc}
-use Rattle.sc_actor.proofs.WalkLemmas.{lawful-last}
-use Rattle.sc_paxos_words.proofs.ListLemmas.{Each-weaker, Each-from_All}
-use Rattle.sc_node_table.specs.Slots.{numbers_from, slots_ahead}
-use Rattle.sc_client_table.specs.Client.{Client as ClientState}
-use Rattle.sc_client_table.specs.Client.{waiting_request}
-use Rattle.sc_client_table.specs.Table.{ClientStep, asked_of, sent_where, chosen_for, request_sent}
-use Rattle.sc_lookup.specs.Known.{target_in}
-use Rattle.sc_scenario.specs.Schedules.{most_deliveries}
-use Rattle.sc_scenario.specs.Valid.{IsBoundedLine, ValidScenariosAreBounded}
+use Rattle.sc_actor.specs.Definitions.{mails, is_delivery, System, numbers_of, row_of, acts, has_gone, value, Task, Once, Settles, Frees, Storms, tasks_of, WalkPlace, onward, after_row, rest_of_all, place_after, start, is_over, MayAdd, IsLawful}
+use Rattle.sc_actor.proofs.Lemmas.{mails-snoc, lawful-last}
+use Rattle.sc_paxos_words.proofs.Lemmas.{Each-weaker, Each-from_All}
+use Rattle.sc_node_table.specs.Definitions.{numbers_from, slots_ahead}
+use Rattle.sc_client_table.specs.Definitions.{Client as ClientState, waiting_request, ClientStep, asked_of, sent_where, chosen_for, request_sent}
+use Rattle.sc_lookup.specs.Definitions.{target_in}
+use Rattle.sc_scenario.specs.Definitions.{most_deliveries, IsBoundedLine, ValidScenariosAreBounded}
 use Rattle.sc_scenario.specs.declared.scenarios.Asks.{Asks}
 use Rattle.sc_scenario.specs.declared.scenarios.Scenario.{Scenario}
 use Rattle.sc_scenario.specs.declared.scenarios.SchedLine.{SchedLine}
 use Rattle.sc_scenario.specs.declared.scenarios.SchedLine.TheVariants as sched
-use Rattle.sc_sound.specs.Players.{Player, player_table, node_seat, client_seat, route_of, births, line_of, schedule, system_of, as_nodes}
-use Rattle.sc_mail.specs.declared.roles.Role.TheVariants.{Node, Client}
-use Rattle.sc_orderly_law.specs.Orderly.{is_born, deliveries}
-use Rattle.sc_orderly_law.specs.Owing.{SendsToActors}
-use Rattle.sc_orderly_law.proofs.Counting.{mails_are_owed, goes_are_few, rows_are}
-use Rattle.sc_orderly_law.proofs.Ordering.{by_rows}
-use Rattle.sc_orderly_law.proofs.Paying.{count_push}
-use Rattle.sc_budget_law.specs.Budget.{AllowsDeliveries, budget_of}
-use Rattle.sc_budget_law.specs.Frames.{Frame}
-use Rattle.sc_budget_law.specs.Laws.{PlainJournalsAreLight}
-use Rattle.sc_budget_law.specs.Owed.{mail_owes}
-use Rattle.sc_budget_law.specs.PlainClient.{IsBegun}
-use Rattle.sc_budget_law.specs.PlainMail.{IsPlainBody, IsPlainMail}
+use Rattle.sc_sound.specs.Definitions.{Player, player_table, node_seat, client_seat, route_of, births, line_of, schedule, system_of, as_nodes}
+use Rattle.sc_orderly_law.specs.Definitions.{is_born, deliveries, SendsToActors}
+use Rattle.sc_orderly_law.proofs.Lemmas.{mails_are_owed, goes_are_few, rows_are, by_rows, count_push}
+use Rattle.sc_budget_law.specs.Definitions.{AllowsDeliveries, budget_of, Frame, PlainJournalsAreLight, mail_owes, IsBegun, IsPlainBody, IsPlainMail}
 use Rattle.sc_budget_law.proofs.AtBirth.{birth_within, few_clients, journal_at_birth}
 use Rattle.sc_budget_law.proofs.BetweenAll.{owing_of, IsPlainJournal}
 use Rattle.sc_budget_law.proofs.BetweenStage.{frames_of, IsStage, stage}
@@ -60,6 +34,7 @@ use Rattle.sc_budget_law.proofs.Bytes.{mail_light, begun_short, bytes_low}
 use Rattle.sc_budget_law.proofs.Ends.{lines_plain, far_from_last, some_owed}
 use Rattle.sc_budget_law.proofs.Round.{round}
 use Rattle.sc_budget_law.proofs.Lists.{map_among}
+use Rattle.sc_calm_law.proofs.Lemmas.{count_numbers}
 
 -- ---- mail is for actors
 
@@ -256,10 +231,6 @@ module _ (words : ℕ → ℕ → ℕ × ℕ) (scenario : Scenario) where
       journal lawful
 
 -- ---- the law
-
-count_numbers : (from count : ℕ) → length (numbers_from from count) ≡ count
-count_numbers from zero = refl
-count_numbers from (suc count) = (let rest = count_numbers (from + 1) count in omega (arith, rest))
 
 pub journals_light : ValidScenariosAreBounded → PlainJournalsAreLight
 journals_light all_bounded words scenario journal valid at lawful =

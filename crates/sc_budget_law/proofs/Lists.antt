@@ -1,6 +1,6 @@
 -- Facts of lists and options that several proofs use.
 use Rattle.std.proofs.Common.{◌≡◌, List, [], ◌∷◌, map, Some, inl, inr, ap}
-use Rattle.sc_base.specs.Among.{Among}
+use Rattle.sc_base.specs.Definitions.{Among}
 
 -- what is given twice is the same
 pub some_is : {A : Type 0} {x y : A} → Some x ≡ Some y → x ≡ y

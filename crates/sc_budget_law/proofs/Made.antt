@@ -1,24 +1,13 @@
 -- Made scenarios are at their budget.
-use Rattle.std.proofs.Common.{◌≡◌, ℕ, zero, suc, ◌+◌, ◌*◌, length, sum_by, refl, ap, arith}
-use Rattle.std.proofs.lemmas.List.{length_push}
+use Rattle.std.proofs.Common.{◌≡◌, ℕ, zero, suc, ◌+◌, ◌*◌, length, sum_by, ap, arith}
 use Rattle.std.proofs.lemmas.List.Sums.{sum_by_push}
-use Rattle.sc_base.specs.Among.{Each}
-use Rattle.sc_chance.specs.Words.{two_words}
-use Rattle.sc_paxos_words.proofs.ListLemmas.{Each-push}
-use Rattle.sc_scenario.specs.Made.{made_op, made_ops, made_clients, made_goes, made_scenario}
+use Rattle.sc_base.specs.Definitions.{Each}
+use Rattle.sc_paxos_words.proofs.Lemmas.{Each-push}
+use Rattle.sc_scenario.specs.Definitions.{made_ops, made_clients, made_goes, made_scenario}
 use Rattle.sc_scenario.specs.declared.scenarios.Asks.{Asks}
 use Rattle.sc_scenario.specs.declared.scenarios.SchedLine.TheVariants.{Go, Settle}
-use Rattle.sc_budget_law.specs.Budget.{AllowsDeliveries, budget_of, requests_of}
-use Rattle.sc_budget_law.specs.Laws.{MadeScenariosAreAtBudget}
-
--- a made client has n requests
-ops_count : (seed n before k : ℕ) → length (made_ops seed n before k) ≡ k
-unfolding made_ops
-ops_count seed n before zero = refl
-ops_count seed n before (suc k) =
-    let rest = ops_count seed n before k in
-    let push = length_push (made_ops seed n before k) (made_op (two_words seed (before * n + k)) (before + 1) (k + 1)) in
-    omega (arith, rest, push)
+use Rattle.sc_budget_law.specs.Definitions.{AllowsDeliveries, budget_of, requests_of, MadeScenariosAreAtBudget}
+use Rattle.sc_scenario.proofs.Lemmas.{ops_counted as ops_count}
 
 -- .. and so have so many clients together
 clients_count : (seed n k : ℕ) → sum_by (λ (asks : Asks). length asks.ops) (made_clients seed n k) ≡ k * n

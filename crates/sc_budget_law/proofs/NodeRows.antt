@@ -1,27 +1,12 @@
 -- What a plain node does with a plain mail: one of its replicas takes it.
 use Rattle.std.proofs.Common.{◌≡◌, ℕ, ◌+◌, ◌≤◌, true, List, [], sum_by, Option, Some, None, inl, inr, refl, sym, ◌∙◌, ap, subst, arith}
 use Rattle.std.proofs.lemmas.Bool.{cond-true, cases_Bool, both_ways}
-use Rattle.sc_base.specs.Among.{Among, Each}
-use Rattle.sc_base.specs.Limits.{client_actor}
-use Rattle.sc_base.specs.Same.{same_draw}
-use Rattle.sc_base.specs.declared.names.Draw.{Draw}
-use Rattle.sc_base.specs.declared.ops.Op.{Op}
-use Rattle.sc_base.proofs.NameLemmas.{draw_is, same_name}
-use Rattle.sc_actor.specs.declared.rows.Input.TheVariants.{Got}
-use Rattle.sc_cmd.specs.declared.cores.Base.{Base}
-use Rattle.sc_mail.specs.declared.bodies.Mail.{Mail}
-use Rattle.sc_mail.specs.declared.bodies.MailBody.{MailBody}
-use Rattle.sc_mail.specs.declared.bodies.MailBody.TheVariants.{Request, Answer, Prepare, Promise, Accept, Accepted, Nack, Learn, Ask, Install, TxPrepare, TxVote, TxOutcome, TxElsewhere, TxWatch, TxWatched, Told}
-use Rattle.sc_base.specs.Roster.{is_member}
-use Rattle.sc_paxos_words.proofs.ListLemmas.{Each-weaker}
-use Rattle.sc_node_table.specs.Node.{NodeState, replica_of, with_replica, group_of_mail, is_node, may_come, with_children, taken_by, routed, on_mail, node_table}
-use Rattle.sc_node_table.specs.Replica.{ReplicaState, Place, name_of, next, last_slot}
-use Rattle.sc_node_table.specs.Rows.{mailed}
-use Rattle.sc_node_table.specs.Slots.{slots_ahead}
-use Rattle.sc_budget_law.specs.Frames.{Frame, IsFrame, AreNamedApart}
-use Rattle.sc_budget_law.specs.Owed.{mail_owes, node_owes}
-use Rattle.sc_budget_law.specs.PlainMail.{Requests, IsPlainBody, IsPlainMail}
-use Rattle.sc_budget_law.specs.PlainNode.{IsPlainAt, IsPlainNode, IsDue}
+use Rattle.sc_base.specs.Definitions.{Among, Each, client_actor, same_draw, is_member}
+use Rattle.sc_node_table.specs.Values.{Draw, Op, Got, Base, Mail, MailBody, Request, Answer, Prepare, Promise, Accept, Accepted, Nack, Learn, Ask, Install, TxPrepare, TxVote, TxOutcome, TxElsewhere, TxWatch, TxWatched, Told}
+use Rattle.sc_base.proofs.Lemmas.{draw_is, same_name}
+use Rattle.sc_paxos_words.proofs.Lemmas.{Each-weaker}
+use Rattle.sc_node_table.specs.Definitions.{NodeState, replica_of, with_replica, group_of_mail, is_node, may_come, with_children, taken_by, routed, on_mail, node_table, ReplicaState, Place, name_of, next, last_slot, mailed, slots_ahead}
+use Rattle.sc_budget_law.specs.Definitions.{Frame, IsFrame, AreNamedApart, mail_owes, node_owes, Requests, IsPlainBody, IsPlainMail, IsPlainAt, IsPlainNode, IsDue}
 use Rattle.sc_budget_law.proofs.Replicas.{put_owes, put_found, put_others}
 use Rattle.sc_budget_law.proofs.ReplicaRows.{ReplicaRow, replica_row}
 

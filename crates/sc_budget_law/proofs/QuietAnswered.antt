@@ -4,49 +4,24 @@ use Rattle.std.specs.List.{list_any}
 use Rattle.std.proofs.lemmas.Bool.{both_ways}
 use Rattle.std.proofs.lemmas.List.{length_push, map-append}
 use Rattle.std.proofs.lemmas.Option.{slice_get_within}
-use Rattle.sc_base.specs.Among.{Among, Each}
-use Rattle.sc_base.specs.Limits.{client_actor}
-use Rattle.sc_cmd.specs.declared.cores.Base.{Base}
-use Rattle.sc_cmd.specs.declared.orders.OrderLine.{OrderLine}
-use Rattle.sc_mail.specs.declared.bodies.Mail.{Mail}
-use Rattle.sc_actor.specs.declared.actors.Seat.{Seat}
-use Rattle.sc_actor.specs.declared.rows.Input.{Input}
-use Rattle.sc_actor.specs.declared.rows.Row.{Row}
-use Rattle.sc_actor.specs.declared.schedules.Line.{Line}
+use Rattle.sc_base.specs.Definitions.{Among, Each, client_actor, is_member}
+use Rattle.sc_node_table.specs.Values.{Base, OrderLine, Mail, Seat, Input, Row, Line, Answer, Node, Client}
 use Rattle.sc_actor.specs.declared.schedules.Line.TheVariants as line
-use Rattle.sc_actor.specs.Mail.{mails}
-use Rattle.sc_actor.specs.Replay.{value, acted, input_of}
-use Rattle.sc_actor.specs.System.{System, has_gone}
-use Rattle.sc_actor.specs.Walk.{IsLawful, is_quiet}
-use Rattle.sc_actor.proofs.ReplayLemmas.{value-snoc}
-use Rattle.sc_actor.proofs.WalkLemmas.{lawful-prefix}
-use Rattle.sc_base.specs.Roster.{is_member}
-use Rattle.sc_node_table.specs.Node.{replica_of}
-use Rattle.sc_node_table.specs.Replica.{ReplicaState, last_slot}
-use Rattle.sc_node_table.specs.Slots.{slots_ahead, numbers_from}
-use Rattle.sc_mail.specs.declared.bodies.MailBody.TheVariants.{Answer}
-use Rattle.sc_client_table.specs.Client.{Client as ClientState}
+use Rattle.sc_actor.specs.Definitions.{mails, value, acted, input_of, System, has_gone, IsLawful, is_quiet}
+use Rattle.sc_actor.proofs.Lemmas.{value-snoc, lawful-prefix}
+use Rattle.sc_node_table.specs.Definitions.{replica_of, ReplicaState, last_slot, slots_ahead, numbers_from}
+use Rattle.sc_client_table.specs.Definitions.{Client as ClientState}
 use Rattle.sc_client_table.proofs.TurnLemmas.{sends_in_turn}
-use Rattle.sc_scenario.specs.Valid.{ValidScenariosAreBounded}
+use Rattle.sc_scenario.specs.Definitions.{ValidScenariosAreBounded}
 use Rattle.sc_scenario.specs.declared.scenarios.Asks.{Asks}
 use Rattle.sc_scenario.specs.declared.scenarios.Scenario.{Scenario}
 use Rattle.sc_scenario.specs.declared.scenarios.SchedLine.{SchedLine}
 use Rattle.sc_scenario.specs.declared.scenarios.SchedLine.TheVariants.{Go, Deliver, Drop, Again, Tick, Crash, Told, Settle, Free, Storm}
-use Rattle.sc_sound.specs.Players.{Player, player_table, node_seat, client_seat, route_of, births, line_of, schedule, system_of, as_nodes, replies_of}
-use Rattle.sc_mail.specs.declared.roles.Role.TheVariants.{Node, Client}
-use Rattle.sc_orderly_law.specs.Orderly.{IsPlainLine, rest, is_born}
-use Rattle.sc_orderly_law.specs.Owing.{owed_at_birth}
-use Rattle.sc_orderly_law.proofs.Ordering.{orderly, by_rows}
-use Rattle.sc_orderly_law.proofs.Passing.{IsManyLine, was_quiet}
-use Rattle.sc_orderly_law.proofs.Resting.{tidy, quiet-empty, is_born-from}
-use Rattle.sc_orderly_law.proofs.Seats.{seat_found}
-use Rattle.sc_paxos_law.proofs.Among.{Among-right}
-use Rattle.sc_budget_law.specs.Between.{Asks as AsksFor, Votes, mark, IsVoting}
-use Rattle.sc_budget_law.specs.BetweenJournal.{votes_in, replica_at, marks_at}
-use Rattle.sc_budget_law.specs.Budget.{budget_of, delivers}
-use Rattle.sc_budget_law.specs.Frames.{Frame}
-use Rattle.sc_budget_law.specs.Laws.{PlainLinesEndQuiet, PlainRequestsAreAnswered}
-use Rattle.sc_budget_law.specs.PlainClient.{IsBegun, IsWaiting}
+use Rattle.sc_sound.specs.Definitions.{Player, player_table, node_seat, client_seat, route_of, births, line_of, schedule, system_of, as_nodes, replies_of}
+use Rattle.sc_orderly_law.specs.Definitions.{IsPlainLine, rest, is_born, owed_at_birth}
+use Rattle.sc_orderly_law.proofs.Lemmas.{orderly, by_rows, IsManyLine, was_quiet, tidy, quiet-empty, is_born-from, seat_found}
+use Rattle.sc_paxos_law.proofs.Lemmas.{Among-right}
+use Rattle.sc_budget_law.specs.Definitions.{Asks as AsksFor, Votes, mark, IsVoting, votes_in, replica_at, marks_at, budget_of, delivers, Frame, PlainLinesEndQuiet, PlainRequestsAreAnswered, IsBegun, IsWaiting}
 use Rattle.sc_budget_law.proofs.AtBirth.{journal_at_birth}
 use Rattle.sc_budget_law.proofs.BetweenAll.{owing_of, IsPlainJournal}
 use Rattle.sc_budget_law.proofs.BetweenStage.{frames_of, IsStage, stage}

@@ -2,20 +2,13 @@
 use Rattle.std.proofs.Common.{◌≡◌, ℕ, ◌+◌, ◌*◌, ◌<◌, ◌≤◌, eqb, Bool, true, false, List, [], ◌∷◌, length, count_by, Option, Some, inl, inr, refl, sym, ◌∙◌, ap, subst, arith}
 use Rattle.std.specs.Option.{option_map}
 use Rattle.std.proofs.lemmas.Bool.{cases_lt, eqb-true, eq-eqb, lt-ltb, both_ways}
-use Rattle.sc_base.specs.Among.{Among}
-use Rattle.sc_cmd.specs.declared.commands.Command.{Command}
-use Rattle.sc_cmd.specs.declared.commands.Command.TheVariants.{Call}
-use Rattle.sc_base.specs.Roster.{is_member}
-use Rattle.sc_base.specs.Majority.{votes_of, is_majority}
-use Rattle.sc_paxos_words.specs.declared.flights.Flight.{Flight}
-use Rattle.sc_paxos_words.specs.Votes.{kept_voters}
-use Rattle.sc_paxos_words.proofs.ListLemmas.{Each-among, find_found}
-use Rattle.sc_node_table.specs.Replica.{ReplicaState, next}
-use Rattle.sc_paxos_law.proofs.Among.{among-member}
-use Rattle.sc_budget_law.specs.BetweenJournal.{voters_in}
-use Rattle.sc_budget_law.specs.Frames.{Frame, IsFrame}
-use Rattle.sc_budget_law.specs.PlainMail.{Requests}
-use Rattle.sc_budget_law.specs.PlainNode.{takers, IsPlainFlight, IsLeading}
+use Rattle.sc_base.specs.Definitions.{Among, is_member, votes_of, is_majority}
+use Rattle.sc_node_table.specs.Values.{Command, Call, Flight}
+use Rattle.sc_paxos_words.specs.Definitions.{kept_voters}
+use Rattle.sc_paxos_words.proofs.Lemmas.{Each-among, find_found}
+use Rattle.sc_node_table.specs.Definitions.{ReplicaState, next}
+use Rattle.sc_paxos_law.proofs.Lemmas.{among-member}
+use Rattle.sc_budget_law.specs.Definitions.{voters_in, Frame, IsFrame, Requests, takers, IsPlainFlight, IsLeading}
 use Rattle.sc_budget_law.proofs.Counts.{one_yes, one_no, count-cons, find_some}
 use Rattle.sc_budget_law.proofs.Leading.{in_range, range_yes, range_before, range_behind, IsHeld}
 

@@ -2,33 +2,18 @@
 use Rattle.std.proofs.Common.{◌≡◌, ℕ, ◌≤◌, eqb, ◌&&◌, true, false, cond, List, [], ◌∷◌, ◌++◌, drop, Some, ◌⊎◌, inl, inr, refl, sym, ◌∙◌, ap, subst, arith}
 use Rattle.std.specs.List.{filter}
 use Rattle.std.proofs.lemmas.Bool.{ne_eqb, eq-eqb, cond-true, cond_both}
-use Rattle.sc_base.specs.Among.{Among, Each}
-use Rattle.sc_base.specs.Limits.{client_actor}
-use Rattle.sc_base.specs.declared.ops.Op.{Op}
-use Rattle.sc_cmd.specs.declared.cores.Base.{Base}
-use Rattle.sc_cmd.specs.declared.orders.OrderLine.{OrderLine}
-use Rattle.sc_mail.specs.declared.bodies.AnswerBody.{AnswerBody}
-use Rattle.sc_mail.specs.declared.bodies.AnswerBody.TheVariants.{Value, NotLeader, NotMine, Gone, Stale}
-use Rattle.sc_mail.specs.declared.bodies.Mail.{Mail}
-use Rattle.sc_mail.specs.declared.bodies.MailBody.{MailBody}
-use Rattle.sc_mail.specs.declared.bodies.MailBody.TheVariants.{Request, Answer, Prepare, Promise, Accept, Accepted, Nack, Learn, Ask, Install, TxPrepare, TxVote, TxOutcome, TxElsewhere, TxWatch, TxWatched, Told}
-use Rattle.sc_actor.specs.declared.rows.Row.{Row}
-use Rattle.sc_actor.specs.Mail.{is_delivery}
-use Rattle.sc_actor.specs.Replay.{value}
-use Rattle.sc_paxos_words.proofs.ListLemmas.{Each-among}
-use Rattle.sc_node_table.specs.Replica.{ReplicaState, Place}
-use Rattle.sc_client_table.specs.Client.{Client as ClientState}
+use Rattle.sc_base.specs.Definitions.{Among, Each, client_actor}
+use Rattle.sc_node_table.specs.Values.{Op, Base, OrderLine, AnswerBody, Value, NotLeader, NotMine, Gone, Stale, Mail, MailBody, Request, Answer, Prepare, Promise, Accept, Accepted, Nack, Learn, Ask, Install, TxPrepare, TxVote, TxOutcome, TxElsewhere, TxWatch, TxWatched, Told, Row, Client}
+use Rattle.sc_actor.specs.Definitions.{is_delivery, value}
+use Rattle.sc_paxos_words.proofs.Lemmas.{Each-among}
+use Rattle.sc_node_table.specs.Definitions.{ReplicaState, Place}
+use Rattle.sc_client_table.specs.Definitions.{Client as ClientState}
 use Rattle.sc_scenario.specs.declared.scenarios.Asks.{Asks}
 use Rattle.sc_scenario.specs.declared.scenarios.Scenario.{Scenario}
-use Rattle.sc_sound.specs.Players.{player_table, client_seat, route_of, system_of, as_nodes}
-use Rattle.sc_mail.specs.declared.roles.Role.TheVariants.{Client}
-use Rattle.sc_orderly_law.specs.Orderly.{rest, mail_for, taken}
-use Rattle.sc_paxos_law.proofs.Among.{Among-left, Among-right}
-use Rattle.sc_budget_law.specs.BetweenJournal.{replica_at}
-use Rattle.sc_budget_law.specs.Frames.{Frame, IsFrame}
-use Rattle.sc_budget_law.specs.Owed.{answer_owes, waiting_ones}
-use Rattle.sc_budget_law.specs.PlainClient.{IsBegun, IsWaiting, begun_of}
-use Rattle.sc_budget_law.specs.PlainMail.{Requests, IsPlainAnswer, IsPlainBody}
+use Rattle.sc_sound.specs.Definitions.{player_table, client_seat, route_of, system_of, as_nodes}
+use Rattle.sc_orderly_law.specs.Definitions.{rest, mail_for, taken}
+use Rattle.sc_paxos_law.proofs.Lemmas.{Among-left, Among-right}
+use Rattle.sc_budget_law.specs.Definitions.{replica_at, Frame, IsFrame, answer_owes, waiting_ones, IsBegun, IsWaiting, begun_of, Requests, IsPlainAnswer, IsPlainBody}
 use Rattle.sc_budget_law.proofs.BetweenStage.{frames_of, IsStage}
 use Rattle.sc_budget_law.proofs.BetweenViews.{Journal}
 use Rattle.sc_budget_law.proofs.Clients.{asking}

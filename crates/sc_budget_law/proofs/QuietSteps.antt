@@ -1,31 +1,17 @@
 -- A row of a node keeps where a request that waits is.
 use Rattle.std.proofs.Common.{◌≡◌, ℕ, true, List, [], ◌∷◌, ◌++◌, drop, Some, ◌⊎◌, inl, inr, refl, sym, ◌∙◌, ap, subst, arith}
 use Rattle.std.proofs.lemmas.Bool.{cases_eq, cases_Bool, both_ways}
-use Rattle.sc_base.specs.Among.{Among}
-use Rattle.sc_base.specs.Limits.{client_actor}
-use Rattle.sc_base.specs.Same.{same_draw}
-use Rattle.sc_base.specs.declared.ops.Op.{Op}
-use Rattle.sc_base.proofs.NameLemmas.{draw_is, same_name}
-use Rattle.sc_cmd.specs.declared.orders.OrderLine.{OrderLine}
-use Rattle.sc_mail.specs.declared.bodies.AnswerBody.TheVariants.{NotMine}
-use Rattle.sc_mail.specs.declared.bodies.Mail.{Mail}
-use Rattle.sc_mail.specs.declared.bodies.MailBody.TheVariants.{Answer}
-use Rattle.sc_actor.specs.declared.rows.Row.{Row}
-use Rattle.sc_actor.specs.Mail.{is_delivery}
-use Rattle.sc_actor.specs.Replay.{value}
-use Rattle.sc_node_table.specs.Node.{NodeState, replica_of, is_node}
-use Rattle.sc_node_table.specs.Replica.{Place}
-use Rattle.sc_client_table.specs.Client.{Client as ClientState}
+use Rattle.sc_base.specs.Definitions.{Among, client_actor, same_draw}
+use Rattle.sc_node_table.specs.Values.{Op, OrderLine, NotMine, Mail, Answer, Row, Node, Client}
+use Rattle.sc_base.proofs.Lemmas.{draw_is, same_name}
+use Rattle.sc_actor.specs.Definitions.{is_delivery, value}
+use Rattle.sc_node_table.specs.Definitions.{NodeState, replica_of, is_node, Place}
+use Rattle.sc_client_table.specs.Definitions.{Client as ClientState}
 use Rattle.sc_scenario.specs.declared.scenarios.Asks.{Asks}
 use Rattle.sc_scenario.specs.declared.scenarios.Scenario.{Scenario}
-use Rattle.sc_sound.specs.Players.{player_table, node_seat, client_seat, route_of, system_of, as_nodes}
-use Rattle.sc_mail.specs.declared.roles.Role.TheVariants.{Node, Client}
-use Rattle.sc_orderly_law.specs.Orderly.{rest, mail_for, taken}
-use Rattle.sc_budget_law.specs.BetweenJournal.{replica_at}
-use Rattle.sc_budget_law.specs.Frames.{Frame}
-use Rattle.sc_budget_law.specs.PlainClient.{IsBegun, IsWaiting}
-use Rattle.sc_budget_law.specs.PlainMail.{IsPlainBody}
-use Rattle.sc_budget_law.specs.PlainNode.{IsPlainNode}
+use Rattle.sc_sound.specs.Definitions.{player_table, node_seat, client_seat, route_of, system_of, as_nodes}
+use Rattle.sc_orderly_law.specs.Definitions.{rest, mail_for, taken}
+use Rattle.sc_budget_law.specs.Definitions.{replica_at, Frame, IsBegun, IsWaiting, IsPlainBody, IsPlainNode}
 use Rattle.sc_budget_law.proofs.BetweenStage.{frames_of, IsStage}
 use Rattle.sc_budget_law.proofs.BetweenViews.{Journal, replica_others, replica_is}
 use Rattle.sc_budget_law.proofs.Clients.{asking}

@@ -1,42 +1,22 @@
 -- In a plain journal each request that waits is on its way, or its answer is, or its call is at the leader that was asked.
 use Rattle.std.proofs.Common.{◌≡◌, ℕ, ◌+◌, ◌≤◌, eqb, true, false, List, [], ◌∷◌, ◌++◌, drop, find, Some, None, inl, inr, refl, sym, ◌∙◌, ap, subst, arith}
 use Rattle.std.proofs.lemmas.Bool.{cases_eq, both_ways}
-use Rattle.sc_base.specs.Among.{Among}
-use Rattle.sc_base.specs.Limits.{client_actor}
-use Rattle.sc_base.specs.declared.names.Draw.{Draw}
-use Rattle.sc_cmd.specs.declared.orders.OrderLine.{OrderLine}
-use Rattle.sc_mail.specs.declared.bodies.AnswerBody.{AnswerBody}
-use Rattle.sc_mail.specs.declared.bodies.AnswerBody.TheVariants.{Value, NotLeader, NotMine, Gone, Stale}
-use Rattle.sc_mail.specs.declared.bodies.Mail.{Mail}
-use Rattle.sc_mail.specs.declared.bodies.MailBody.TheVariants.{Answer}
-use Rattle.sc_actor.specs.declared.actors.Seat.{Seat}
-use Rattle.sc_actor.specs.declared.rows.Event.{Event}
-use Rattle.sc_actor.specs.declared.rows.Event.TheVariants.{Deliver, Tick, Go, Told, Crash, Drop, Again}
-use Rattle.sc_actor.specs.declared.rows.Input.TheVariants.{Got, Go as GoInput}
-use Rattle.sc_actor.specs.declared.rows.Row.{Row}
-use Rattle.sc_actor.specs.Mail.{mails}
-use Rattle.sc_actor.specs.Replay.{value, acted, input_of}
-use Rattle.sc_actor.specs.System.{System, row_of, has_gone, waiting, kth}
-use Rattle.sc_actor.proofs.ReplayLemmas.{mails-snoc}
-use Rattle.sc_node_table.specs.Node.{is_node, node_table}
-use Rattle.sc_node_table.specs.Replica.{last_slot}
-use Rattle.sc_node_table.specs.Slots.{slots_ahead}
-use Rattle.sc_base.specs.Roster.{is_member}
-use Rattle.sc_client_table.specs.Client.{Client as ClientState}
-use Rattle.sc_client_table.specs.Table.{ClientStep, table}
-use Rattle.sc_paxos_words.proofs.ListLemmas.{Each-among}
+use Rattle.sc_base.specs.Definitions.{Among, client_actor, is_member}
+use Rattle.sc_node_table.specs.Values.{Draw, OrderLine, AnswerBody, Value, NotLeader, NotMine, Gone, Stale, Mail, Answer, Seat, Event, Deliver, Tick, Go, Crash, Drop, Again, Got, Row, Node, Client}
+use Rattle.sc_actor.specs.declared.rows.Event.TheVariants.{Told}
+use Rattle.sc_actor.specs.declared.rows.Input.TheVariants.{Go as GoInput}
+use Rattle.sc_actor.specs.Definitions.{mails, value, acted, input_of, System, row_of, has_gone, waiting, kth}
+use Rattle.sc_actor.proofs.Lemmas.{mails-snoc}
+use Rattle.sc_node_table.specs.Definitions.{is_node, node_table, last_slot, slots_ahead}
+use Rattle.sc_client_table.specs.Definitions.{Client as ClientState, ClientStep, table}
+use Rattle.sc_paxos_words.proofs.Lemmas.{Each-among}
 use Rattle.sc_scenario.specs.declared.scenarios.Asks.{Asks}
 use Rattle.sc_scenario.specs.declared.scenarios.Scenario.{Scenario}
-use Rattle.sc_sound.specs.Players.{Player, player_table, node_seat, client_seat, route_of, births, system_of, as_nodes}
-use Rattle.sc_mail.specs.declared.roles.Role.TheVariants.{Node, Client}
-use Rattle.sc_orderly_law.specs.Orderly.{IsTidy, IsOrderly, IsInOrder, rest, mail_for, taken}
-use Rattle.sc_orderly_law.specs.Owing.{owed_at_birth}
-use Rattle.sc_orderly_law.proofs.Resting.{TakesFirst, rest-row}
-use Rattle.sc_paxos_law.proofs.Among.{Among-right}
-use Rattle.sc_budget_law.specs.BetweenJournal.{replica_at}
-use Rattle.sc_budget_law.specs.Frames.{Frame}
-use Rattle.sc_budget_law.specs.PlainClient.{IsBegun, IsWaiting}
-use Rattle.sc_budget_law.specs.PlainMail.{IsPlainMail}
+use Rattle.sc_sound.specs.Definitions.{Player, player_table, node_seat, client_seat, route_of, births, system_of, as_nodes}
+use Rattle.sc_orderly_law.specs.Definitions.{IsTidy, IsOrderly, IsInOrder, rest, mail_for, taken, owed_at_birth}
+use Rattle.sc_orderly_law.proofs.Lemmas.{TakesFirst, rest-row}
+use Rattle.sc_paxos_law.proofs.Lemmas.{Among-right}
+use Rattle.sc_budget_law.specs.Definitions.{replica_at, Frame, IsBegun, IsWaiting, IsPlainMail}
 use Rattle.sc_budget_law.proofs.BetweenAll.{owing_of, IsNodeAt, IsClientAt, IsPlainJournal}
 use Rattle.sc_budget_law.proofs.BetweenClients as client_rows
 use Rattle.sc_budget_law.proofs.BetweenStage.{frames_of, IsStage}

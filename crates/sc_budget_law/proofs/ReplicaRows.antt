@@ -1,30 +1,14 @@
 -- What a replica of a plain group does with each mail, that it stays plain, and that less is owed after it.
 use Rattle.std.proofs.Common.{◌≡◌, ℕ, ◌+◌, ◌≤◌, ◌&&◌, true, false, List, [], ◌∷◌, sum_by, Some, ◌⊎◌, inl, inr, refl, sym, ◌∙◌, ap, subst, arith}
 use Rattle.std.proofs.lemmas.Bool.{cases_Bool, both_ways, and_left, and_right}
-use Rattle.sc_base.specs.Among.{Each}
-use Rattle.sc_base.specs.Limits.{client_actor}
-use Rattle.sc_base.specs.declared.names.Ballot.{Ballot}
-use Rattle.sc_base.specs.declared.names.Draw.{Draw}
-use Rattle.sc_base.specs.declared.ops.Op.{Op}
-use Rattle.sc_ideal.specs.IdealStore.{key_of, holds_key}
-use Rattle.sc_cmd.specs.declared.commands.Command.{Command}
-use Rattle.sc_cmd.specs.declared.commands.Command.TheVariants.{Call}
-use Rattle.sc_cmd.specs.declared.cores.Core.{Core}
+use Rattle.sc_base.specs.Definitions.{Each, client_actor, is_member}
+use Rattle.sc_node_table.specs.Values.{Ballot, Draw, Op, Command, Call, Core, Mail, MailBody, Request, Answer, Prepare, Promise, Accept, Accepted, Nack, Learn, Ask, Install, TxPrepare, TxVote, TxOutcome, TxElsewhere, TxWatch, TxWatched, Told}
+use Rattle.sc_ideal.specs.Definitions.{key_of, holds_key}
 use Rattle.sc_mail.specs.declared.bodies.AnswerBody.TheVariants as Says
-use Rattle.sc_mail.specs.declared.bodies.Mail.{Mail}
-use Rattle.sc_mail.specs.declared.bodies.MailBody.{MailBody}
-use Rattle.sc_mail.specs.declared.bodies.MailBody.TheVariants.{Request, Answer, Prepare, Promise, Accept, Accepted, Nack, Learn, Ask, Install, TxPrepare, TxVote, TxOutcome, TxElsewhere, TxWatch, TxWatched, Told}
-use Rattle.sc_base.specs.Roster.{is_member}
-use Rattle.sc_paxos_words.specs.Ballots.{below}
-use Rattle.sc_paxos_words.proofs.BallotLemmas.{at_least_itself}
-use Rattle.sc_paxos_words.proofs.ListLemmas.{Each-weaker}
-use Rattle.sc_node_table.specs.Replica.{ReplicaState, Place, name_of, next, last_slot}
-use Rattle.sc_node_table.specs.Rows.{mailed}
-use Rattle.sc_node_table.specs.Slots.{slots_ahead}
-use Rattle.sc_budget_law.specs.Frames.{Frame, IsFrame}
-use Rattle.sc_budget_law.specs.Owed.{body_owes, mail_owes, replica_owes}
-use Rattle.sc_budget_law.specs.PlainMail.{Requests, IsPlainCall, IsPlainCommand, IsPlainBody}
-use Rattle.sc_budget_law.specs.PlainNode.{AreTaken, IsPlainLeader, IsPlainFollower, IsPlainVoter, IsPlainReplica, HasOffered, IsLeading, IsSettled, IsPlainAt, IsDue}
+use Rattle.sc_paxos_words.specs.Definitions.{below}
+use Rattle.sc_paxos_words.proofs.Lemmas.{at_least_itself, Each-weaker}
+use Rattle.sc_node_table.specs.Definitions.{ReplicaState, Place, name_of, next, last_slot, mailed, slots_ahead}
+use Rattle.sc_budget_law.specs.Definitions.{Frame, IsFrame, body_owes, mail_owes, replica_owes, Requests, IsPlainCall, IsPlainCommand, IsPlainBody, AreTaken, IsPlainLeader, IsPlainFollower, IsPlainVoter, IsPlainReplica, HasOffered, IsLeading, IsSettled, IsPlainAt, IsDue}
 use Rattle.sc_budget_law.proofs.Asking.{request_refused, request_run}
 use Rattle.sc_budget_law.proofs.Leading.{IsHeld, IsSaid}
 use Rattle.sc_budget_law.proofs.Pumping.{call_is}

@@ -3,26 +3,15 @@ use Rattle.std.proofs.Common.{◌≡◌, ℕ, ◌+◌, ◌-◌, ◌*◌, ◌≤�
 use Rattle.std.specs.Prelude.{slice_get, unwrap_or}
 use Rattle.std.proofs.lemmas.Bool.{cases_Bool, cases_eq, cases_lt, both_ways, and_from, or_left, or_right, lt-ltb}
 use Rattle.std.proofs.lemmas.Option.{slice_get_past}
-use Rattle.sc_base.specs.Among.{Among, Each}
-use Rattle.sc_base.specs.declared.names.Draw.{Draw}
-use Rattle.sc_cmd.specs.declared.commands.Command.{Command}
-use Rattle.sc_base.specs.Majority.{votes_of, is_majority}
-use Rattle.sc_base.specs.Roster.{is_member}
-use Rattle.sc_paxos_words.specs.Ballots.{below}
-use Rattle.sc_paxos_words.specs.declared.flights.Flight.{Flight}
-use Rattle.sc_paxos_words.proofs.ListLemmas.{Each-among}
-use Rattle.sc_machine_table.specs.Group.{Group}
-use Rattle.sc_node_table.specs.Replica.{ReplicaState, name_of, next, members, may_offer}
-use Rattle.sc_node_table.specs.Slots.{numbers_from, slots_ahead}
-use Rattle.sc_paxos_law.proofs.Among.{place_among, among-member}
-use Rattle.sc_calm_law.specs.Quiet.{View as Replicas, IsAtRest, IsUpToDate, StandsQuiet}
-use Rattle.sc_budget_law.specs.AtRest.{IsOfNodes, IsKept, frame_at_rest, view_at_rest, StandsPlain, QuietGroupsStandPlain}
-use Rattle.sc_budget_law.specs.Between.{IsBetween}
-use Rattle.sc_budget_law.specs.BetweenJournal.{next_in, voters_in, votes_in}
-use Rattle.sc_budget_law.specs.Frames.{Frame, IsFrame}
-use Rattle.sc_budget_law.specs.PlainClient.{IsBegun}
-use Rattle.sc_budget_law.specs.PlainMail.{Requests, IsPlainCommand}
-use Rattle.sc_budget_law.specs.PlainNode.{takers, AreTaken, IsPlainGroup, IsPlainFlight, IsPlainLeader, IsPlainFollower, IsPlainVoter, IsPlainReplica, IsLeading, IsSettled, IsPlainAt}
+use Rattle.sc_base.specs.Definitions.{Among, Each, votes_of, is_majority, is_member}
+use Rattle.sc_node_table.specs.Values.{Draw, Command, Flight}
+use Rattle.sc_paxos_words.specs.Definitions.{below}
+use Rattle.sc_paxos_words.proofs.Lemmas.{Each-among}
+use Rattle.sc_machine_table.specs.Definitions.{Group}
+use Rattle.sc_node_table.specs.Definitions.{ReplicaState, name_of, next, members, may_offer, numbers_from, slots_ahead}
+use Rattle.sc_paxos_law.proofs.Lemmas.{place_among, among-member}
+use Rattle.sc_calm_law.specs.Definitions.{View as Replicas, IsAtRest, IsUpToDate, StandsQuiet}
+use Rattle.sc_budget_law.specs.Definitions.{IsOfNodes, IsKept, frame_at_rest, view_at_rest, StandsPlain, QuietGroupsStandPlain, IsBetween, next_in, voters_in, votes_in, Frame, IsFrame, IsBegun, Requests, IsPlainCommand, takers, AreTaken, IsPlainGroup, IsPlainFlight, IsPlainLeader, IsPlainFollower, IsPlainVoter, IsPlainReplica, IsLeading, IsSettled, IsPlainAt}
 use Rattle.sc_budget_law.proofs.Counts.{one_if, one_no}
 use Rattle.sc_budget_law.proofs.Leading.{in_range, range_before, range_behind}
 use Rattle.sc_budget_law.proofs.Lists.{some_is}
@@ -252,5 +241,6 @@ module _ (begun : Requests) (at : Replicas) (group : Draw) (quiet : StandsQuiet 
     between = between;
   }
 
+-- Until the next order each group that stands in a quiet journal is as plain as one from its birth: in the frame that its leader gives, with the open slots' own members, all its replicas are plain, also those of nodes that left, and nothing stands between the leader and its nodes.
 pub quiet_stand_plain : QuietGroupsStandPlain
 quiet_stand_plain scenario rows at group quiet all noted = stands_plain (IsBegun scenario rows) at group quiet all noted

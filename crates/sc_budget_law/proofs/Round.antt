@@ -3,15 +3,12 @@ use Rattle.std.proofs.Common.{◌≡◌, ℕ, zero, suc, ◌+◌, ◌-◌, ◌%�
 use Rattle.std.specs.Prelude.{slice_get}
 use Rattle.std.proofs.lemmas.Bool.{cond-true, cond-false, cases_lt, eq-eqb, ne_eqb, le-leb, lt-leb, ltb-false}
 use Rattle.std.proofs.lemmas.List.{length-map}
-use Rattle.sc_base.specs.Among.{Each}
-use Rattle.sc_base.specs.declared.names.Draw.{Draw}
-use Rattle.sc_cmd.specs.declared.cores.Base.{Base}
-use Rattle.sc_base.specs.Roster.{least_of}
-use Rattle.sc_scenario.specs.Groups.{group_at, name_at, place_right, way, arc_at, base_at, bases_up_to}
-use Rattle.sc_scenario.specs.Valid.{IsBounded}
+use Rattle.sc_base.specs.Definitions.{Each, least_of}
+use Rattle.sc_node_table.specs.Values.{Draw, Base}
+use Rattle.sc_scenario.specs.Definitions.{group_at, name_at, place_right, way, arc_at, base_at, bases_up_to, IsBounded}
 use Rattle.sc_scenario.specs.declared.drafts.GroupLine.{GroupLine}
 use Rattle.sc_scenario.specs.declared.scenarios.Scenario.{Scenario}
-use Rattle.sc_budget_law.specs.Frames.{Frame, frame_of}
+use Rattle.sc_budget_law.specs.Definitions.{Frame, frame_of}
 use Rattle.sc_budget_law.proofs.BetweenStage.{frames_of, stage, frame_is}
 use Rattle.sc_budget_law.proofs.Knowing.{IsBefore, IsRound}
 use Rattle.sc_budget_law.proofs.Lists.{some_is}

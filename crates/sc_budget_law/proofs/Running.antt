@@ -1,31 +1,16 @@
 -- What the leading replica of a plain group executes: the ready call of its next slot.
 use Rattle.std.proofs.Common.{◌≡◌, ℕ, ◌+◌, ◌-◌, ◌<◌, ◌≤◌, eqb, true, List, [], ◌∷◌, ◌++◌, length, sum_by, Some, ◌⊎◌, inl, inr, refl, sym, ◌∙◌, ap, subst, arith, append-nil}
 use Rattle.std.proofs.lemmas.Bool.{cond_both, cond-true, cases_eq, eq-eqb, ne_eqb}
-use Rattle.sc_base.specs.Among.{Among, Each}
-use Rattle.sc_base.specs.Limits.{client_actor}
-use Rattle.sc_base.specs.declared.ops.Op.{Op}
-use Rattle.sc_cmd.specs.declared.commands.Command.{Command}
-use Rattle.sc_cmd.specs.declared.commands.Command.TheVariants.{Call}
-use Rattle.sc_cmd.specs.declared.cores.Core.{Core}
-use Rattle.sc_mail.specs.declared.bodies.Mail.{Mail}
-use Rattle.sc_mail.specs.declared.bodies.MailBody.TheVariants.{Answer, Learn}
-use Rattle.sc_base.specs.Roster.{is_member, IsRoster}
-use Rattle.sc_paxos_words.specs.declared.flights.Flight.{Flight}
-use Rattle.sc_paxos_words.specs.Leaders.{without_flight}
-use Rattle.sc_paxos_words.proofs.ListLemmas.{Each-among, Each-push, Each-weaker}
-use Rattle.sc_machine_table.specs.Machine.{applied}
-use Rattle.sc_node_table.specs.Execute.{entered, executed_one}
-use Rattle.sc_node_table.specs.Mails.{answer_to, sent_others}
-use Rattle.sc_node_table.specs.Replica.{ReplicaState, Place, name_of, next, members, forgotten}
-use Rattle.sc_node_table.specs.Slots.{at_slot, without_slot, numbers_from, slots_ahead}
-use Rattle.sc_law_lemmas.proofs.Places.{cleared}
-use Rattle.sc_paxos_law.proofs.Among.{among-member}
-use Rattle.sc_budget_law.specs.Frames.{Frame, IsFrame}
-use Rattle.sc_budget_law.specs.Owed.{mail_owes, replica_owes}
-use Rattle.sc_budget_law.specs.PlainMail.{Requests, IsPlainCommand, IsPlainCall}
-use Rattle.sc_budget_law.specs.PlainNode.{takers, IsPlainFlight, IsPlainLeader, IsPlainReplica}
+use Rattle.sc_base.specs.Definitions.{Among, Each, client_actor, is_member, IsRoster}
+use Rattle.sc_node_table.specs.Values.{Op, Command, Call, Core, Mail, Answer, Learn, Flight}
+use Rattle.sc_paxos_words.specs.Definitions.{without_flight}
+use Rattle.sc_paxos_words.proofs.Lemmas.{Each-among, Each-push, Each-weaker}
+use Rattle.sc_machine_table.specs.Definitions.{applied}
+use Rattle.sc_node_table.specs.Definitions.{entered, executed_one, answer_to, sent_others, ReplicaState, Place, name_of, next, members, forgotten, at_slot, without_slot, numbers_from, slots_ahead}
+use Rattle.sc_law_lemmas.proofs.Lemmas.{cleared, entered_next}
+use Rattle.sc_paxos_law.proofs.Lemmas.{among-member}
+use Rattle.sc_budget_law.specs.Definitions.{Frame, IsFrame, mail_owes, replica_owes, Requests, IsPlainCommand, IsPlainCall, takers, IsPlainFlight, IsPlainLeader, IsPlainReplica}
 use Rattle.sc_budget_law.proofs.Counts.{one_if, one_yes, one_no, entries_at, out_none, out_length, out_here, out_other, out_each, out_among, at_found, at_only}
-use Rattle.sc_law_lemmas.proofs.Entries.{entered_next}
 use Rattle.sc_budget_law.proofs.Entry.{entered_plain, told_after, counted_call}
 use Rattle.sc_budget_law.proofs.Leading.{in_range, range_yes, range_less, flights_at, IsHeld, IsToldOf, IsSaid, later_row, Leads}
 use Rattle.sc_budget_law.proofs.Sends.{learns_to, mail_of, owed_push, learns_push, last_among, others_each, others_kept, others_owed, learns_one, member_counts, numbers_push, roster_rises, among_push}

@@ -6,20 +6,12 @@ use Rattle.std.proofs.lemmas.List.Concat.{flat_map-append}
 use Rattle.std.proofs.lemmas.List.Kept.{AllPairs-from_increasing}
 use Rattle.std.proofs.lemmas.List.Sums.{sum_by_push}
 use Rattle.std.proofs.Math.Nat.{suc-mul}
-use Rattle.sc_base.proofs.NameLemmas.{same_name}
-use Rattle.sc_base.specs.Among.{Among, Each}
-use Rattle.sc_base.specs.Same.{same_draw}
-use Rattle.sc_base.specs.declared.names.Draw.{Draw}
-use Rattle.sc_cmd.specs.declared.commands.Command.{Command}
-use Rattle.sc_mail.specs.declared.bodies.Mail.{Mail}
-use Rattle.sc_mail.specs.declared.bodies.MailBody.{MailBody}
-use Rattle.sc_mail.specs.declared.bodies.MailBody.TheVariants.{Request, Answer, Prepare, Promise, Accept, Accepted, Nack, Learn, Ask, Install, TxPrepare, TxVote, TxOutcome, TxElsewhere, TxWatch, TxWatched, Told}
-use Rattle.sc_base.specs.Roster.{is_member, IsRoster}
-use Rattle.sc_base.proofs.Pairs.{AllPairs-head, AllPairs-tail}
-use Rattle.sc_paxos_words.proofs.ListLemmas.{Each-push, Each-from_All}
-use Rattle.sc_node_table.specs.Mails.{sent, sent_all, sent_others}
-use Rattle.sc_node_table.specs.Slots.{numbers_from}
-use Rattle.sc_budget_law.specs.Owed.{body_owes, mail_owes}
+use Rattle.sc_base.proofs.Lemmas.{same_name, AllPairs-head, AllPairs-tail}
+use Rattle.sc_base.specs.Definitions.{Among, Each, same_draw, is_member, IsRoster}
+use Rattle.sc_node_table.specs.Values.{Draw, Command, Mail, MailBody, Request, Answer, Prepare, Promise, Accept, Accepted, Nack, Learn, Ask, Install, TxPrepare, TxVote, TxOutcome, TxElsewhere, TxWatch, TxWatched, Told}
+use Rattle.sc_paxos_words.proofs.Lemmas.{Each-push, Each-from_All}
+use Rattle.sc_node_table.specs.Definitions.{sent, sent_all, sent_others, numbers_from}
+use Rattle.sc_budget_law.specs.Definitions.{body_owes, mail_owes}
 use Rattle.sc_budget_law.proofs.Counts.{one_yes, one_no, count-cons}
 
 -- ---- which slots the Learns among mails name

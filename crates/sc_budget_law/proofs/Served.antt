@@ -5,27 +5,12 @@ use Rattle.std.specs.Cmp.Lexicographic.{nat_list_cmp_total}
 use Rattle.std.specs.FinMap.{get, insert, remove, get-insert, get-remove}
 use Rattle.std.specs.Prelude.{is_none}
 use Rattle.std.proofs.lemmas.Bool.{cond_both, eqb-true, eqb-false, ltb-false, both_ways}
-use Rattle.sc_base.specs.declared.ops.Noted.{Noted}
-use Rattle.sc_base.specs.declared.ops.Op.{Op}
-use Rattle.sc_base.specs.declared.ops.Op.TheVariants.{Get, Put, Del, Add, Cas}
-use Rattle.sc_base.specs.declared.ops.Reply.{Reply}
-use Rattle.sc_ideal.specs.IdealStore.{Contents, key_of, holds_key, reply_of, after, was}
-use Rattle.sc_cmd.specs.declared.commands.Command.TheVariants.{Call}
-use Rattle.sc_cmd.specs.declared.cores.Core.{Core}
-use Rattle.sc_cmd.specs.declared.cores.Lock.{Lock}
-use Rattle.sc_cmd.specs.declared.cores.Lock.TheVariants.{Free}
-use Rattle.sc_cmd.specs.declared.effects.Effect.{Effect}
+use Rattle.sc_node_table.specs.Values.{Noted, Op, Get, Put, Del, Add, Cas, Reply, Call, Core, Lock, Free, Effect, Route, AnswerBody, Value, Stale}
+use Rattle.sc_ideal.specs.Definitions.{Contents, key_of, holds_key, reply_of, after, was}
 use Rattle.sc_cmd.specs.declared.effects.Effect.TheVariants as Was
-use Rattle.sc_cmd.specs.declared.links.Route.{Route}
-use Rattle.sc_mail.specs.declared.bodies.AnswerBody.{AnswerBody}
-use Rattle.sc_mail.specs.declared.bodies.AnswerBody.TheVariants.{Value, Stale}
-use Rattle.sc_machine_table.specs.Group.{Group}
-use Rattle.sc_machine_table.specs.Machine.{done, served_by_note, served, called, applied}
-use Rattle.sc_node_table.specs.Execute.{answer_of}
-use Rattle.sc_budget_law.specs.Frames.{Frame, IsFrame}
-use Rattle.sc_budget_law.specs.Owed.{answer_owes}
-use Rattle.sc_budget_law.specs.PlainMail.{Requests, written_by, IsWrittenValue, IsPlainCall, IsPlainAnswer}
-use Rattle.sc_budget_law.specs.PlainNode.{IsPlainGroup}
+use Rattle.sc_machine_table.specs.Definitions.{Group, done, served_by_note, served, called, applied}
+use Rattle.sc_node_table.specs.Definitions.{answer_of}
+use Rattle.sc_budget_law.specs.Definitions.{Frame, IsFrame, answer_owes, Requests, written_by, IsWrittenValue, IsPlainCall, IsPlainAnswer, IsPlainGroup}
 use Rattle.sc_budget_law.proofs.Lists.{some_is}
 
 -- what a key has after an operation is what it had, or what the operation writes

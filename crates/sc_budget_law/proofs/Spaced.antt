@@ -1,15 +1,13 @@
 -- Orders of a calm scenario stand alone between lines of deliveries.
 use Rattle.std.proofs.Common.{◌≡◌, ℕ, List, [], ◌∷◌, ◌++◌, ◌||◌, Bool, true, false, true≢false, map, refl, sym, ap}
 use Rattle.std.specs.List.{list_any}
-use Rattle.sc_base.specs.Among.{Each}
-use Rattle.sc_cmd.specs.declared.orders.OrderLine.{OrderLine}
+use Rattle.sc_base.specs.Definitions.{Each}
+use Rattle.sc_node_table.specs.Values.{OrderLine}
 use Rattle.sc_scenario.specs.declared.scenarios.SchedLine.{SchedLine}
 use Rattle.sc_scenario.specs.declared.scenarios.SchedLine.TheVariants.{Go, Deliver, Drop, Again, Tick, Crash, Told, Settle, Free, Storm}
-use Rattle.sc_sound.specs.Players.{line_of}
-use Rattle.sc_orderly_law.specs.Owing.{HasRoom}
-use Rattle.sc_orderly_law.specs.Timely.{Said, Nothing, Goes, AnOrder, MayGo, MayOrder, AreSpaced}
-use Rattle.sc_budget_law.specs.Budget.{delivers}
-use Rattle.sc_budget_law.specs.Calm.{gives_order, starts, are_parted, calm_budget_of, AllowsCalmly, CalmLinesAreSpaced}
+use Rattle.sc_sound.specs.Definitions.{line_of}
+use Rattle.sc_orderly_law.specs.Definitions.{HasRoom, Said, Nothing, Goes, AnOrder, MayGo, MayOrder, AreSpaced}
+use Rattle.sc_budget_law.specs.Definitions.{delivers, gives_order, starts, are_parted, calm_budget_of, AllowsCalmly, CalmLinesAreSpaced}
 
 -- whether what was said keeps a line from coming without deliveries between
 abbrev bars : Said → SchedLine → Bool
@@ -78,6 +76,7 @@ lines_room budget (Tick who ∷ lines) calm = absurd calm.0
 lines_room budget (Crash node ∷ lines) calm = absurd calm.0
 lines_room budget (Storm number most ∷ lines) calm = absurd calm.0
 
+-- A calm scenario at its budget has its orders alone between lines of deliveries, and each of these has room for the budget: what is owed in a quiet journal, and what one order raises.
 pub calm_spaced : CalmLinesAreSpaced
 calm_spaced scenario calm =
     (lines_spaced (calm_budget_of scenario) Nothing scenario.lines calm.lines calm.parted (nothing_barred scenario.lines), lines_room (calm_budget_of scenario) scenario.lines calm.lines)

@@ -3,7 +3,7 @@ use Rattle.std.proofs.Common.{◌≡◌, ℕ, ◌*◌, ◌≤◌, List, [], ◌�
 use Rattle.std.specs.List.{sum_by}
 use Rattle.std.proofs.lemmas.List.Sums.{sum_by-cons}
 use Rattle.std.proofs.Math.Nat.{add-mul}
-use Rattle.sc_base.specs.Among.{Among}
+use Rattle.sc_base.specs.Definitions.{Among}
 
 -- all of some owe no more than a share of each
 pub shares : {X : Type 0} (f g : X → ℕ) (c : ℕ) (xs : List X) → ((x : X) → Among x xs → f x ≤ g x * c) → sum_by f xs ≤ sum_by g xs * c

@@ -2,27 +2,13 @@
 use Rattle.std.proofs.Common.{◌≡◌, ℕ, ◌+◌, ◌-◌, ◌<◌, ◌≤◌, ◌&&◌, eqb, true, false, List, [], length, Option, Some, None, ◌⊎◌, inl, inr, refl, sym, ◌∙◌, ap, subst, arith, append-nil}
 use Rattle.std.specs.Prelude.{nat_lt, slice_get}
 use Rattle.std.proofs.lemmas.Bool.{cond_both, cond-true, cond-false, cases_lt, cases_eq, eqb-true, eq-eqb, ne_eqb, le-ltb, lt-ltb, and_from, and_parts, both_ways}
-use Rattle.sc_base.specs.Among.{Among, Each}
-use Rattle.sc_base.specs.Same.{same_ballot}
-use Rattle.sc_base.proofs.NameLemmas.{ballot_itself}
-use Rattle.sc_cmd.specs.declared.commands.Command.{Command}
-use Rattle.sc_cmd.specs.declared.commands.Command.TheVariants.{Call}
-use Rattle.sc_base.specs.Majority.{votes_of, is_majority}
-use Rattle.sc_base.specs.Roster.{is_member}
-use Rattle.sc_paxos_words.specs.declared.answers.Counted.{Counted}
-use Rattle.sc_paxos_words.specs.declared.answers.Counted.TheVariants.{Chosen, NotYet}
-use Rattle.sc_paxos_words.specs.declared.flights.Flight.{Flight}
-use Rattle.sc_paxos_words.specs.Leaders.{LeaderState, flight_at, without_flight, without_flight_at}
-use Rattle.sc_paxos_words.specs.Votes.{kept_voters, voters_after, with_voters, vote_at}
-use Rattle.sc_paxos_words.proofs.ListLemmas.{find_found, Each-among}
-use Rattle.sc_node_table.specs.Execute.{has_room, executed}
-use Rattle.sc_node_table.specs.Replica.{ReplicaState, Place, Executed, childless, next, set_at, last_slot}
-use Rattle.sc_node_table.specs.Slots.{at_slot, with_slot, numbers_from, slots_ahead}
-use Rattle.sc_node_table.specs.Voting.{leads, readied, vote_tallied, voted, accepted_row}
-use Rattle.sc_budget_law.specs.Frames.{Frame, IsFrame}
-use Rattle.sc_budget_law.specs.Owed.{replica_owes}
-use Rattle.sc_budget_law.specs.PlainMail.{Requests, IsPlainCommand}
-use Rattle.sc_budget_law.specs.PlainNode.{takers, IsPlainFlight, IsPlainLeader, IsPlainReplica, HasOffered}
+use Rattle.sc_base.specs.Definitions.{Among, Each, same_ballot, votes_of, is_majority, is_member}
+use Rattle.sc_base.proofs.Lemmas.{ballot_itself}
+use Rattle.sc_node_table.specs.Values.{Command, Call, Counted, Chosen, NotYet, Flight}
+use Rattle.sc_paxos_words.specs.Definitions.{LeaderState, flight_at, without_flight, without_flight_at, kept_voters, voters_after, with_voters, vote_at}
+use Rattle.sc_paxos_words.proofs.Lemmas.{find_found, Each-among}
+use Rattle.sc_node_table.specs.Definitions.{has_room, executed, ReplicaState, Place, Executed, childless, next, set_at, last_slot, at_slot, with_slot, numbers_from, slots_ahead, leads, readied, vote_tallied, voted, accepted_row}
+use Rattle.sc_budget_law.specs.Definitions.{Frame, IsFrame, replica_owes, Requests, IsPlainCommand, takers, IsPlainFlight, IsPlainLeader, IsPlainReplica, HasOffered}
 use Rattle.sc_budget_law.proofs.Asking.{begins}
 use Rattle.sc_budget_law.proofs.Counts.{found_one, one_if, one_if_most, one_yes, one_no, entries_at, with_length, with_count, with_each, with_among, with_it, with_at, out_length, out_here, out_other, out_each, out_among}
 use Rattle.sc_budget_law.proofs.Flights.{others_out, voted_length, voted_count, voted_each, voted_value, voted_others, voted_here, only_flight, no_flight_at, HasVoted, vote_kept, numbered_get, numbered_past}

@@ -2,32 +2,18 @@
 use Rattle.std.proofs.Common.{◌≡◌, List, [], ◌∷◌, ◌++◌, map, Some, None, lit≤, inl, inr, refl, subst}
 use Rattle.std.specs.Prelude.{true, false, length}
 use Rattle.std.specs.List.{list_any}
-use Rattle.sc_cmd.specs.declared.cores.Base.{Base}
-use Rattle.sc_actor.specs.Mail.{mails}
-use Rattle.sc_actor.specs.Replay.{value}
-use Rattle.sc_cmd.specs.declared.orders.OrderLine.{OrderLine}
-use Rattle.sc_cmd.specs.declared.commands.Command.TheVariants.{Call}
+use Rattle.sc_node_table.specs.Values.{Base, OrderLine, Call, LastMember, Refused, Value, Mail, Request, Answer, Accept, Accepted, Told as Tells, Row, Deliver, Go as Goes}
+use Rattle.sc_actor.specs.Definitions.{mails, value}
 use Rattle.sc_cmd.specs.declared.orders.Order.TheVariants.{Leave}
-use Rattle.sc_cmd.specs.declared.orders.OrderRefusal.TheVariants.{LastMember}
-use Rattle.sc_cmd.specs.declared.orders.ToldResult.TheVariants.{Refused}
-use Rattle.sc_mail.specs.declared.bodies.AnswerBody.TheVariants.{Value}
-use Rattle.sc_mail.specs.declared.bodies.Mail.{Mail}
-use Rattle.sc_mail.specs.declared.bodies.MailBody.TheVariants.{Request, Answer, Accept, Accepted, Told as Tells}
-use Rattle.sc_actor.specs.declared.rows.Row.{Row}
-use Rattle.sc_actor.specs.declared.rows.Event.TheVariants.{Deliver, Go as Goes, Told as Ordered}
-use Rattle.sc_scenario.specs.Groups.{lone_name}
+use Rattle.sc_actor.specs.declared.rows.Event.TheVariants.{Told as Ordered}
+use Rattle.sc_scenario.specs.Definitions.{lone_name}
 use Rattle.sc_scenario.specs.declared.scenarios.Asks.{Asks}
 use Rattle.sc_scenario.specs.declared.scenarios.Scenario.{Scenario}
 use Rattle.sc_scenario.specs.declared.scenarios.SchedLine.{SchedLine}
 use Rattle.sc_scenario.specs.declared.scenarios.SchedLine.TheVariants.{Go, Told, Settle}
-use Rattle.sc_sound.specs.Requests.{kept_replies}
-use Rattle.sc_sound.specs.Example.{alone, put_it, get_it, ballot, mail, row, example_rows, put_get_scenario}
-use Rattle.sc_sound.specs.Players.{player_table, node_seat, client_seat, as_nodes, route_of, schedule}
-use Rattle.sc_orderly_law.specs.Timely.{AreSpaced, Nothing}
-use Rattle.sc_budget_law.specs.Calm.{calm_budget_of, gives_order, are_parted, IsCalmAtBudget}
-use Rattle.sc_budget_law.specs.Budget.{requests_of, budget_of, delivers, IsAtBudget, IsServed, AreAnswered}
-use Rattle.sc_budget_law.specs.Owed.{mail_owes, player_owes}
-use Rattle.sc_budget_law.specs.PlainClient.{begun_of}
+use Rattle.sc_sound.specs.Definitions.{kept_replies, alone, put_it, get_it, ballot, mail, row, example_rows, put_get_scenario, player_table, node_seat, client_seat, as_nodes, route_of, schedule}
+use Rattle.sc_orderly_law.specs.Definitions.{AreSpaced, Nothing}
+use Rattle.sc_budget_law.specs.Definitions.{calm_budget_of, gives_order, are_parted, IsCalmAtBudget, requests_of, budget_of, delivers, IsAtBudget, IsServed, AreAnswered, mail_owes, player_owes, begun_of}
 
 -- two requests and one group
 requests : requests_of put_get_scenario ≡ 2

@@ -1,22 +1,14 @@
 -- A line of requests: clients go and mail is delivered, with no order between, from a journal in which no request waits.
 use Rattle.std.specs.Prelude.{◌≡◌, ℕ, ◌≤◌, true, List, [], ◌∷◌, ◌++◌, length, None}
-use Rattle.sc_base.specs.Among.{Among}
-use Rattle.sc_base.specs.Limits.{client_actor}
-use Rattle.sc_base.specs.declared.names.Draw.{Draw}
-use Rattle.sc_cmd.specs.declared.cores.Base.{Base}
-use Rattle.sc_cmd.specs.declared.orders.OrderLine.{OrderLine}
-use Rattle.sc_mail.specs.declared.bodies.Mail.{Mail}
-use Rattle.sc_mail.specs.declared.roles.Role.TheVariants.{Client}
-use Rattle.sc_actor.specs.declared.rows.Row.{Row}
-use Rattle.sc_actor.specs.Replay.{value}
-use Rattle.sc_actor.specs.System.{has_gone}
-use Rattle.sc_base.specs.Roster.{is_member}
-use Rattle.sc_client_table.specs.Client.{Client as ClientState}
+use Rattle.sc_base.specs.Definitions.{Among, client_actor, is_member}
+use Rattle.sc_node_table.specs.Values.{Draw, Base, OrderLine, Mail, Client, Row}
+use Rattle.sc_actor.specs.Definitions.{value, has_gone}
+use Rattle.sc_client_table.specs.Definitions.{Client as ClientState}
 use Rattle.sc_scenario.specs.declared.scenarios.Asks.{Asks}
 use Rattle.sc_scenario.specs.declared.scenarios.Scenario.{Scenario}
-use Rattle.sc_scenario.specs.Valid.{IsValid}
-use Rattle.sc_sound.specs.Players.{player_table, client_seat, route_of, system_of, as_nodes}
-use Rattle.sc_orderly_law.specs.Orderly.{IsOrderly, IsTidy, rest, is_born}
+use Rattle.sc_scenario.specs.Definitions.{IsValid}
+use Rattle.sc_sound.specs.Definitions.{player_table, client_seat, route_of, system_of, as_nodes}
+use Rattle.sc_orderly_law.specs.Definitions.{IsOrderly, IsTidy, rest, is_born}
 use Rattle.sc_budget_law.specs.Asking.{IsAsking, AreFarFromLast}
 use Rattle.sc_budget_law.specs.CalmAsking.{IsLinkedSetting}
 use Rattle.sc_budget_law.specs.CalmNode.{Setting, IsHome, IsSetting}

@@ -1,16 +1,10 @@
 -- The frame of a group that stands in a quiet journal: until the next order it is as plain as one from its birth.
 use Rattle.std.specs.Prelude.{◌≡◌, ℕ, ◌-◌, ◌<◌, true, List, [], length, slice_get, unwrap_or, Some}
-use Rattle.sc_base.specs.Among.{Each}
-use Rattle.sc_base.specs.declared.names.Draw.{Draw}
-use Rattle.sc_cmd.specs.declared.orders.OrderLine.{OrderLine}
-use Rattle.sc_mail.specs.declared.bodies.Mail.{Mail}
-use Rattle.sc_actor.specs.declared.rows.Row.{Row}
-use Rattle.sc_base.specs.Roster.{IsRoster, is_member}
-use Rattle.sc_node_table.specs.Node.{is_node}
-use Rattle.sc_node_table.specs.Replica.{ReplicaState, name_of, next, members}
-use Rattle.sc_node_table.specs.Slots.{slots_ahead}
+use Rattle.sc_base.specs.Definitions.{Each, IsRoster, is_member}
+use Rattle.sc_node_table.specs.Values.{Draw, OrderLine, Mail, Row}
+use Rattle.sc_node_table.specs.Definitions.{is_node, ReplicaState, name_of, next, members, slots_ahead}
 use Rattle.sc_scenario.specs.declared.scenarios.Scenario.{Scenario}
-use Rattle.sc_calm_law.specs.Quiet.{View as Replicas, IsAtRest, StandsQuiet}
+use Rattle.sc_calm_law.specs.Definitions.{View as Replicas, IsAtRest, StandsQuiet}
 use Rattle.sc_budget_law.specs.Between.{View, IsBetween}
 use Rattle.sc_budget_law.specs.BetweenJournal.{next_in, votes_in}
 use Rattle.sc_budget_law.specs.Frames.{Frame, IsFrame}

@@ -1,21 +1,13 @@
 -- What stands between the leader of a group and its nodes after some rows.
 use Rattle.std.specs.Prelude.{◌≡◌, ℕ, ◌+◌, ◌==◌, List, [], map, filter, Option, Some, None, if◌then◌else◌}
 use Rattle.std.specs.Option.{option_map}
-use Rattle.sc_base.specs.declared.names.Draw.{Draw}
-use Rattle.sc_cmd.specs.declared.commands.Command.{Command}
-use Rattle.sc_cmd.specs.declared.orders.OrderLine.{OrderLine}
-use Rattle.sc_mail.specs.declared.bodies.Mail.{Mail}
-use Rattle.sc_actor.specs.declared.rows.Row.{Row}
-use Rattle.sc_actor.specs.Replay.{value}
-use Rattle.sc_paxos_words.specs.declared.flights.Flight.{Flight}
-use Rattle.sc_paxos_words.specs.Leaders.{flight_at}
-use Rattle.sc_paxos_words.specs.Votes.{kept_voters}
-use Rattle.sc_node_table.specs.Node.{replica_of, is_node}
-use Rattle.sc_node_table.specs.Replica.{ReplicaState, next}
+use Rattle.sc_node_table.specs.Values.{Draw, Command, OrderLine, Mail, Row, Flight, Node, Client}
+use Rattle.sc_actor.specs.Definitions.{value}
+use Rattle.sc_paxos_words.specs.Definitions.{flight_at, kept_voters}
+use Rattle.sc_node_table.specs.Definitions.{replica_of, is_node, ReplicaState, next}
 use Rattle.sc_scenario.specs.declared.scenarios.Scenario.{Scenario}
-use Rattle.sc_sound.specs.Players.{Player, player_table, node_seat, system_of, as_nodes}
-use Rattle.sc_mail.specs.declared.roles.Role.TheVariants.{Node, Client}
-use Rattle.sc_orderly_law.specs.Orderly.{rest}
+use Rattle.sc_sound.specs.Definitions.{Player, player_table, node_seat, system_of, as_nodes}
+use Rattle.sc_orderly_law.specs.Definitions.{rest}
 use Rattle.sc_budget_law.specs.Frames.{Frame}
 use Rattle.sc_budget_law.specs.Between.{Mark, mark, View, IsBetween}
 use Rattle.sc_budget_law.specs.PlainNode.{AreTaken}

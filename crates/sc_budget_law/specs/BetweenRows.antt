@@ -1,10 +1,8 @@
 -- What one row does to what stands between the leader of a group and its nodes.
 use Rattle.std.specs.Prelude.{◌≡◌, ℕ, ◌+◌, ◌<◌, ◌≤◌, true, List, [], ◌∷◌, Some, ◌⊎◌}
-use Rattle.sc_base.specs.Among.{Among, Each}
-use Rattle.sc_base.specs.Roster.{is_member}
-use Rattle.sc_mail.specs.declared.bodies.Mail.{Mail}
-use Rattle.sc_node_table.specs.Replica.{ReplicaState, next}
-use Rattle.sc_node_table.specs.Slots.{numbers_from}
+use Rattle.sc_base.specs.Definitions.{Among, Each, is_member}
+use Rattle.sc_node_table.specs.Values.{Mail}
+use Rattle.sc_node_table.specs.Definitions.{ReplicaState, next, numbers_from}
 use Rattle.sc_budget_law.specs.Frames.{Frame}
 use Rattle.sc_budget_law.specs.Between.{Mark, Asks, Votes, Tells, Other, View, told}
 use Rattle.sc_budget_law.specs.BetweenJournal.{voters_in, marks_for}

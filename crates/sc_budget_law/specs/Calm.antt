@@ -1,13 +1,12 @@
 -- The budget of a calm scenario, in which orders are given besides, one after another.
 use Rattle.std.specs.Prelude.{◌≡◌, ℕ, ◌+◌, ◌*◌, ◌≤◌, ◌&&◌, ◌||◌, Bool, true, false, List, ◌∷◌, ◌++◌, length, count_by}
 use Rattle.std.specs.List.{list_any}
-use Rattle.sc_base.specs.Among.{Each}
+use Rattle.sc_base.specs.Definitions.{Each}
 use Rattle.sc_scenario.specs.declared.scenarios.Scenario.{Scenario}
 use Rattle.sc_scenario.specs.declared.scenarios.SchedLine.{SchedLine}
 use Rattle.sc_scenario.specs.declared.scenarios.SchedLine.TheVariants.{Go, Deliver, Drop, Again, Tick, Crash, Told, Settle, Free, Storm}
-use Rattle.sc_sound.specs.Players.{schedule}
-use Rattle.sc_orderly_law.specs.Owing.{HasRoom}
-use Rattle.sc_orderly_law.specs.Timely.{AreSpaced, Nothing}
+use Rattle.sc_sound.specs.Definitions.{schedule}
+use Rattle.sc_orderly_law.specs.Definitions.{HasRoom, AreSpaced, Nothing}
 use Rattle.sc_budget_law.specs.Budget.{requests_of, delivers}
 
 -- whether a line gives an order

@@ -1,20 +1,11 @@
 -- Clients while they ask alone, between two orders of a calm journal.
 use Rattle.std.specs.Prelude.{◌≡◌, ℕ, ◌-◌, ◌<◌, ◌≤◌, Bool, true, false, List, [], ◌∷◌, length, slice_get, Some, ◌⊎◌}
-use Rattle.sc_base.specs.Among.{Among, Each}
-use Rattle.sc_base.specs.Limits.{client_actor}
-use Rattle.sc_base.specs.declared.names.Draw.{Draw}
-use Rattle.sc_base.specs.declared.ops.Op.{Op}
-use Rattle.sc_actor.specs.declared.rows.Input.TheVariants.{Got, Go}
-use Rattle.sc_actor.specs.declared.rows.Row.{Row}
-use Rattle.sc_cmd.specs.declared.links.Route.{Route}
-use Rattle.sc_cmd.specs.declared.orders.OrderLine.{OrderLine}
-use Rattle.sc_lookup.specs.Known.{KnownGroups}
-use Rattle.sc_lookup.specs.Ways.{target_of}
+use Rattle.sc_base.specs.Definitions.{Among, Each, client_actor, least_of}
+use Rattle.sc_node_table.specs.Values.{Draw, Op, Got, Row, Route, OrderLine, Mail}
+use Rattle.sc_actor.specs.declared.rows.Input.TheVariants.{Go}
+use Rattle.sc_lookup.specs.Definitions.{KnownGroups, target_of}
 use Rattle.sc_lookup.specs.declared.ways.Way.{Way}
-use Rattle.sc_mail.specs.declared.bodies.Mail.{Mail}
-use Rattle.sc_base.specs.Roster.{least_of}
-use Rattle.sc_client_table.specs.Client.{Client as ClientState}
-use Rattle.sc_client_table.specs.Table.{ClientStep, table}
+use Rattle.sc_client_table.specs.Definitions.{Client as ClientState, ClientStep, table}
 use Rattle.sc_scenario.specs.declared.scenarios.Asks.{Asks}
 use Rattle.sc_scenario.specs.declared.scenarios.Scenario.{Scenario}
 use Rattle.sc_budget_law.specs.CalmClient.{AreRoundRing, KnowsFirst}

@@ -1,10 +1,9 @@
 -- What a client knows of the groups that stand, between two orders.
 use Rattle.std.specs.Prelude.{◌≡◌, ℕ, ◌+◌, ◌^◌, ◌<◌, ◌≤◌, false, List, [], ◌∷◌, ◌++◌, length, map, take, Some, None}
-use Rattle.sc_base.specs.Among.{Among, Each}
-use Rattle.sc_base.specs.Arc.{IsArc, end_of, holds}
-use Rattle.sc_base.specs.declared.names.Draw.{Draw}
+use Rattle.sc_base.specs.Definitions.{Among, Each, IsArc, end_of, holds}
+use Rattle.sc_node_table.specs.Values.{Draw}
 use Rattle.sc_lookup.specs.declared.ways.Way.{Way}
-use Rattle.sc_lookup.specs.Known.{KnownGroups, way_to, chosen, preferring, told_not_mine}
+use Rattle.sc_lookup.specs.Definitions.{KnownGroups, way_to, chosen, preferring, told_not_mine}
 use Rattle.sc_budget_law.specs.Frames.{Frame}
 
 -- a group's successor is another, which starts where the group's arc ends

@@ -1,24 +1,10 @@
 -- Nodes and mail while clients ask alone, between two orders of a calm journal.
 use Rattle.std.specs.Prelude.{◌≡◌, ℕ, ◌+◌, ◌≤◌, true, false, List, Option, Some, None, ◌⊎◌}
-use Rattle.sc_base.specs.Among.{Among, Each}
-use Rattle.sc_base.specs.Limits.{client_actor}
-use Rattle.sc_base.specs.declared.names.Draw.{Draw}
-use Rattle.sc_base.specs.declared.ops.Op.{Op}
-use Rattle.sc_actor.specs.declared.rows.Input.TheVariants.{Got}
-use Rattle.sc_actor.specs.declared.rows.Row.{Row}
-use Rattle.sc_cmd.specs.declared.links.Route.{Route}
-use Rattle.sc_cmd.specs.declared.orders.OrderLine.{OrderLine}
-use Rattle.sc_mail.specs.declared.bodies.AnswerBody.{AnswerBody}
-use Rattle.sc_mail.specs.declared.bodies.AnswerBody.TheVariants.{Value, NotLeader, NotMine, Gone, Stale}
-use Rattle.sc_mail.specs.declared.bodies.Mail.{Mail}
-use Rattle.sc_mail.specs.declared.bodies.MailBody.{MailBody}
-use Rattle.sc_mail.specs.declared.bodies.MailBody.TheVariants.{Request, Answer, Prepare, Promise, Accept, Accepted, Nack, Learn, Ask, Install, TxPrepare, TxVote, TxOutcome, TxElsewhere, TxWatch, TxWatched, Told}
-use Rattle.sc_node_table.specs.Node.{NodeState, replica_of, node_table}
-use Rattle.sc_node_table.specs.Replica.{ReplicaState, next, last_slot}
-use Rattle.sc_node_table.specs.Slots.{slots_ahead}
+use Rattle.sc_base.specs.Definitions.{Among, Each, client_actor}
+use Rattle.sc_node_table.specs.Values.{Draw, Op, Got, Row, Route, OrderLine, AnswerBody, Value, NotLeader, NotMine, Gone, Stale, Mail, MailBody, Request, Answer, Prepare, Promise, Accept, Accepted, Nack, Learn, Ask, Install, TxPrepare, TxVote, TxOutcome, TxElsewhere, TxWatch, TxWatched, Told}
+use Rattle.sc_node_table.specs.Definitions.{NodeState, replica_of, node_table, ReplicaState, next, last_slot, slots_ahead}
 use Rattle.sc_scenario.specs.declared.scenarios.Scenario.{Scenario}
-use Rattle.sc_calm_law.specs.Owed.{Ways}
-use Rattle.sc_calm_law.specs.Quiet.{View as Replicas}
+use Rattle.sc_calm_law.specs.Definitions.{Ways, View as Replicas}
 use Rattle.sc_budget_law.specs.Frames.{Frame, IsFrame, AreNamedApart}
 use Rattle.sc_budget_law.specs.PlainClient.{IsBegun}
 use Rattle.sc_budget_law.specs.PlainMail.{Requests, IsPlainBody, IsPlainMail}

@@ -1,16 +1,9 @@
 -- What the mail of clients' requests owes in a calm journal, between two orders.
 use Rattle.std.specs.Prelude.{◌≡◌, ℕ, false, List, []}
-use Rattle.sc_base.specs.declared.ops.Op.{Op}
-use Rattle.sc_cmd.specs.declared.orders.OrderLine.{OrderLine}
-use Rattle.sc_mail.specs.declared.bodies.Mail.{Mail}
-use Rattle.sc_actor.specs.declared.rows.Row.{Row}
+use Rattle.sc_node_table.specs.Values.{Op, OrderLine, Mail, Row, MailBody, Request}
 use Rattle.sc_scenario.specs.declared.scenarios.Scenario.{Scenario}
-use Rattle.sc_mail.specs.declared.bodies.MailBody.{MailBody}
-use Rattle.sc_mail.specs.declared.bodies.MailBody.TheVariants.{Request}
-use Rattle.sc_node_table.specs.Replica.{ReplicaState, name_of}
-use Rattle.sc_calm_law.specs.Executing.{AreBounded}
-use Rattle.sc_calm_law.specs.Laws.{Lowers, Points}
-use Rattle.sc_calm_law.specs.Owed.{Ways}
+use Rattle.sc_node_table.specs.Definitions.{ReplicaState, name_of}
+use Rattle.sc_calm_law.specs.Definitions.{AreBounded, Lowers, Points, Ways}
 use Rattle.sc_budget_law.specs.Frames.{Frame, IsFrame}
 use Rattle.sc_budget_law.specs.PlainClient.{IsBegun}
 use Rattle.sc_budget_law.specs.PlainMail.{IsPlainBody}

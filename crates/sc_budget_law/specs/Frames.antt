@@ -1,14 +1,8 @@
 -- The frame of a group while it serves calls alone: what does not change.
 use Rattle.std.specs.Prelude.{◌≡◌, ℕ, ◌+◌, ◌≤◌, true, List, None}
-use Rattle.sc_base.specs.Among.{Among}
-use Rattle.sc_base.specs.declared.names.Ballot.{Ballot}
-use Rattle.sc_cmd.specs.declared.cores.Base.{Base}
-use Rattle.sc_cmd.specs.declared.cores.Core.{Core}
-use Rattle.sc_cmd.specs.declared.cores.Lock.TheVariants.{Free}
-use Rattle.sc_base.specs.Roster.{IsRoster, is_member}
-use Rattle.sc_node_table.specs.Node.{is_node}
-use Rattle.sc_node_table.specs.Replica.{first_ballot}
-use Rattle.sc_node_table.specs.Slots.{slots_ahead}
+use Rattle.sc_base.specs.Definitions.{Among, IsRoster, is_member}
+use Rattle.sc_node_table.specs.Values.{Ballot, Base, Core, Free}
+use Rattle.sc_node_table.specs.Definitions.{is_node, first_ballot, slots_ahead}
 
 -- the record of the group, the node that leads it and in which ballot, the members of each slot, and a slot from which on the open slots have the members of the record
 pub record Frame : Type 0 where

@@ -1,16 +1,12 @@
 -- What is proved of plain scenarios at their budget.
 use Rattle.std.specs.Prelude.{◌≡◌, ℕ, ◌^◌, ◌≤◌, false, List}
-use Rattle.sc_base.specs.Limits.{most_requests}
-use Rattle.sc_cmd.specs.declared.orders.OrderLine.{OrderLine}
-use Rattle.sc_mail.specs.declared.bodies.Mail.{Mail}
-use Rattle.sc_mail.specs.Weight.{body_weight}
-use Rattle.sc_actor.specs.Counted.{journal_bytes}
-use Rattle.sc_actor.specs.declared.rows.Row.{Row}
-use Rattle.sc_actor.specs.Walk.{unsettled}
+use Rattle.sc_base.specs.Definitions.{most_requests}
+use Rattle.sc_node_table.specs.Values.{OrderLine, Mail, Row}
+use Rattle.sc_mail.specs.Definitions.{body_weight}
+use Rattle.sc_actor.specs.Definitions.{journal_bytes, unsettled}
 use Rattle.sc_scenario.specs.declared.scenarios.Scenario.{Scenario}
-use Rattle.sc_scenario.specs.Made.{made_scenario}
-use Rattle.sc_scenario.specs.Valid.{IsValid}
-use Rattle.sc_sound.specs.Players.{Lawful, Whole, as_nodes, schedule, system_of}
+use Rattle.sc_scenario.specs.Definitions.{made_scenario, IsValid}
+use Rattle.sc_sound.specs.Definitions.{Lawful, Whole, as_nodes, schedule, system_of}
 use Rattle.sc_budget_law.specs.Budget.{IsAtBudget, AreAnswered}
 
 -- in each lawful journal of a valid plain scenario at its budget no line is cut off with mail pending

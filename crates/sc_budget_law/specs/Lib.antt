@@ -17,3 +17,4 @@ pub mod Owed
 pub mod PlainClient
 pub mod PlainMail
 pub mod PlainNode
+pub mod Definitions

@@ -1,23 +1,14 @@
 -- What each client of a plain journal is, and which requests are begun.
 use Rattle.std.specs.Prelude.{◌≡◌, ℕ, ◌+◌, ◌-◌, ◌≤◌, Bool, true, false, List, [], ◌∷◌, length, map, take, slice_get, Some, None, ◌⊎◌}
-use Rattle.sc_base.specs.Among.{Among}
-use Rattle.sc_base.specs.declared.names.Draw.{Draw}
-use Rattle.sc_base.specs.declared.ops.Op.{Op}
-use Rattle.sc_base.specs.Operation.{key_of}
-use Rattle.sc_base.specs.Text.{pos_of}
-use Rattle.sc_cmd.specs.declared.cores.Base.{Base}
-use Rattle.sc_cmd.specs.declared.orders.OrderLine.{OrderLine}
-use Rattle.sc_mail.specs.declared.bodies.Mail.{Mail}
-use Rattle.sc_actor.specs.declared.rows.Row.{Row}
-use Rattle.sc_actor.specs.Replay.{value}
+use Rattle.sc_base.specs.Definitions.{Among, key_of, pos_of}
+use Rattle.sc_node_table.specs.Values.{Draw, Op, Base, OrderLine, Mail, Row, Node, Client}
+use Rattle.sc_actor.specs.Definitions.{value}
 use Rattle.sc_lookup.specs.declared.ways.Way.{Way}
-use Rattle.sc_lookup.specs.Known.{chosen, target_in}
-use Rattle.sc_lookup.specs.Ways.{new_way}
-use Rattle.sc_client_table.specs.Client.{Client as ClientState}
+use Rattle.sc_lookup.specs.Definitions.{chosen, target_in, new_way}
+use Rattle.sc_client_table.specs.Definitions.{Client as ClientState}
 use Rattle.sc_scenario.specs.declared.scenarios.Asks.{Asks}
 use Rattle.sc_scenario.specs.declared.scenarios.Scenario.{Scenario}
-use Rattle.sc_sound.specs.Players.{Player, player_table, client_seat, route_of}
-use Rattle.sc_mail.specs.declared.roles.Role.TheVariants.{Node, Client}
+use Rattle.sc_sound.specs.Definitions.{Player, player_table, client_seat, route_of}
 use Rattle.sc_budget_law.specs.Frames.{Frame}
 use Rattle.sc_budget_law.specs.Owed.{begun_ones}
 

@@ -1,23 +1,12 @@
 -- What each replica is, and each node, while clients go and mail is delivered, and nothing else happens.
 use Rattle.std.specs.Prelude.{◌≡◌, ℕ, ◌+◌, ◌<◌, ◌≤◌, nat_le, nat_lt, ◌==◌, ◌&&◌, true, false, List, [], length, map, count_by, Some, ◌⊎◌, if◌then◌else◌}
 use Rattle.std.specs.FinMap.{get}
-use Rattle.sc_base.specs.Among.{Among, Each}
-use Rattle.sc_base.specs.declared.ops.Noted.{Noted}
-use Rattle.sc_base.specs.declared.ops.Op.{Op}
-use Rattle.sc_cmd.specs.declared.commands.Command.{Command}
-use Rattle.sc_mail.specs.declared.bodies.MailBody.{MailBody}
-use Rattle.sc_mail.specs.declared.bodies.MailBody.TheVariants.{Request, Answer, Prepare, Promise, Accept, Accepted, Nack, Learn, Ask, Install, TxPrepare, TxVote, TxOutcome, TxElsewhere, TxWatch, TxWatched, Told}
-use Rattle.sc_base.specs.Majority.{votes_of, is_majority}
-use Rattle.sc_base.specs.Roster.{is_member}
+use Rattle.sc_base.specs.Definitions.{Among, Each, votes_of, is_majority, is_member}
+use Rattle.sc_node_table.specs.Values.{Noted, Op, Command, MailBody, Request, Answer, Prepare, Promise, Accept, Accepted, Nack, Learn, Ask, Install, TxPrepare, TxVote, TxOutcome, TxElsewhere, TxWatch, TxWatched, Told, Flight}
 use Rattle.sc_paxos_words.specs.declared.answers.Must.TheVariants.{Free as Open}
-use Rattle.sc_paxos_words.specs.declared.flights.Flight.{Flight}
-use Rattle.sc_paxos_words.specs.Ballots.{IsAtLeast}
-use Rattle.sc_paxos_words.specs.Leaders.{must}
-use Rattle.sc_paxos_words.specs.Votes.{kept_voters}
-use Rattle.sc_machine_table.specs.Group.{Group}
-use Rattle.sc_node_table.specs.Node.{NodeState, replica_of}
-use Rattle.sc_node_table.specs.Replica.{ReplicaState, name_of, next, may_offer}
-use Rattle.sc_node_table.specs.Slots.{slots_ahead, numbers_from}
+use Rattle.sc_paxos_words.specs.Definitions.{IsAtLeast, must, kept_voters}
+use Rattle.sc_machine_table.specs.Definitions.{Group}
+use Rattle.sc_node_table.specs.Definitions.{NodeState, replica_of, ReplicaState, name_of, next, may_offer, slots_ahead, numbers_from}
 use Rattle.sc_budget_law.specs.Frames.{Frame}
 use Rattle.sc_budget_law.specs.PlainMail.{Requests, IsWrittenValue, IsPlainCommand}
 

@@ -1,13 +1,10 @@
 -- From above all that it accepted each node is asked to promise, after each kind of row.
 use Rattle.std.proofs.Common.{◌≡◌, ℕ, suc, zero, ◌+◌, ◌<◌, ◌≤◌, eqb, cond, Bool, true, false, true≢false, List, [], ◌∷◌, ◌++◌, Option, Some, None, ◌⊎◌, inl, inr, refl, sym, ◌∙◌, ap, subst, append_assoc, arith}
 use Rattle.std.proofs.lemmas.Bool.{cases_eq, cond-true, cond-false, eq-eqb, ne_eqb}
-use Rattle.sc_base.specs.Among.{Each}
-use Rattle.sc_base.specs.Roster.{is_member}
-use Rattle.sc_node_table.specs.Replica.{listed}
-use Rattle.sc_following_law.specs.Dated.{Dated, marks_in, IsLow, AreLow, IsDatedRow}
-use Rattle.sc_following_law.specs.Following.{Mark, Asks, Votes, Tells, Installs, Prepares, Promises, next_by, Course, Progress, Sets, members_at, IsKnown}
-use Rattle.sc_following_law.specs.Rows.{IsCount, IsOffer, told_from}
-use Rattle.sc_calm_answers_law.specs.Above.{IsAbove, top_by, AreAbove}
+use Rattle.sc_base.specs.Definitions.{Each, is_member}
+use Rattle.sc_node_table.specs.Definitions.{listed}
+use Rattle.sc_following_law.specs.Definitions.{Dated, marks_in, IsLow, AreLow, IsDatedRow, Mark, Asks, Votes, Tells, Installs, Prepares, Promises, next_by, Course, Progress, Sets, members_at, IsKnown, IsCount, IsOffer, told_from}
+use Rattle.sc_calm_answers_law.specs.Definitions.{IsAbove, top_by, AreAbove}
 
 -- ---- lists
 

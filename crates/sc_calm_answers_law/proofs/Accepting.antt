@@ -1,46 +1,17 @@
 -- What a row leaves of the reports that a replica has accepted or got: it accepts what it is asked to accept alone, and a leader that gets no reports has none.
 use Rattle.std.proofs.Common.{◌≡◌, ℕ, ◌&&◌, not, nat_le, nat_lt, Bool, true, false, cond, List, [], ◌∷◌, ◌++◌, length, Option, Some, None, refl, sym, ◌∙◌, ap, subst}
-use Rattle.sc_base.specs.Among.{Each}
-use Rattle.sc_base.specs.Drawing.{Drawer}
-use Rattle.sc_base.specs.Same.{same_ballot}
-use Rattle.sc_base.specs.declared.names.Ballot.{Ballot}
-use Rattle.sc_base.specs.declared.names.Draw.{Draw}
-use Rattle.sc_cmd.specs.declared.commands.Command.{Command}
-use Rattle.sc_cmd.specs.declared.cores.Base.{Base}
-use Rattle.sc_cmd.specs.declared.orders.OrderLine.{OrderLine}
-use Rattle.sc_mail.specs.declared.bodies.MailBody.{MailBody}
-use Rattle.sc_mail.specs.declared.bodies.MailBody.TheVariants.{Request, Answer, Prepare, Promise, Accept, Accepted, Nack, Learn, Ask, Install, TxPrepare, TxVote, TxOutcome, TxElsewhere, TxWatch, TxWatched, Told}
-use Rattle.sc_base.specs.Majority.{is_majority}
-use Rattle.sc_base.specs.Roster.{is_member}
-use Rattle.sc_paxos_words.specs.declared.flights.Flight.{Flight}
-use Rattle.sc_paxos_words.specs.declared.reports.Report.{Report}
-use Rattle.sc_paxos_words.specs.declared.answers.AcceptAnswer.{AcceptAnswer}
+use Rattle.sc_base.specs.Definitions.{Each, Drawer, same_ballot, is_majority, is_member}
+use Rattle.sc_node_table.specs.Values.{Ballot, Draw, Command, Base, OrderLine, MailBody, Request, Answer, Prepare, Promise, Accept, Accepted, Nack, Learn, Ask, Install, TxPrepare, TxVote, TxOutcome, TxElsewhere, TxWatch, TxWatched, Told, Flight, Report, AcceptAnswer, Counted, PrepareAnswer}
 use Rattle.sc_paxos_words.specs.declared.answers.AcceptAnswer.TheVariants as Asked
-use Rattle.sc_paxos_words.specs.declared.answers.Counted.{Counted}
-use Rattle.sc_paxos_words.specs.declared.answers.PrepareAnswer.{PrepareAnswer}
 use Rattle.sc_paxos_words.specs.declared.answers.PrepareAnswer.TheVariants as Prepared
-use Rattle.sc_paxos_words.specs.Accepting.{accepted as accepted_by}
-use Rattle.sc_paxos_words.specs.Acceptors.{AcceptorState, reports_from, may_promise, may_accept, after_promise, after_accept}
-use Rattle.sc_paxos_words.specs.Ballots.{below}
-use Rattle.sc_paxos_words.specs.Leaders.{LeaderState, flight_at, promise_counted}
-use Rattle.sc_paxos_words.specs.Preparing.{prepared}
-use Rattle.sc_paxos_words.specs.Votes.{counted, vote_at, voters_after, kept_voters}
-use Rattle.sc_paxos_words.proofs.ListLemmas.{Each-filter}
-use Rattle.sc_node_table.specs.Election.{stopped, saw}
-use Rattle.sc_node_table.specs.Install.{named, install_to}
-use Rattle.sc_node_table.specs.Ordering.{ordered_row}
-use Rattle.sc_node_table.specs.Replica.{ReplicaState, Place, forgotten, floor_of, installed_replica}
-use Rattle.sc_node_table.specs.Rows.{mailed, made_by}
-use Rattle.sc_node_table.specs.Slots.{slots_ahead}
-use Rattle.sc_node_table.specs.Voting.{hinted, promise_to, promised, prepare_row, accepted_to, took, accept_row, nack_row}
-use Rattle.sc_law_lemmas.specs.Steps.{GoesOn}
-use Rattle.sc_law_lemmas.proofs.Places.{promised_place}
-use Rattle.sc_law_lemmas.proofs.Ways.{either_way}
-use Rattle.sc_following_law.proofs.Nodes.{saw_either}
-use Rattle.sc_calm_mail_law.specs.Idle.{IsPlainlyKept}
-use Rattle.sc_calm_mail_law.proofs.FewLists.{reports_more}
-use Rattle.sc_calm_mail_law.proofs.WalkRows.{takes_mail, orders, looks_up}
-use Rattle.sc_calm_mail_law.proofs.Walks.{Walk, Part, part, next_in, IsReported, Hears}
+use Rattle.sc_paxos_words.specs.Definitions.{accepted as accepted_by, AcceptorState, reports_from, may_promise, may_accept, after_promise, after_accept, below, LeaderState, flight_at, promise_counted, prepared, counted, vote_at, voters_after, kept_voters}
+use Rattle.sc_paxos_words.proofs.Lemmas.{Each-filter}
+use Rattle.sc_node_table.specs.Definitions.{stopped, saw, named, install_to, ordered_row, ReplicaState, Place, forgotten, floor_of, installed_replica, mailed, made_by, slots_ahead, hinted, promise_to, promised, prepare_row, accepted_to, took, accept_row, nack_row}
+use Rattle.sc_law_lemmas.specs.Definitions.{GoesOn}
+use Rattle.sc_law_lemmas.proofs.Lemmas.{promised_place, either_way}
+use Rattle.sc_following_law.proofs.Lemmas.{saw_either}
+use Rattle.sc_calm_mail_law.specs.Definitions.{IsPlainlyKept}
+use Rattle.sc_calm_mail_law.proofs.Lemmas.{reports_more, takes_mail, orders, looks_up, PartWalk, Part, part, next_in, IsReported, Hears}
 
 -- ---- what a leader counts leaves its reports
 
@@ -72,7 +43,7 @@ module _ (P : Report Command → Type 0) where
   no_reports [] e = refl
   no_reports (report ∷ reports) e = absurd e.0.0
 
-  abbrev resting : ℕ → Walk
+  abbrev resting : ℕ → PartWalk
   resting who = record {
     me = who;
     Early = λ p. Rests p;

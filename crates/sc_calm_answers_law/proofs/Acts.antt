@@ -2,18 +2,13 @@
 use Rattle.std.proofs.Common.{◌≡◌, ℕ, eqb, true, true≢false, List, [], ◌∷◌, ◌++◌, Option, Some, None, inl, inr, refl, sym, ◌∙◌, ap}
 use Rattle.std.specs.Option.{option_map}
 use Rattle.std.proofs.lemmas.Bool.{cases_Bool, cond-true, cond-false}
-use Rattle.sc_base.specs.Among.{Among}
-use Rattle.sc_cmd.specs.declared.commands.Command.{Command}
-use Rattle.sc_cmd.specs.declared.commands.Command.TheVariants.{Noop, Call, Join, Leave, Split, Begin, Prepared, RecordVote, GiveUp, Finish, Watched, RecordWatch}
-use Rattle.sc_paxos_words.specs.declared.flights.Flight.{Flight}
-use Rattle.sc_paxos_words.specs.Leaders.{flight_at}
-use Rattle.sc_paxos_words.proofs.ListLemmas.{find_found}
-use Rattle.sc_node_table.specs.Pump.{is_act}
-use Rattle.sc_node_table.specs.Replica.{ReplicaState, listed}
-use Rattle.sc_node_table.specs.Slots.{at_slot}
-use Rattle.sc_calm_orders_law.specs.Parts.{work_by, works_in, works_flying, works_ready, works}
-use Rattle.sc_calm_orders_law.specs.Scenes.{Work}
-use Rattle.sc_calm_orders_law.proofs.Lists.{among-left, among-right}
+use Rattle.sc_base.specs.Definitions.{Among}
+use Rattle.sc_node_table.specs.Values.{Command, Noop, Call, Join, Leave, Split, Begin, Prepared, RecordVote, GiveUp, Finish, Watched, RecordWatch, Flight}
+use Rattle.sc_paxos_words.specs.Definitions.{flight_at}
+use Rattle.sc_paxos_words.proofs.Lemmas.{find_found}
+use Rattle.sc_node_table.specs.Definitions.{is_act, ReplicaState, listed, at_slot}
+use Rattle.sc_calm_orders_law.specs.Definitions.{work_by, works_in, works_flying, works_ready, works, Work}
+use Rattle.sc_calm_orders_law.proofs.Lemmas.{among-left, among-right}
 use Rattle.sc_calm_answers_law.proofs.Comers.{HasAct}
 
 abbrev IsWork : Command → Type 0

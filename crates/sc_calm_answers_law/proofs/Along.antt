@@ -1,15 +1,12 @@
 -- A group of a journal is guided at each of its rows.
 use Rattle.std.proofs.Common.{[], ap, append-nil, append_assoc, sym, ◌++◌, ◌∙◌, ◌∷◌}
-use Rattle.sc_calm_answers_law.specs.Along.{RowsAreGuided}
-use Rattle.sc_calm_groups_law.specs.Through.{EventsGoOn, ScenariosAreWellBorn}
-use Rattle.sc_calm_law.specs.Charts.{players}
-use Rattle.sc_calm_answers_law.specs.Led.{LedLogsAreOne, over_at}
-use Rattle.sc_calm_answers_law.specs.Tellers.{GroupsAreLed, tellers_at}
-use Rattle.sc_calm_logs_law.specs.Logged.{logged_sets}
-use Rattle.sc_calm_rows_law.specs.Turns.{with_event}
-use Rattle.sc_orderly_law.specs.Timely.{AreInTime}
-use Rattle.sc_sound.specs.Players.{as_nodes}
-use Rattle.sc_sound.specs.Players.{births}
+use Rattle.sc_calm_answers_law.specs.Definitions.{RowsAreGuided, LedLogsAreOne, over_at, GroupsAreLed, tellers_at}
+use Rattle.sc_calm_groups_law.specs.Definitions.{EventsGoOn, ScenariosAreWellBorn}
+use Rattle.sc_calm_law.specs.Definitions.{players}
+use Rattle.sc_calm_logs_law.specs.Definitions.{logged_sets}
+use Rattle.sc_calm_rows_law.specs.Definitions.{with_event}
+use Rattle.sc_orderly_law.specs.Definitions.{AreInTime}
+use Rattle.sc_sound.specs.Definitions.{as_nodes, births}
 
 pub rows_are_guided : GroupsAreLed → LedLogsAreOne → EventsGoOn → ScenariosAreWellBorn → RowsAreGuided
 rows_are_guided led one_log go_on well words scenario journal rows more seat event base course bonds group timely few split so born calm was reached was_bound is_bound =

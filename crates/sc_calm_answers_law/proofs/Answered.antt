@@ -4,40 +4,26 @@ use Rattle.std.specs.Prelude.{slice_get}
 use Rattle.std.proofs.lemmas.Bool.{cases_Bool, cases_lt, cond-false, eqb-true}
 use Rattle.std.proofs.lemmas.List.{map-append}
 use Rattle.std.proofs.lemmas.Option.{slice_get_within, slice_get_cases}
-use Rattle.sc_base.specs.Among.{Among}
-use Rattle.sc_base.specs.Limits.{client_actor}
-use Rattle.sc_base.specs.declared.ops.Reply.{Reply}
-use Rattle.sc_cmd.specs.declared.cores.Base.{Base}
-use Rattle.sc_cmd.specs.declared.orders.OrderLine.{OrderLine}
-use Rattle.sc_mail.specs.declared.bodies.Mail.{Mail}
-use Rattle.sc_actor.specs.declared.actors.Seat.{Seat}
-use Rattle.sc_actor.specs.declared.rows.Row.{Row}
-use Rattle.sc_actor.specs.declared.schedules.Line.{Line}
+use Rattle.sc_base.specs.Definitions.{Among, client_actor}
+use Rattle.sc_node_table.specs.Values.{Reply, Base, OrderLine, Mail, Seat, Row, Line}
 use Rattle.sc_actor.specs.declared.schedules.Line.TheVariants as line
-use Rattle.sc_actor.specs.Replay.{value}
-use Rattle.sc_actor.specs.System.{System, has_gone}
-use Rattle.sc_actor.specs.Walk.{IsLawful}
-use Rattle.sc_actor.proofs.WalkLemmas.{lawful-prefix}
-use Rattle.sc_client_table.specs.Client.{Client as ClientState}
-use Rattle.sc_node_table.specs.Slots.{numbers_from}
-use Rattle.sc_paxos_law.proofs.Among.{Among-right}
-use Rattle.sc_paxos_words.proofs.ListLemmas.{Each-among}
-use Rattle.sc_orderly_law.proofs.Passing.{WasQuiet, was_quiet}
-use Rattle.sc_orderly_law.proofs.Seats.{seat_found}
-use Rattle.sc_scenario.specs.Valid.{IsValid, ValidScenariosAreBounded}
+use Rattle.sc_actor.specs.Definitions.{value, System, has_gone, IsLawful}
+use Rattle.sc_actor.proofs.Lemmas.{lawful-prefix}
+use Rattle.sc_client_table.specs.Definitions.{Client as ClientState}
+use Rattle.sc_node_table.specs.Definitions.{numbers_from}
+use Rattle.sc_paxos_law.proofs.Lemmas.{Among-right}
+use Rattle.sc_paxos_words.proofs.Lemmas.{Each-among}
+use Rattle.sc_orderly_law.proofs.Lemmas.{WasQuiet, was_quiet, seat_found}
+use Rattle.sc_scenario.specs.Definitions.{IsValid, ValidScenariosAreBounded}
 use Rattle.sc_scenario.specs.declared.scenarios.Asks.{Asks}
 use Rattle.sc_scenario.specs.declared.scenarios.Scenario.{Scenario}
 use Rattle.sc_scenario.specs.declared.scenarios.SchedLine.TheVariants.{Go}
-use Rattle.sc_sound.specs.Players.{Player, player_table, node_seat, client_seat, route_of, births, line_of, schedule, system_of, as_nodes, replies_of, Lawful, Whole}
-use Rattle.sc_sound.specs.Requests.{kept_replies}
-use Rattle.sc_whole_law.specs.Valid.{ValidJournalsAreSound}
-use Rattle.sc_budget_law.specs.Budget.{AreAnswered}
-use Rattle.sc_budget_law.specs.Calm.{orders_of, IsCalmAtBudget}
-use Rattle.sc_budget_law.proofs.BetweenStage.{IsStage, stage}
-use Rattle.sc_budget_law.proofs.Lists.{map_among}
-use Rattle.sc_budget_law.proofs.QuietAnswered.{replies_more, first_delivery, many_line}
-use Rattle.sc_calm_law.specs.Quiet.{IsAnswered}
-use Rattle.sc_calm_answers_law.specs.Answered.{CalmLinesSettle, CalmJournalsRest}
+use Rattle.sc_sound.specs.Definitions.{Player, player_table, node_seat, client_seat, route_of, births, line_of, schedule, system_of, as_nodes, replies_of, Lawful, Whole, kept_replies}
+use Rattle.sc_whole_law.specs.Definitions.{ValidJournalsAreSound}
+use Rattle.sc_budget_law.specs.Definitions.{AreAnswered, orders_of, IsCalmAtBudget}
+use Rattle.sc_budget_law.proofs.Lemmas.{IsStage, stage, map_among, replies_more, first_delivery, many_line}
+use Rattle.sc_calm_law.specs.Definitions.{IsAnswered}
+use Rattle.sc_calm_answers_law.specs.Definitions.{CalmLinesSettle, CalmJournalsRest}
 
 abbrev Rows : Type 0
 Rows = List (Row Mail OrderLine)

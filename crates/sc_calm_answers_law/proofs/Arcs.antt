@@ -1,25 +1,17 @@
 -- A group that stands, and is bound in no transaction, has an arc of the ring.
 use Rattle.std.proofs.Common.{◌≡◌, ◌<◌, ◌^◌, Some, None, inl, ◌∙◌, ap}
-use Rattle.sc_base.specs.Arc.{IsArc}
-use Rattle.sc_base.specs.declared.names.Draw.{Draw}
-use Rattle.sc_cmd.specs.declared.cores.Lock.TheVariants.{Free}
-use Rattle.sc_machine_table.specs.Group.{Group}
-use Rattle.sc_log_entries.specs.Worlds.{StoreWorld, named_group}
-use Rattle.sc_ring_law.specs.Allowed.{ToldWorld, first_told, told_after}
-use Rattle.sc_ring_law.proofs.Effects.{decisions, eff, arc_of}
-use Rattle.sc_ring_law.proofs.Sound.{store_after}
-use Rattle.sc_ring_law.proofs.Start.{at_start}
-use Rattle.sc_ring_law.proofs.Steps.{serving}
-use Rattle.sc_ring_law.proofs.Told.{groups_in}
-use Rattle.sc_ring_law.proofs.Worlds.{KeptWorld, kept_after}
-use Rattle.sc_scenario.specs.Valid.{ValidScenariosAreBounded}
-use Rattle.sc_sound.specs.GroupsOf.{entries_at}
-use Rattle.sc_sound.specs.Logs.{decided_state}
-use Rattle.sc_sound.specs.Players.{as_nodes}
-use Rattle.sc_log_law.proofs.Told.{state_there}
-use Rattle.sc_names_law.specs.Laws.{OtherNamesAreFree, TakenOrdersAreAllowed, TakenWishesAreAllowed, WishesAreAtPositions}
-use Rattle.sc_whole_law.specs.StartLaws.{ValidScenariosBeginWell}
-use Rattle.sc_calm_answers_law.specs.Arcs.{FreeGroupsHaveArcs}
+use Rattle.sc_base.specs.Definitions.{IsArc}
+use Rattle.sc_node_table.specs.Values.{Draw, Free}
+use Rattle.sc_machine_table.specs.Definitions.{Group}
+use Rattle.sc_log_entries.specs.Definitions.{StoreWorld, named_group}
+use Rattle.sc_ring_law.specs.Definitions.{ToldWorld, first_told, told_after}
+use Rattle.sc_ring_law.proofs.Lemmas.{decisions, eff, arc_of, store_after, at_start, serving, groups_in, KeptWorld, kept_after}
+use Rattle.sc_scenario.specs.Definitions.{ValidScenariosAreBounded}
+use Rattle.sc_sound.specs.Definitions.{entries_at, decided_state, as_nodes}
+use Rattle.sc_log_law.proofs.Lemmas.{state_there}
+use Rattle.sc_names_law.specs.Definitions.{OtherNamesAreFree, TakenOrdersAreAllowed, TakenWishesAreAllowed, WishesAreAtPositions}
+use Rattle.sc_whole_law.specs.Definitions.{ValidScenariosBeginWell}
+use Rattle.sc_calm_answers_law.specs.Definitions.{FreeGroupsHaveArcs}
 use Rattle.sc_calm_answers_law.proofs.LinkFronts.{sources, well, told, found}
 
 -- in a world that allowed entries made

@@ -2,62 +2,26 @@
 use Rattle.std.proofs.Common.{◌≡◌, ℕ, ◌+◌, ◌<◌, ◌≤◌, true, false, List, [], Option, Some, None, ◌⊎◌, inl, inr, refl, sym, ◌∙◌, ap, subst, arith}
 use Rattle.std.specs.Option.{option_map}
 use Rattle.std.proofs.lemmas.Bool.{cases_eq}
-use Rattle.sc_base.specs.Among.{Each}
-use Rattle.sc_base.specs.declared.names.Ballot.{Ballot}
-use Rattle.sc_base.specs.declared.names.Draw.{Draw}
-use Rattle.sc_cmd.specs.declared.commands.Command.{Command}
-use Rattle.sc_cmd.specs.declared.cores.Base.{Base}
-use Rattle.sc_cmd.specs.declared.orders.OrderLine.{OrderLine}
-use Rattle.sc_mail.specs.declared.bodies.Mail.{Mail}
-use Rattle.sc_mail.specs.declared.bodies.MailBody.{MailBody}
-use Rattle.sc_mail.specs.declared.bodies.MailBody.TheVariants.{Request, Answer, Prepare, Promise, Accept, Accepted, Nack, Learn, Ask, Install, TxPrepare, TxVote, TxOutcome, TxElsewhere, TxWatch, TxWatched, Told as ToldMail}
-use Rattle.sc_actor.specs.declared.actors.Seat.{Seat}
-use Rattle.sc_actor.specs.declared.rows.Event.{Event}
-use Rattle.sc_actor.specs.declared.rows.Row.{Row}
-use Rattle.sc_actor.specs.Mail.{mails}
-use Rattle.sc_actor.specs.System.{row_of}
-use Rattle.sc_orderly_law.specs.Orderly.{IsCalmEvent, rest}
-use Rattle.sc_orderly_law.specs.Timely.{AreInTime}
-use Rattle.sc_orderly_law.proofs.InTime.{in_time_before}
-use Rattle.sc_paxos_words.specs.Ballots.{IsAtLeast}
-use Rattle.sc_paxos_words.specs.declared.reports.Report.{Report}
-use Rattle.sc_paxos_words.proofs.ListLemmas.{Each-weaker}
+use Rattle.sc_base.specs.Definitions.{Each}
+use Rattle.sc_node_table.specs.Values.{Ballot, Draw, Command, Base, OrderLine, Mail, MailBody, Request, Answer, Prepare, Promise, Accept, Accepted, Nack, Learn, Ask, Install, TxPrepare, TxVote, TxOutcome, TxElsewhere, TxWatch, TxWatched, Told as ToldMail, Seat, Event, Row, Report}
+use Rattle.sc_actor.specs.Definitions.{mails, row_of}
+use Rattle.sc_orderly_law.specs.Definitions.{IsCalmEvent, rest, AreInTime}
+use Rattle.sc_orderly_law.proofs.Lemmas.{in_time_before}
+use Rattle.sc_paxos_words.specs.Definitions.{IsAtLeast}
+use Rattle.sc_paxos_words.proofs.Lemmas.{Each-weaker}
 use Rattle.sc_scenario.specs.declared.scenarios.Scenario.{Scenario}
-use Rattle.sc_node_table.specs.Node.{NodeState, group_of_mail}
-use Rattle.sc_node_table.specs.Ordering.{ordered_row}
-use Rattle.sc_node_table.specs.Replica.{ReplicaState, Place, listed, name_of, next, born_replica}
-use Rattle.sc_node_table.specs.Rows.{mailed, made_by}
-use Rattle.sc_node_table.specs.Slots.{slots_ahead}
-use Rattle.sc_law_lemmas.specs.Steps.{GoesOn}
-use Rattle.sc_sound.specs.Players.{Player, player_table, births, as_nodes}
-use Rattle.sc_calm_law.specs.Charts.{players}
-use Rattle.sc_calm_law.specs.Totals.{Rows}
-use Rattle.sc_following_law.specs.Dated.{Dated, dated_for, marks_in, AreLow, from_slot_of, IsDatedRow}
-use Rattle.sc_following_law.specs.Following.{Mark, Asks, Tells, Installs, Prepares, mark_of, Course, Progress, Sets, IsKnown, IsFit}
-use Rattle.sc_following_law.specs.Hints.{Tellers}
-use Rattle.sc_following_law.specs.Leading.{IsLeadOf, IsAside}
-use Rattle.sc_following_law.specs.Rows.{IsCount, answered}
-use Rattle.sc_following_law.specs.Tables.{marks_for}
-use Rattle.sc_following_law.proofs.Dated.{prepares_are_known}
-use Rattle.sc_following_law.proofs.Keeps.{counts_of}
-use Rattle.sc_following_law.proofs.Nodes.{same_mark}
-use Rattle.sc_following_law.proofs.Ordered.{order_is_kept}
-use Rattle.sc_calm_rows_law.specs.Groups.{view_at, mark_in, taken_mark, promise_in, progress_at}
-use Rattle.sc_calm_rows_law.specs.Steps.{led_course, LedBy}
-use Rattle.sc_calm_rows_law.specs.Turns.{IsSeat, with_event, IsReplicasRow}
-use Rattle.sc_calm_rows_law.proofs.Scenes.{fit, goes_on, known as known_here, told_is}
-use Rattle.sc_calm_rows_law.proofs.Turning.{found_name}
-use Rattle.sc_calm_rows_law.proofs.Viewing.{view_others}
-use Rattle.sc_calm_groups_law.specs.Kinds.{IsGroupRow, RowPasses, RowRests, RowTakes, RowMakes, RowLeads, RowElects}
-use Rattle.sc_calm_groups_law.specs.Led.{Ends, dated_at, IsWellLed}
-use Rattle.sc_calm_groups_law.specs.Mailed.{IsLedScene}
-use Rattle.sc_calm_groups_law.specs.Through.{AreWellBorn, HasOneLog, IsSentSo}
-use Rattle.sc_calm_groups_law.proofs.Dating.{dated_in, taken_dated, rows_dated}
-use Rattle.sc_calm_groups_law.proofs.Executing.{asides_stay, orders_stay, promises_stay}
-use Rattle.sc_calm_groups_law.proofs.Mails.{scene}
-use Rattle.sc_calm_groups_law.proofs.Rows.{marks_all}
-use Rattle.sc_calm_mail_law.specs.Idle.{IsPlainlyKept, JournalsKeepIdle}
-use Rattle.sc_calm_answers_law.specs.Above.{AreAbove, HasBelow, IsAskedOn}
+use Rattle.sc_node_table.specs.Definitions.{NodeState, group_of_mail, ordered_row, ReplicaState, Place, listed, name_of, next, born_replica, mailed, made_by, slots_ahead}
+use Rattle.sc_law_lemmas.specs.Definitions.{GoesOn}
+use Rattle.sc_sound.specs.Definitions.{Player, player_table, births, as_nodes}
+use Rattle.sc_calm_law.specs.Definitions.{players, Rows}
+use Rattle.sc_following_law.specs.Definitions.{Dated, dated_for, marks_in, AreLow, from_slot_of, IsDatedRow, Mark, Asks, Tells, Installs, Prepares, mark_of, Course, Progress, Sets, IsKnown, IsFit, Tellers, IsLeadOf, IsAside, IsCount, answered, marks_for}
+use Rattle.sc_following_law.proofs.Lemmas.{prepares_are_known, counts_of, same_mark, order_is_kept}
+use Rattle.sc_calm_rows_law.specs.Definitions.{view_at, mark_in, taken_mark, promise_in, progress_at, led_course, LedBy, IsSeat, with_event, IsReplicasRow}
+use Rattle.sc_calm_rows_law.proofs.Lemmas.{fit, goes_on, known as known_here, told_is, found_name, view_others}
+use Rattle.sc_calm_groups_law.specs.Definitions.{IsGroupRow, RowPasses, RowRests, RowTakes, RowMakes, RowLeads, RowElects, Ends, dated_at, IsWellLed, IsLedScene, AreWellBorn, HasOneLog, IsSentSo}
+use Rattle.sc_calm_groups_law.proofs.Lemmas.{dated_in, taken_dated, rows_dated, asides_stay, orders_stay, promises_stay, scene, marks_all}
+use Rattle.sc_calm_mail_law.specs.Definitions.{IsPlainlyKept, JournalsKeepIdle}
+use Rattle.sc_calm_answers_law.specs.Definitions.{AreAbove, HasBelow, IsAskedOn}
 use Rattle.sc_calm_answers_law.proofs.Above.{MovesLast, top_of, tops_after, own_top, others_top, own_up, low_after, sent_above, counts_asked, leads_asked, elects_asked}
 use Rattle.sc_calm_answers_law.proofs.Accepting.{IsPlainMail, RestsAt, mail_rests, order_rests, made_rests, asked_stands, polled_stands, nacked_stands}
 use Rattle.sc_calm_answers_law.proofs.Comers.{HasAct, GoesFrom, votes_go}

@@ -1,31 +1,20 @@
 -- A quiet front that rests is known so, and replicas of groups that are well led may pump.
 use Rattle.std.proofs.Common.{◌≡◌, ℕ, ◌≤◌, cond, [], Some, None, refl, sym, ◌∙◌, ap, append-nil}
-use Rattle.sc_base.specs.Among.{Among, Each}
-use Rattle.sc_mail.specs.declared.roles.Role.TheVariants.{Node}
-use Rattle.sc_actor.specs.Replay.{value}
-use Rattle.sc_node_table.specs.Node.{NodeState, replica_of}
-use Rattle.sc_node_table.specs.Replica.{ReplicaState, name_of, next}
+use Rattle.sc_base.specs.Definitions.{Among, Each}
+use Rattle.sc_node_table.specs.Values.{Node}
+use Rattle.sc_actor.specs.Definitions.{value}
+use Rattle.sc_node_table.specs.Definitions.{NodeState, replica_of, ReplicaState, name_of, next}
 use Rattle.sc_scenario.specs.declared.scenarios.Scenario.{Scenario}
-use Rattle.sc_scenario.specs.Valid.{ValidScenariosAreBounded}
-use Rattle.sc_sound.specs.Players.{Player, player_table, births, node_seat, as_nodes}
-use Rattle.sc_whole_law.specs.Valid.{ValidJournalsAreSound, ValidEntriesAreLogs}
-use Rattle.sc_calm_law.specs.Laws.{MayPump}
-use Rattle.sc_calm_law.specs.Totals.{Rows}
-use Rattle.sc_calm_law.proofs.OwedLearn.{unbound_new}
-use Rattle.sc_calm_rows_law.specs.Groups.{view_at}
-use Rattle.sc_calm_groups_law.proofs.Sending.{each_among}
-use Rattle.sc_calm_logs_law.specs.Logged.{logged_sets}
-use Rattle.sc_budget_law.specs.AskingQuiet.{replicas_after}
-use Rattle.sc_budget_law.specs.BetweenJournal.{replicas_of}
-use Rattle.sc_calm_answers_law.specs.Led.{over_at}
-use Rattle.sc_calm_answers_law.specs.Tellers.{tellers_at}
-use Rattle.sc_calm_answers_law.specs.SentJournals.{SentReplicas}
-use Rattle.sc_calm_answers_law.specs.Starts.{LawfulReplicasAreNamedOnce}
-use Rattle.sc_calm_answers_law.specs.Known.{FrontsGoneAgree}
-use Rattle.sc_calm_answers_law.specs.KnownFronts.{IsFoundFront, FrontsAreFound}
-use Rattle.sc_calm_answers_law.specs.Strangers.{NoMailForStrangers}
-use Rattle.sc_calm_answers_law.specs.Journal.{IsCalmJournal, IsFront, AreSent}
-use Rattle.sc_calm_answers_law.specs.AskedSince.{RestingFrontsAreKnown, SentNodesMayPump}
+use Rattle.sc_scenario.specs.Definitions.{ValidScenariosAreBounded}
+use Rattle.sc_sound.specs.Definitions.{Player, player_table, births, node_seat, as_nodes}
+use Rattle.sc_whole_law.specs.Definitions.{ValidJournalsAreSound, ValidEntriesAreLogs}
+use Rattle.sc_calm_law.specs.Definitions.{MayPump, Rows}
+use Rattle.sc_calm_law.proofs.Lemmas.{unbound_new}
+use Rattle.sc_calm_rows_law.specs.Definitions.{view_at}
+use Rattle.sc_calm_groups_law.proofs.Lemmas.{each_among}
+use Rattle.sc_calm_logs_law.specs.Definitions.{logged_sets}
+use Rattle.sc_budget_law.specs.Definitions.{replicas_after, replicas_of}
+use Rattle.sc_calm_answers_law.specs.Definitions.{over_at, tellers_at, SentReplicas, LawfulReplicasAreNamedOnce, FrontsGoneAgree, IsFoundFront, FrontsAreFound, NoMailForStrangers, IsCalmJournal, IsFront, AreSent, RestingFrontsAreKnown, SentNodesMayPump}
 use Rattle.sc_calm_answers_law.proofs.FindingRows.{nines_at}
 use Rattle.sc_calm_answers_law.proofs.Setting.{front_lawful}
 use Rattle.sc_calm_answers_law.proofs.Frames.{found_once, nodes_numbered}

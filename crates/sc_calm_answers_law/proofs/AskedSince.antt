@@ -3,72 +3,24 @@ use Rattle.std.proofs.Common.{◌≡◌, ℕ, ◌+◌, ◌≤◌, cond, true, fa
 use Rattle.std.proofs.lemmas.Bool.{cases_Bool, both_ways}
 use Rattle.std.proofs.lemmas.List.Sums.{sum_by-append}
 use Rattle.std.proofs.lemmas.Option.{none-some}
-use Rattle.sc_base.specs.Among.{Among, Each}
-use Rattle.sc_base.specs.declared.names.Ballot.{Ballot}
-use Rattle.sc_base.specs.declared.names.Draw.{Draw}
-use Rattle.sc_cmd.specs.declared.commands.Command.{Command}
-use Rattle.sc_cmd.specs.declared.commands.Command.TheVariants.{Noop, Call, Join, Leave, Split, Begin, Prepared, RecordVote, GiveUp, Finish, Watched, RecordWatch}
-use Rattle.sc_cmd.specs.declared.cores.Base.{Base}
-use Rattle.sc_cmd.specs.declared.cores.Core.{Core}
-use Rattle.sc_cmd.specs.declared.links.Route.{Route}
-use Rattle.sc_cmd.specs.declared.orders.OrderLine.{OrderLine}
-use Rattle.sc_mail.specs.declared.bodies.Mail.{Mail}
-use Rattle.sc_actor.specs.Mail.{mails}
-use Rattle.sc_actor.specs.Replay.{value}
-use Rattle.sc_actor.specs.System.{System, row_of}
-use Rattle.sc_actor.specs.Walk.{is_quiet}
-use Rattle.sc_actor.specs.declared.actors.Seat.{Seat}
-use Rattle.sc_actor.specs.declared.rows.Event.{Event}
-use Rattle.sc_actor.specs.declared.rows.Row.{Row}
-use Rattle.sc_orderly_law.specs.Orderly.{IsInOrder, is_told, orders}
-use Rattle.sc_orderly_law.specs.Timely.{AreInTime}
-use Rattle.sc_orderly_law.proofs.InTime.{last_in_time}
-use Rattle.sc_paxos_words.specs.declared.flights.Flight.{Flight}
-use Rattle.sc_node_table.specs.Node.{replica_of}
-use Rattle.sc_node_table.specs.Replica.{ReplicaState, listed}
+use Rattle.sc_base.specs.Definitions.{Among, Each}
+use Rattle.sc_node_table.specs.Values.{Ballot, Draw, Command, Noop, Call, Join, Leave, Split, Begin, Prepared, RecordVote, GiveUp, Finish, Watched, RecordWatch, Base, Core, Route, OrderLine, Mail, Seat, Event, Row, Flight}
+use Rattle.sc_actor.specs.Definitions.{mails, value, System, row_of, is_quiet}
+use Rattle.sc_orderly_law.specs.Definitions.{IsInOrder, is_told, orders, AreInTime}
+use Rattle.sc_orderly_law.proofs.Lemmas.{last_in_time}
+use Rattle.sc_node_table.specs.Definitions.{replica_of, ReplicaState, listed}
 use Rattle.sc_scenario.specs.declared.scenarios.Scenario.{Scenario}
-use Rattle.sc_scenario.specs.Valid.{ValidScenariosAreBounded}
-use Rattle.sc_sound.specs.GroupsOf.{groups_at}
-use Rattle.sc_sound.specs.Players.{Player, player_table, births, node_seat, as_nodes}
-use Rattle.sc_calm_law.specs.Charts.{players}
-use Rattle.sc_calm_law.specs.Totals.{Rows}
-use Rattle.sc_calm_orders_law.specs.Parts.{work_by, works_in, works_flying, works_ready, works}
-use Rattle.sc_calm_rows_law.specs.Groups.{view_at}
-use Rattle.sc_calm_rows_law.specs.Turns.{IsSeat, with_event}
-use Rattle.sc_calm_mail_law.specs.Few.{SlotsAreLeft}
-use Rattle.sc_calm_mail_law.specs.Lasting.{ReplicasLast}
-use Rattle.sc_calm_logs_law.specs.Logged.{logged_sets}
-use Rattle.sc_calm_scenes_law.specs.Fresh.{IsThere}
-use Rattle.sc_calm_scenes_law.specs.Quiet.{GoesToActor}
-use Rattle.sc_calm_charts_law.specs.Charting.{names_at, all_replicas}
-use Rattle.sc_calm_charts_law.specs.Ends.{GoInTurn}
-use Rattle.sc_budget_law.specs.Asking.{IsAskingNode}
-use Rattle.sc_budget_law.specs.AskingQuiet.{replicas_after, QuietJournalsAsk}
-use Rattle.sc_budget_law.specs.BetweenJournal.{replicas_of}
-use Rattle.sc_budget_law.specs.CalmNode.{Setting, IsSetting, KnowsBetter}
-use Rattle.sc_budget_law.specs.Frames.{Frame}
-use Rattle.sc_budget_law.specs.PlainClient.{IsBegun}
-use Rattle.sc_budget_law.specs.PlainMail.{Requests, IsPlainCommand}
-use Rattle.sc_budget_law.specs.PlainNode.{IsPlainFlight, IsSettled, IsPlainAt}
-use Rattle.sc_calm_answers_law.specs.Led.{over_at}
-use Rattle.sc_calm_answers_law.specs.Tellers.{tellers_at}
-use Rattle.sc_calm_answers_law.specs.SentJournals.{IsSentStep, NextRowsAreSent}
-use Rattle.sc_calm_answers_law.specs.Cuts.{QuietGroupsHaveCuts}
-use Rattle.sc_calm_answers_law.specs.Round.{StandingGroupsAreRound}
-use Rattle.sc_calm_answers_law.specs.Settings.{QuietJournalsHaveFrames, QuietSettingsAreLinked}
-use Rattle.sc_calm_answers_law.specs.KeptRising.{ChartHintsRise}
-use Rattle.sc_calm_answers_law.specs.Hinting.{NextRowsRise}
-use Rattle.sc_calm_answers_law.specs.RiseRising.{IsRisingOn}
-use Rattle.sc_calm_answers_law.specs.RiseRounds.{IsBallotSince, RequestsKeepBallots, RoundsAreSeen}
-use Rattle.sc_calm_answers_law.specs.Known.{StillFrontsAreFree}
-use Rattle.sc_calm_answers_law.specs.KnownFronts.{IsQuietFront, IsFoundFront, FrontsAreFound}
-use Rattle.sc_calm_answers_law.specs.KnownTurns.{NoneGoes, FrontsStayInTurn}
-use Rattle.sc_calm_answers_law.specs.Strangers.{NoMailForStrangers}
-use Rattle.sc_calm_answers_law.specs.Journal.{IsCalmJournal, IsFront, AreSent}
-use Rattle.sc_calm_answers_law.specs.Resting.{RestsAt}
-use Rattle.sc_calm_answers_law.specs.OverJournals.{RequestsLeaveResting}
-use Rattle.sc_calm_answers_law.specs.Requested.{setting_of, RequestsBegin, RequestsStay, RequestsFindCalm, RequestsLeaveYoung}
-use Rattle.sc_calm_answers_law.specs.AskedSince.{RestingFrontsAreKnown, SentNodesMayPump, IsAskedSince, RequestsBeginAsked, RequestsStayAsked, AskedRowsGoOn, AskedRowsFindCalm, RequestsKeepGroups, RequestsRestAgain}
+use Rattle.sc_scenario.specs.Definitions.{ValidScenariosAreBounded}
+use Rattle.sc_sound.specs.Definitions.{groups_at, Player, player_table, births, node_seat, as_nodes}
+use Rattle.sc_calm_law.specs.Definitions.{players, Rows}
+use Rattle.sc_calm_orders_law.specs.Definitions.{work_by, works_in, works_flying, works_ready, works}
+use Rattle.sc_calm_rows_law.specs.Definitions.{view_at, IsSeat, with_event}
+use Rattle.sc_calm_mail_law.specs.Definitions.{SlotsAreLeft, ReplicasLast}
+use Rattle.sc_calm_logs_law.specs.Definitions.{logged_sets}
+use Rattle.sc_calm_scenes_law.specs.Definitions.{IsThere, GoesToActor}
+use Rattle.sc_calm_charts_law.specs.Definitions.{names_at, all_replicas, GoInTurn}
+use Rattle.sc_budget_law.specs.Definitions.{IsAskingNode, replicas_after, QuietJournalsAsk, replicas_of, Setting, IsSetting, KnowsBetter, Frame, IsBegun, Requests, IsPlainCommand, IsPlainFlight, IsSettled, IsPlainAt}
+use Rattle.sc_calm_answers_law.specs.Definitions.{over_at, tellers_at, IsSentStep, NextRowsAreSent, QuietGroupsHaveCuts, StandingGroupsAreRound, QuietJournalsHaveFrames, QuietSettingsAreLinked, ChartHintsRise, NextRowsRise, IsRisingOn, IsBallotSince, RequestsKeepBallots, RoundsAreSeen, StillFrontsAreFree, IsQuietFront, IsFoundFront, FrontsAreFound, NoneGoes, FrontsStayInTurn, NoMailForStrangers, IsCalmJournal, IsFront, AreSent, RestsAt, RequestsLeaveResting, setting_of, RequestsBegin, RequestsStay, RequestsFindCalm, RequestsLeaveYoung, RestingFrontsAreKnown, SentNodesMayPump, IsAskedSince, RequestsBeginAsked, RequestsStayAsked, AskedRowsGoOn, AskedRowsFindCalm, RequestsKeepGroups, RequestsRestAgain}
 use Rattle.sc_calm_answers_law.proofs.Fronts.{journal_group, journal_few, quiet_marks, untold_in_order}
 use Rattle.sc_calm_answers_law.proofs.BetweenRequests.{front_timely}
 use Rattle.sc_calm_answers_law.proofs.OrderedKnown.{named_there}

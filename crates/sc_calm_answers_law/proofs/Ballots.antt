@@ -1,22 +1,12 @@
 -- What a leader saw after what it takes: no later ballot, unless it is its own then.
 use Rattle.std.proofs.Common.{◌≡◌, ℕ, [], Some, None, ◌⊎◌, inl, inr, refl, sym, ◌∙◌, ap, subst}
-use Rattle.sc_base.specs.Among.{Each}
-use Rattle.sc_base.specs.declared.names.Ballot.{Ballot}
-use Rattle.sc_base.specs.Drawing.{Drawer}
-use Rattle.sc_cmd.specs.declared.commands.Command.{Command}
-use Rattle.sc_cmd.specs.declared.orders.OrderLine.{OrderLine}
-use Rattle.sc_mail.specs.declared.bodies.MailBody.{MailBody}
-use Rattle.sc_mail.specs.declared.bodies.MailBody.TheVariants.{Request, Answer, Prepare, Promise, Accept, Accepted, Nack, Learn, Ask, Install, TxPrepare, TxVote, TxOutcome, TxElsewhere, TxWatch, TxWatched, Told}
-use Rattle.sc_paxos_words.specs.declared.reports.Report.{Report}
-use Rattle.sc_paxos_words.specs.Ballots.{IsAtLeast}
-use Rattle.sc_paxos_words.proofs.BallotLemmas.{at_least_itself}
-use Rattle.sc_node_table.specs.Ordering.{ordered_row}
-use Rattle.sc_node_table.specs.Replica.{ReplicaState}
-use Rattle.sc_node_table.specs.Rows.{mailed}
-use Rattle.sc_node_table.specs.Slots.{at_slot}
-use Rattle.sc_calm_mail_law.specs.Idle.{IsPlainlyKept}
-use Rattle.sc_calm_mail_law.proofs.WalkRows.{takes_mail, orders}
-use Rattle.sc_calm_mail_law.proofs.Walks.{Walk, Part, part, next_in, IsReported, Hears}
+use Rattle.sc_base.specs.Definitions.{Each, Drawer}
+use Rattle.sc_node_table.specs.Values.{Ballot, Command, OrderLine, MailBody, Request, Answer, Prepare, Promise, Accept, Accepted, Nack, Learn, Ask, Install, TxPrepare, TxVote, TxOutcome, TxElsewhere, TxWatch, TxWatched, Told, Report}
+use Rattle.sc_paxos_words.specs.Definitions.{IsAtLeast}
+use Rattle.sc_paxos_words.proofs.Lemmas.{at_least_itself}
+use Rattle.sc_node_table.specs.Definitions.{ordered_row, ReplicaState, mailed, at_slot}
+use Rattle.sc_calm_mail_law.specs.Definitions.{IsPlainlyKept}
+use Rattle.sc_calm_mail_law.proofs.Lemmas.{takes_mail, orders, PartWalk, Part, part, next_in, IsReported, Hears}
 use Rattle.sc_calm_answers_law.proofs.Accepting.{IsPlainMail}
 
 abbrev pub All_ : Report Command → Type 0
@@ -40,7 +30,7 @@ module _ (most : Ballot) where
   again_low p command e (inl low) = low
   again_low p command e (inr new) = (let bad : None ≡ Some command = ap (λ es. at_slot es (next_in p)) (sym new.0) ∙ e in cc)
 
-  abbrev seeing : ℕ → Walk
+  abbrev seeing : ℕ → PartWalk
   seeing who = record {
     me = who;
     Early = λ p. Low p;

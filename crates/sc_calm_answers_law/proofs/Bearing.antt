@@ -2,43 +2,21 @@
 use Rattle.std.proofs.Common.{◌≡◌, ℕ, ◌+◌, ◌-◌, ◌<◌, ◌≤◌, ◌&&◌, eqb, nat_lt, Bool, true, false, true≢false, cond, List, [], ◌∷◌, ◌++◌, length, take, slice_get, Option, Some, None, inl, inr, refl, sym, ◌∙◌, ap, subst, arith}
 use Rattle.std.proofs.lemmas.Bool.{cases_eq, cases_lt, cond_both, cond-true, and_parts, eqb-true, eq-eqb, ltb-true}
 use Rattle.std.proofs.lemmas.List.{length_push}
-use Rattle.sc_base.specs.Among.{Among, Each}
-use Rattle.sc_base.specs.declared.names.Ballot.{Ballot}
-use Rattle.sc_cmd.specs.declared.commands.Command.{Command}
-use Rattle.sc_cmd.specs.declared.cores.Base.{Base}
-use Rattle.sc_mail.specs.declared.bodies.Mail.{Mail}
-use Rattle.sc_base.specs.Roster.{IsRoster, is_member}
-use Rattle.sc_machine_table.specs.Children.{child_by}
-use Rattle.sc_machine_table.specs.Group.{Group, group_of}
-use Rattle.sc_machine_table.specs.Logs.{state_after}
-use Rattle.sc_machine_table.specs.Machine.{applied}
-use Rattle.sc_paxos_words.specs.declared.answers.Counted.{Counted}
-use Rattle.sc_paxos_words.specs.declared.answers.Counted.TheVariants.{Chosen, NotYet}
-use Rattle.sc_paxos_words.specs.Leaders.{LeaderState, without_flight_at}
-use Rattle.sc_paxos_words.specs.Votes.{counted}
-use Rattle.sc_paxos_words.proofs.ListLemmas.{Each-among}
-use Rattle.sc_paxos_law.specs.Chosen.{needed, IsLog}
-use Rattle.sc_paxos_law.specs.Lawful.{IsLawfulHistory}
-use Rattle.sc_paxos_law.specs.Steps.{Accepted}
-use Rattle.sc_paxos_law.proofs.Among.{Among-left, Among-right}
-use Rattle.sc_paxos_law.proofs.Law.{earlier, longer_log}
-use Rattle.sc_node_table.specs.Election.{ended}
-use Rattle.sc_node_table.specs.Execute.{entered, learnt_to, welcomed, landed, left, looked, child_at, executed_one, next_child, next_ready, has_room, ending, all_ready, executed_ready, executed}
-use Rattle.sc_node_table.specs.Replica.{ReplicaState, Place, Executed, childless, name_of, next, members, set_at, last_slot}
-use Rattle.sc_node_table.specs.Rows.{learn_row}
-use Rattle.sc_node_table.specs.Slots.{slots_ahead, with_slot, without_slot}
-use Rattle.sc_node_table.specs.Spoken.{before_of, spoken}
-use Rattle.sc_node_table.specs.Voting.{leads, readied, vote_tallied, voted, accepted_row}
-use Rattle.sc_sound.specs.Players.{Ahead}
-use Rattle.sc_group_law.proofs.Growth.{IsLearnt, by_own_log}
-use Rattle.sc_group_law.proofs.Invariant.{Steps, rule, first, IsFlying}
-use Rattle.sc_following_law.specs.Offers.{AreAt}
-use Rattle.sc_following_law.proofs.Counted.{told_state, landed_is, entered_keeps, ends}
-use Rattle.sc_following_law.proofs.Spoken.{announced_keeps, spoken_same}
-use Rattle.sc_calm_logs_law.proofs.Along.{at, IsAlong, is_next, by_log, next_ready_is, one_past}
-use Rattle.sc_calm_logs_law.proofs.Counting.{counted_learnt, each_with_slot}
+use Rattle.sc_base.specs.Definitions.{Among, Each, IsRoster, is_member}
+use Rattle.sc_node_table.specs.Values.{Ballot, Command, Base, Mail, Counted, Chosen, NotYet}
+use Rattle.sc_machine_table.specs.Definitions.{child_by, Group, group_of, state_after, applied}
+use Rattle.sc_paxos_words.specs.Definitions.{LeaderState, without_flight_at, counted}
+use Rattle.sc_paxos_words.proofs.Lemmas.{Each-among}
+use Rattle.sc_paxos_law.specs.Definitions.{needed, IsLog, IsLawfulHistory, Accepted}
+use Rattle.sc_paxos_law.proofs.Lemmas.{Among-left, Among-right, earlier, longer_log}
+use Rattle.sc_node_table.specs.Definitions.{ended, entered, learnt_to, welcomed, landed, left, looked, child_at, executed_one, next_child, next_ready, has_room, ending, all_ready, executed_ready, executed, ReplicaState, Place, Executed, childless, name_of, next, members, set_at, last_slot, learn_row, slots_ahead, with_slot, without_slot, before_of, spoken, leads, readied, vote_tallied, voted, accepted_row}
+use Rattle.sc_sound.specs.Definitions.{Ahead}
+use Rattle.sc_group_law.proofs.Lemmas.{IsLearnt, by_own_log, Steps, rule, first, IsFlying}
+use Rattle.sc_following_law.specs.Definitions.{AreAt}
+use Rattle.sc_following_law.proofs.Lemmas.{told_state, landed_is, entered_keeps, ends, announced_keeps, spoken_same}
+use Rattle.sc_calm_logs_law.proofs.Lemmas.{at, IsAlong, is_next, by_log, next_ready_is, one_past, counted_learnt, each_with_slot}
 use Rattle.sc_calm_answers_law.proofs.Pumping.{pump_next}
-use Rattle.sc_calm_answers_law.specs.Bearing.{IsBirth}
+use Rattle.sc_calm_answers_law.specs.Definitions.{IsBirth}
 
 -- the last of two lists that go on the same
 same_last : (xs : List Command) (c d : Command) → xs ++ c ∷ [] ≡ xs ++ d ∷ [] → c ≡ d

@@ -3,57 +3,27 @@ use Rattle.std.proofs.Common.{◌≡◌, ℕ, ◌<◌, ◌≤◌, Bool, true, tr
 use Rattle.std.specs.Prelude.{is_some}
 use Rattle.std.proofs.lemmas.Bool.{cases_Bool, cond_both, cond-true}
 use Rattle.std.proofs.lemmas.Option.{none-some, same_Some}
-use Rattle.sc_base.specs.Among.{Among, Each}
-use Rattle.sc_base.specs.Same.{same_draw}
-use Rattle.sc_base.specs.declared.names.Draw.{Draw}
-use Rattle.sc_base.proofs.NameLemmas.{draw_is, same_name}
-use Rattle.sc_cmd.specs.declared.commands.Command.{Command}
-use Rattle.sc_cmd.specs.declared.cores.Base.{Base}
-use Rattle.sc_cmd.specs.declared.orders.OrderLine.{OrderLine}
-use Rattle.sc_mail.specs.declared.bodies.Mail.{Mail}
-use Rattle.sc_mail.specs.declared.bodies.MailBody.{MailBody}
-use Rattle.sc_mail.specs.declared.bodies.MailBody.TheVariants.{Request, Answer, Prepare, Promise, Accept, Accepted, Nack, Learn, Ask, Install, TxPrepare, TxVote, TxOutcome, TxElsewhere, TxWatch, TxWatched, Told as ToldMail}
-use Rattle.sc_mail.specs.declared.roles.Role.TheVariants.{Node, Client}
-use Rattle.sc_base.specs.Roster.{is_member}
-use Rattle.sc_actor.specs.declared.actors.Seat.{Seat}
-use Rattle.sc_actor.specs.declared.rows.Event.{Event}
-use Rattle.sc_actor.specs.declared.rows.Event.TheVariants.{Deliver, Tick, Go, Told, Crash, Drop, Again}
-use Rattle.sc_actor.specs.declared.rows.Input.TheVariants.{Got}
-use Rattle.sc_actor.specs.Mail.{mails}
-use Rattle.sc_actor.specs.Replay.{value}
-use Rattle.sc_actor.specs.System.{row_of}
-use Rattle.sc_orderly_law.specs.Orderly.{IsTidy, IsCalmEvent}
-use Rattle.sc_orderly_law.specs.Timely.{AreInTime}
-use Rattle.sc_orderly_law.proofs.InTime.{in_time_before, in_time_tidy}
-use Rattle.sc_orderly_law.proofs.Resting.{takes_first, is_born-from}
+use Rattle.sc_base.specs.Definitions.{Among, Each, same_draw, is_member}
+use Rattle.sc_node_table.specs.Values.{Draw, Command, Base, OrderLine, Mail, MailBody, Request, Answer, Prepare, Promise, Accept, Accepted, Nack, Learn, Ask, Install, TxPrepare, TxVote, TxOutcome, TxElsewhere, TxWatch, TxWatched, Told as ToldMail, Node, Client, Seat, Event, Deliver, Tick, Go, Crash, Drop, Again, Got}
+use Rattle.sc_base.proofs.Lemmas.{draw_is, same_name}
+use Rattle.sc_actor.specs.declared.rows.Event.TheVariants.{Told}
+use Rattle.sc_actor.specs.Definitions.{mails, value, row_of}
+use Rattle.sc_orderly_law.specs.Definitions.{IsTidy, IsCalmEvent, AreInTime}
+use Rattle.sc_orderly_law.proofs.Lemmas.{in_time_before, in_time_tidy, takes_first, is_born-from}
 use Rattle.sc_scenario.specs.declared.scenarios.Scenario.{Scenario}
-use Rattle.sc_node_table.specs.Node.{NodeState, replica_of, with_replica, with_new, with_born, with_children, group_of_mail, may_come, taken_by, routed, on_mail, group_of_order}
-use Rattle.sc_node_table.specs.Ordering.{ordered_row}
-use Rattle.sc_node_table.specs.Replica.{ReplicaState, Executed, listed, name_of, next, born_replica}
-use Rattle.sc_node_table.specs.Rows.{mailed, stepped}
-use Rattle.sc_node_table.specs.Slots.{slots_ahead}
-use Rattle.sc_sound.specs.Logs.{decided_log}
-use Rattle.sc_sound.specs.Players.{Player, player_table, births, as_nodes}
-use Rattle.sc_calm_law.specs.Charts.{players}
-use Rattle.sc_calm_law.proofs.OwedParties.{children_found}
-use Rattle.sc_log_law.specs.Descent.{Rows}
-use Rattle.sc_following_law.specs.Following.{Mark, Asks, Votes, Tells, Installs, Prepares, Promises, mark_of, Course, Sets}
-use Rattle.sc_following_law.specs.Hints.{Tellers}
-use Rattle.sc_following_law.specs.Leading.{IsLeadOf, IsAside}
-use Rattle.sc_following_law.specs.Rows.{IsCount}
-use Rattle.sc_following_law.proofs.Nodes.{same_mark}
-use Rattle.sc_calm_rows_law.specs.Groups.{view_at, progress_at, mark_in, taken_mark}
-use Rattle.sc_calm_rows_law.specs.Mailed.{TakesMail, HoldsReplica as Holds, IsScene}
-use Rattle.sc_calm_rows_law.specs.Turns.{IsSeat, with_event, IsReplicasRow}
-use Rattle.sc_calm_rows_law.proofs.Scenes.{fit}
-use Rattle.sc_calm_rows_law.proofs.Turning.{delivered, others_idle, rows_replicas, found_name}
-use Rattle.sc_calm_rows_law.proofs.Viewing.{new_is, view_is, view_was}
-use Rattle.sc_calm_rows_law.proofs.WellNodes.{Plays, Found, found_well, replay_well}
-use Rattle.sc_calm_logs_law.specs.Logged.{IsGroupOf, HasReplica}
-use Rattle.sc_calm_groups_law.specs.Led.{Ends, IsWellLed}
-use Rattle.sc_calm_groups_law.specs.Through.{AreWellBorn, IsRowOf, Delivers, HasOneLog, IsSentSo}
-use Rattle.sc_calm_groups_law.proofs.Executing.{asides_stay, orders_stay, promises_stay}
-use Rattle.sc_calm_answers_law.specs.Bearing.{IsBirth, EntriesBearChildren}
+use Rattle.sc_node_table.specs.Definitions.{NodeState, replica_of, with_replica, with_new, with_born, with_children, group_of_mail, may_come, taken_by, routed, on_mail, group_of_order, ordered_row, ReplicaState, Executed, listed, name_of, next, born_replica, mailed, stepped, slots_ahead}
+use Rattle.sc_sound.specs.Definitions.{decided_log, Player, player_table, births, as_nodes}
+use Rattle.sc_calm_law.specs.Definitions.{players}
+use Rattle.sc_calm_law.proofs.Lemmas.{children_found}
+use Rattle.sc_log_law.specs.Definitions.{Rows}
+use Rattle.sc_following_law.specs.Definitions.{Mark, Asks, Votes, Tells, Installs, Prepares, Promises, mark_of, Course, Sets, Tellers, IsLeadOf, IsAside, IsCount}
+use Rattle.sc_following_law.proofs.Lemmas.{same_mark}
+use Rattle.sc_calm_rows_law.specs.Definitions.{view_at, progress_at, mark_in, taken_mark, TakesMail, HoldsReplica as Holds, IsScene, IsSeat, with_event, IsReplicasRow}
+use Rattle.sc_calm_rows_law.proofs.Lemmas.{fit, delivered, others_idle, rows_replicas, found_name, new_is, view_is, view_was, Plays, Found, found_well, replay_well}
+use Rattle.sc_calm_logs_law.specs.Definitions.{IsGroupOf, HasReplica}
+use Rattle.sc_calm_groups_law.specs.Definitions.{Ends, IsWellLed, AreWellBorn, IsRowOf, Delivers, HasOneLog, IsSentSo}
+use Rattle.sc_calm_groups_law.proofs.Lemmas.{asides_stay, orders_stay, promises_stay}
+use Rattle.sc_calm_answers_law.specs.Definitions.{IsBirth, EntriesBearChildren}
 use Rattle.sc_calm_answers_law.proofs.Playing.{plays_of}
 
 -- ---- children of a node

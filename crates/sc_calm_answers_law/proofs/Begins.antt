@@ -1,40 +1,23 @@
 -- Before the first row of a valid scenario all is quiet.
 use Rattle.std.proofs.Common.{◌≡◌, ℕ, ◌+◌, Bool, true, false, true≢false, cond, List, [], ◌∷◌, ◌++◌, map, filter, replicate, Some, None, inl, inr, refl, sym, ◌∙◌, ap, subst, arith}
 use Rattle.std.proofs.lemmas.Bool.{cond_both, cond-true, eqb-true, eq-eqb}
-use Rattle.sc_base.specs.Among.{Among, Each}
-use Rattle.sc_base.specs.Same.{same_draw}
-use Rattle.sc_base.specs.declared.names.Draw.{Draw}
-use Rattle.sc_base.proofs.NameLemmas.{draw_is}
-use Rattle.sc_cmd.specs.declared.cores.Base.{Base}
-use Rattle.sc_cmd.specs.declared.cores.Core.{Core}
-use Rattle.sc_client_table.specs.Client.{Client as ClientState, born_client}
-use Rattle.sc_base.specs.Roster.{is_member, least_of}
-use Rattle.sc_paxos_words.proofs.BallotLemmas.{at_least_itself}
-use Rattle.sc_paxos_words.proofs.ListLemmas.{Each-among, find_found}
-use Rattle.sc_paxos_law.proofs.Among.{from_map}
-use Rattle.sc_machine_table.specs.Group.{group_of}
-use Rattle.sc_node_table.specs.Node.{born_replicas, born_node, replica_of, is_node}
-use Rattle.sc_node_table.specs.Replica.{ReplicaState, name_of, next, members, first_ballot, born_replica}
-use Rattle.sc_node_table.specs.Slots.{slots_ahead}
-use Rattle.sc_scenario.specs.Groups.{base_at}
-use Rattle.sc_scenario.specs.Valid.{IsBounded, ValidScenariosAreBounded}
+use Rattle.sc_base.specs.Definitions.{Among, Each, same_draw, is_member, least_of}
+use Rattle.sc_node_table.specs.Values.{Draw, Base, Core}
+use Rattle.sc_base.proofs.Lemmas.{draw_is}
+use Rattle.sc_client_table.specs.Definitions.{Client as ClientState, born_client}
+use Rattle.sc_paxos_words.proofs.Lemmas.{at_least_itself, Each-among, find_found}
+use Rattle.sc_paxos_law.proofs.Lemmas.{from_map}
+use Rattle.sc_machine_table.specs.Definitions.{group_of}
+use Rattle.sc_node_table.specs.Definitions.{born_replicas, born_node, replica_of, is_node, ReplicaState, name_of, next, members, first_ballot, born_replica, slots_ahead}
+use Rattle.sc_scenario.specs.Definitions.{base_at, IsBounded, ValidScenariosAreBounded}
 use Rattle.sc_scenario.specs.declared.scenarios.Asks.{Asks}
 use Rattle.sc_scenario.specs.declared.scenarios.Scenario.{Scenario}
-use Rattle.sc_sound.specs.Players.{route_of}
-use Rattle.sc_calm_law.specs.Quiet.{View, IsNewest, IsAtRest, IsBelow, IsLinked, StandsQuiet, RisesAt, IsAnswered, IsQuiet}
-use Rattle.sc_calm_law.proofs.QuietBirth.{begin_at_rest, first_leads}
-use Rattle.sc_budget_law.specs.AskingQuiet.{replicas_after, IsQuietJournal}
-use Rattle.sc_budget_law.specs.AtRest.{IsOfNodes, IsKept, frame_at_rest}
-use Rattle.sc_budget_law.specs.Frames.{Frame, IsFrame, frame_of}
-use Rattle.sc_budget_law.specs.PlainClient.{IsBegun}
-use Rattle.sc_budget_law.specs.PlainMail.{Requests}
-use Rattle.sc_budget_law.specs.PlainNode.{IsPlainGroup}
-use Rattle.sc_budget_law.proofs.AtBirth.{born_plain, born_found}
-use Rattle.sc_budget_law.proofs.BetweenStage.{frames_of, stage, of_groups}
-use Rattle.sc_budget_law.proofs.Knowing.{IsBefore, parts_of}
-use Rattle.sc_budget_law.proofs.Lists.{map_among}
-use Rattle.sc_budget_law.proofs.Round.{round}
-use Rattle.sc_calm_answers_law.specs.Begins.{QuietJournalsBegin}
+use Rattle.sc_sound.specs.Definitions.{route_of}
+use Rattle.sc_calm_law.specs.Definitions.{View, IsNewest, IsAtRest, IsBelow, IsLinked, StandsQuiet, RisesAt, IsAnswered, IsQuiet}
+use Rattle.sc_calm_law.proofs.Lemmas.{begin_at_rest, first_leads}
+use Rattle.sc_budget_law.specs.Definitions.{replicas_after, IsQuietJournal, IsOfNodes, IsKept, frame_at_rest, Frame, IsFrame, frame_of, IsBegun, Requests, IsPlainGroup}
+use Rattle.sc_budget_law.proofs.Lemmas.{born_plain, born_found, frames_of, stage, of_groups, IsBefore, parts_of, map_among, round}
+use Rattle.sc_calm_answers_law.specs.Definitions.{QuietJournalsBegin}
 
 -- the replicas of a node are those of the groups of which it is a member
 born_members : (P : ReplicaState → Type 0) (me : ℕ) (groups : List Base) → ((base : Base) → Among base groups → is_member base.core.members me ≡ true → P (born_replica slots_ahead me base)) → Each P (born_replicas slots_ahead me groups)

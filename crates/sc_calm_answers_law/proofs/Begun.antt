@@ -6,49 +6,29 @@ use Rattle.std.specs.Option.{option_map}
 use Rattle.std.proofs.lemmas.Bool.{cases_Bool, cases_eq, cond-false, and_parts, eqb-true, eq-eqb, ne_eqb, or_parts}
 use Rattle.std.proofs.lemmas.List.{length_push}
 use Rattle.std.proofs.lemmas.Option.{none-some, same_Some}
-use Rattle.sc_base.specs.Among.{Among}
-use Rattle.sc_base.specs.Limits.{client_actor}
-use Rattle.sc_base.specs.declared.ops.Op.{Op}
-use Rattle.sc_cmd.specs.declared.cores.Base.{Base}
-use Rattle.sc_cmd.specs.declared.orders.OrderLine.{OrderLine}
-use Rattle.sc_mail.specs.declared.bodies.Mail.{Mail}
-use Rattle.sc_mail.specs.declared.bodies.MailBody.TheVariants.{Request}
-use Rattle.sc_mail.specs.declared.roles.Role.TheVariants.{Client}
-use Rattle.sc_actor.specs.declared.actors.Seat.{Seat}
-use Rattle.sc_actor.specs.declared.rows.Event.{Event}
+use Rattle.sc_base.specs.Definitions.{Among, client_actor}
+use Rattle.sc_node_table.specs.Values.{Op, Base, OrderLine, Mail, Request, Client, Seat, Event, Input, Got, Row}
 use Rattle.sc_actor.specs.declared.rows.Event.TheVariants as Comes
-use Rattle.sc_actor.specs.declared.rows.Input.{Input}
-use Rattle.sc_actor.specs.declared.rows.Input.TheVariants.{Got, Go}
+use Rattle.sc_actor.specs.declared.rows.Input.TheVariants.{Go}
 use Rattle.sc_actor.specs.declared.rows.Input.TheVariants.{Told as ToldInput}
-use Rattle.sc_actor.specs.declared.rows.Row.{Row}
-use Rattle.sc_actor.specs.Mail.{mails}
-use Rattle.sc_actor.specs.Replay.{input_of, acted, value}
-use Rattle.sc_actor.specs.System.{row_of, has_gone, is_go}
-use Rattle.sc_actor.proofs.ReplayLemmas.{value-snoc}
-use Rattle.sc_client_table.specs.Client.{Client as ClientState, born_client, request_at}
-use Rattle.sc_client_table.specs.Table.{table}
-use Rattle.sc_client_table.specs.Turns.{InTurn}
+use Rattle.sc_actor.specs.Definitions.{mails, input_of, acted, value, row_of, has_gone, is_go, are_apart}
+use Rattle.sc_actor.proofs.Lemmas.{value-snoc}
+use Rattle.sc_client_table.specs.Definitions.{Client as ClientState, born_client, request_at, table, InTurn}
 use Rattle.sc_client_table.proofs.TurnLemmas.{sends_in_turn}
-use Rattle.sc_actor.specs.System.{are_apart}
-use Rattle.sc_orderly_law.specs.Orderly.{IsCalmEvent}
-use Rattle.sc_orderly_law.specs.Timely.{AreInTime}
-use Rattle.sc_orderly_law.proofs.InTime.{by_time, last_in_time}
-use Rattle.sc_orderly_law.proofs.Seats.{seat_found}
-use Rattle.sc_paxos_law.proofs.Among.{Among-right}
-use Rattle.sc_scenario.specs.Valid.{ValidScenariosAreBounded}
+use Rattle.sc_orderly_law.specs.Definitions.{IsCalmEvent, AreInTime}
+use Rattle.sc_orderly_law.proofs.Lemmas.{by_time, last_in_time, seat_found}
+use Rattle.sc_paxos_law.proofs.Lemmas.{Among-right}
+use Rattle.sc_scenario.specs.Definitions.{ValidScenariosAreBounded}
 use Rattle.sc_scenario.specs.declared.scenarios.Asks.{Asks}
 use Rattle.sc_scenario.specs.declared.scenarios.Scenario.{Scenario}
-use Rattle.sc_node_table.specs.Slots.{numbers_from}
-use Rattle.sc_sound.specs.Players.{Player, player_table, node_seat, client_seat, client_seats, route_of, births, as_nodes}
-use Rattle.sc_sound.specs.Requests.{asks_for, issues, issue_row}
-use Rattle.sc_group_law.proofs.Places.{or_now, issue-push}
-use Rattle.sc_whole_law.proofs.Seats.{all_apart}
-use Rattle.sc_calm_law.specs.Charts.{players}
-use Rattle.sc_calm_law.specs.Totals.{Rows}
-use Rattle.sc_budget_law.specs.Owed.{begun_ones, waiting_ones}
-use Rattle.sc_budget_law.specs.PlainClient.{begun_of}
-use Rattle.sc_budget_law.proofs.Lists.{map_among}
-use Rattle.sc_calm_answers_law.specs.Noted.{IssuedAreBegun}
+use Rattle.sc_node_table.specs.Definitions.{numbers_from}
+use Rattle.sc_sound.specs.Definitions.{Player, player_table, node_seat, client_seat, client_seats, route_of, births, as_nodes, asks_for, issues, issue_row}
+use Rattle.sc_group_law.proofs.Lemmas.{or_now, issue-push}
+use Rattle.sc_whole_law.proofs.Lemmas.{all_apart}
+use Rattle.sc_calm_law.specs.Definitions.{players, Rows}
+use Rattle.sc_budget_law.specs.Definitions.{begun_ones, waiting_ones, begun_of}
+use Rattle.sc_budget_law.proofs.Lemmas.{map_among}
+use Rattle.sc_calm_answers_law.specs.Definitions.{IssuedAreBegun}
 
 -- ---- a client's own row
 

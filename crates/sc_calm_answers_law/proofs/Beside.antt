@@ -1,56 +1,30 @@
 -- A replica beside the leader, or in a group in which none runs.
 use Rattle.std.proofs.Common.{List, None, Some, [], ap, false, inl, inr, is_some, not, refl, subst, sym, true, true≢false, ℕ, ◌&&◌, ◌||◌, ◌∙◌, ◌≡◌}
 use Rattle.std.proofs.lemmas.Bool.{cases_Bool, cond-false, cond-true, or_right}
-use Rattle.sc_actor.specs.Mail.{mails}
-use Rattle.sc_actor.specs.declared.actors.Seat.{Seat}
-use Rattle.sc_actor.specs.declared.rows.Event.{Event}
-use Rattle.sc_actor.specs.declared.rows.Event.TheVariants.{Deliver, Go, Told}
-use Rattle.sc_base.specs.Drawing.{Drawer, next_name}
-use Rattle.sc_base.specs.Same.{same_draw}
-use Rattle.sc_base.specs.declared.names.Ballot.{Ballot}
-use Rattle.sc_base.specs.declared.names.Draw.{Draw}
+use Rattle.sc_actor.specs.Definitions.{mails}
+use Rattle.sc_node_table.specs.Values.{Seat, Event, Deliver, Go, Ballot, Draw, Command, Base, OrderLine, OrderRefusal, Mail, MailBody, Accept, Accepted, Answer, Ask, Install, Learn, Nack, Prepare, Promise, Request, TxElsewhere, TxOutcome, TxPrepare, TxVote, TxWatch, TxWatched, Node, Told as ToldMail}
+use Rattle.sc_actor.specs.declared.rows.Event.TheVariants.{Told}
+use Rattle.sc_base.specs.Definitions.{Drawer, next_name, same_draw}
 use Rattle.sc_calm_answers_law.proofs.Leading.{one}
 use Rattle.sc_calm_answers_law.proofs.Newest.{newest_after, newest_before, stays_at, unled}
 use Rattle.sc_calm_answers_law.proofs.Posted.{offers_own, watches_own}
-use Rattle.sc_calm_answers_law.specs.Beside.{BesidesAreFound, IsHere, IsUnsettled}
-use Rattle.sc_calm_answers_law.specs.Guided.{IsGuided}
-use Rattle.sc_calm_groups_law.specs.Kinds.{RowElects, RowLeads, RowMakes, RowPasses, RowRests, RowTakes}
-use Rattle.sc_calm_law.specs.Charts.{players}
-use Rattle.sc_calm_law.specs.Totals.{Rows}
-use Rattle.sc_calm_mail_law.specs.Posted.{IsPosted}
-use Rattle.sc_calm_orders_law.proofs.Resting.{tables-rest}
-use Rattle.sc_calm_orders_law.specs.Parts.{works}
-use Rattle.sc_calm_rows_law.proofs.Asides.{asides_still}
-use Rattle.sc_calm_rows_law.proofs.Keeping.{same_some}
-use Rattle.sc_calm_rows_law.proofs.Turning.{rows_replicas}
-use Rattle.sc_calm_rows_law.proofs.Viewing.{view_was}
-use Rattle.sc_calm_rows_law.specs.Groups.{mark_in, taken_mark, view_at}
-use Rattle.sc_calm_rows_law.specs.Turns.{IsReplicasRow, with_event}
-use Rattle.sc_calm_scenes_law.specs.Counted.{IsOrdered}
-use Rattle.sc_calm_scenes_law.specs.Found.{BesideFinds}
-use Rattle.sc_calm_scenes_law.specs.Fresh.{IsThere}
-use Rattle.sc_calm_scenes_law.specs.Kept.{IsBeside, Led, Unled}
-use Rattle.sc_calm_scenes_law.specs.Turns.{LeadsAlone, NewestAreBound}
-use Rattle.sc_cmd.specs.declared.commands.Command.{Command}
-use Rattle.sc_cmd.specs.declared.cores.Base.{Base}
-use Rattle.sc_cmd.specs.declared.orders.OrderLine.{OrderLine}
-use Rattle.sc_cmd.specs.declared.orders.OrderRefusal.{OrderRefusal}
+use Rattle.sc_calm_answers_law.specs.Definitions.{BesidesAreFound, IsHere, IsUnsettled, IsGuided}
+use Rattle.sc_calm_groups_law.specs.Definitions.{RowElects, RowLeads, RowMakes, RowPasses, RowRests, RowTakes}
+use Rattle.sc_calm_law.specs.Definitions.{players, Rows}
+use Rattle.sc_calm_mail_law.specs.Definitions.{IsPosted}
+use Rattle.sc_calm_orders_law.proofs.Lemmas.{tables-rest}
+use Rattle.sc_calm_orders_law.specs.Definitions.{works}
+use Rattle.sc_calm_rows_law.proofs.Lemmas.{asides_still, same_some, rows_replicas, view_was}
+use Rattle.sc_calm_rows_law.specs.Definitions.{mark_in, taken_mark, view_at, IsReplicasRow, with_event}
+use Rattle.sc_calm_scenes_law.specs.Definitions.{IsOrdered, BesideFinds, IsThere, IsBeside, Led, Unled, LeadsAlone, NewestAreBound}
 use Rattle.sc_cmd.specs.declared.orders.OrderRefusal.TheVariants.{NotLeader}
-use Rattle.sc_following_law.specs.Following.{Asks, Installs, Mark, Prepares, Promises, Tells, Votes, mark_of, named_mark}
-use Rattle.sc_law_lemmas.specs.Steps.{GoesOn}
-use Rattle.sc_machine_table.specs.Orders.{refusal_of}
-use Rattle.sc_mail.specs.declared.bodies.Mail.{Mail}
-use Rattle.sc_mail.specs.declared.bodies.MailBody.{MailBody}
-use Rattle.sc_mail.specs.declared.bodies.MailBody.TheVariants.{Accept, Accepted, Answer, Ask, Install, Learn, Nack, Prepare, Promise, Request, TxElsewhere, TxOutcome, TxPrepare, TxVote, TxWatch, TxWatched}
-use Rattle.sc_mail.specs.declared.roles.Role.TheVariants.{Node}
-use Rattle.sc_node_table.specs.Node.{NodeState, group_of_order}
-use Rattle.sc_node_table.specs.Ordering.{first_of_both, named_refused, ordered_command, ordered_row, untaken}
-use Rattle.sc_node_table.specs.Replica.{Place, ReplicaState, first_set, may_offer, settled}
-use Rattle.sc_node_table.specs.Rows.{mailed}
-use Rattle.sc_orderly_law.specs.Timely.{AreInTime}
-use Rattle.sc_paxos_words.specs.Ballots.{below}
-use Rattle.sc_sound.specs.Players.{Player}
-use Rattle.sc_mail.specs.declared.bodies.MailBody.TheVariants.{Told as ToldMail}
+use Rattle.sc_following_law.specs.Definitions.{Asks, Installs, Mark, Prepares, Promises, Tells, Votes, mark_of, named_mark}
+use Rattle.sc_law_lemmas.specs.Definitions.{GoesOn}
+use Rattle.sc_machine_table.specs.Definitions.{refusal_of}
+use Rattle.sc_node_table.specs.Definitions.{NodeState, group_of_order, first_of_both, named_refused, ordered_command, ordered_row, untaken, Place, ReplicaState, first_set, may_offer, settled, mailed}
+use Rattle.sc_orderly_law.specs.Definitions.{AreInTime}
+use Rattle.sc_paxos_words.specs.Definitions.{below}
+use Rattle.sc_sound.specs.Definitions.{Player}
 
 -- the mark of a mail
 named_is : (name group : Draw) (mark other : Mark) → named_mark name group mark ≡ Some other → mark ≡ other
@@ -201,6 +175,7 @@ beside_told words births rows seat line node base r g o named off =
       (NotLeader r.hint, refused_off node.draws line r off),
     )
 
+-- A mail to a replica that does not run comes beside the leader, or to a group in which none runs and whose newest states stay bound, and finds what an order needs; and so does an order.
 pub besides_found : BesidesAreFound
 besides_found = record {
   beside = λ words births rows seat number mail base node r h off. is_beside words births rows seat number mail base node r h off;

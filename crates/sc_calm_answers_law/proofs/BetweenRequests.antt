@@ -1,62 +1,25 @@
 -- Clients ask alone since a quiet front: it begins so, and goes on so.
 use Rattle.std.proofs.Common.{◌≡◌, ℕ, Bool, false, cond, ◌+◌, ◌≤◌, ◌^◌, true, List, [], ◌∷◌, ◌++◌, length, Option, Some, None, ◌⊎◌, inl, inr, refl, sym, ◌∙◌, ap, subst, arith, append-nil, append_assoc, length-append}
 use Rattle.std.proofs.lemmas.Option.{none-some}
-use Rattle.sc_base.proofs.NameLemmas.{draw_is}
-use Rattle.sc_base.specs.Among.{Among, Each}
-use Rattle.sc_base.specs.Same.{same_draw}
-use Rattle.sc_base.specs.declared.names.Draw.{Draw}
-use Rattle.sc_base.specs.declared.ops.Op.{Op}
-use Rattle.sc_cmd.specs.declared.cores.Base.{Base}
-use Rattle.sc_cmd.specs.declared.orders.OrderLine.{OrderLine}
-use Rattle.sc_mail.specs.declared.bodies.Mail.{Mail}
-use Rattle.sc_mail.specs.declared.bodies.MailBody.{MailBody}
-use Rattle.sc_mail.specs.declared.bodies.MailBody.TheVariants.{Request, Answer, Prepare, Promise, Accept, Accepted, Nack, Learn, Ask, Install, TxPrepare, TxVote, TxOutcome, TxElsewhere, TxWatch, TxWatched, Told}
-use Rattle.sc_actor.specs.declared.actors.Seat.{Seat}
-use Rattle.sc_actor.specs.declared.rows.Event.{Event}
-use Rattle.sc_actor.specs.declared.rows.Row.{Row}
-use Rattle.sc_actor.specs.System.{System, row_of}
-use Rattle.sc_orderly_law.specs.Orderly.{IsInOrder, IsOrderly, IsTidy, rest}
-use Rattle.sc_orderly_law.specs.Timely.{AreInTime}
-use Rattle.sc_orderly_law.proofs.InTime.{in_time_tidy}
-use Rattle.sc_node_table.specs.Replica.{ReplicaState, last_slot, listed}
-use Rattle.sc_node_table.specs.Slots.{slots_ahead}
+use Rattle.sc_base.proofs.Lemmas.{draw_is}
+use Rattle.sc_base.specs.Definitions.{Among, Each, same_draw}
+use Rattle.sc_node_table.specs.Values.{Draw, Op, Base, OrderLine, Mail, MailBody, Request, Answer, Prepare, Promise, Accept, Accepted, Nack, Learn, Ask, Install, TxPrepare, TxVote, TxOutcome, TxElsewhere, TxWatch, TxWatched, Told, Seat, Event, Row}
+use Rattle.sc_actor.specs.Definitions.{System, row_of}
+use Rattle.sc_orderly_law.specs.Definitions.{IsInOrder, IsOrderly, IsTidy, rest, AreInTime}
+use Rattle.sc_orderly_law.proofs.Lemmas.{in_time_tidy}
+use Rattle.sc_node_table.specs.Definitions.{ReplicaState, last_slot, listed, slots_ahead}
 use Rattle.sc_scenario.specs.declared.scenarios.Scenario.{Scenario}
-use Rattle.sc_scenario.specs.Valid.{ValidScenariosAreBounded}
-use Rattle.sc_sound.specs.GroupsOf.{groups_at}
-use Rattle.sc_sound.specs.Players.{Player, player_table, births, as_nodes}
-use Rattle.sc_calm_law.specs.Charts.{Chart, players}
-use Rattle.sc_calm_law.specs.Keeping.{FindsCalm}
-use Rattle.sc_calm_law.specs.Totals.{Rows}
-use Rattle.sc_following_law.specs.Following.{Mark, Asks, Votes, Tells, mark_of, marks_of, named_mark}
-use Rattle.sc_calm_rows_law.specs.Turns.{IsSeat}
-use Rattle.sc_calm_mail_law.specs.Few.{SlotsAreLeft}
-use Rattle.sc_calm_mail_law.specs.Lasting.{ReplicasLast}
-use Rattle.sc_calm_answers_law.specs.SentJournals.{IsQuietWhileYoung}
-use Rattle.sc_calm_charts_law.specs.Charting.{far_at, chart_at}
-use Rattle.sc_calm_charts_law.specs.Fronts.{quiet_front}
-use Rattle.sc_calm_scenes_law.specs.Fresh.{IsNowhere}
-use Rattle.sc_budget_law.specs.Asking.{IsAsking, AreFarFromLast, RequestsGoOn}
-use Rattle.sc_budget_law.specs.AskingLines.{AreRequests, NobodyWaits}
-use Rattle.sc_budget_law.specs.AskingQuiet.{replicas_after, setting_at, QuietJournalsAsk}
-use Rattle.sc_budget_law.specs.BetweenJournal.{replica_at, next_in}
-use Rattle.sc_budget_law.specs.CalmAsking.{IsLinkedSetting}
-use Rattle.sc_budget_law.specs.CalmNode.{Setting, IsSetting, IsAsideBody, IsCalmMail}
-use Rattle.sc_budget_law.specs.Frames.{Frame}
-use Rattle.sc_budget_law.specs.PlainClient.{IsBegun}
-use Rattle.sc_budget_law.specs.PlainMail.{IsPlainBody}
-use Rattle.sc_calm_answers_law.specs.RequestsFinding.{CountsAs}
-use Rattle.sc_calm_answers_law.specs.Rows.{NodesMayPump, AreNear, MayBegin, RequestRowsFindCalm}
-use Rattle.sc_calm_answers_law.specs.Starts.{QuietJournalsKnowOne, LawfulQuietJournalsCountOnce}
-use Rattle.sc_calm_answers_law.specs.Cuts.{QuietGroupsHaveCuts}
-use Rattle.sc_calm_answers_law.specs.Round.{StandingGroupsAreRound}
-use Rattle.sc_calm_answers_law.specs.SettingCounting.{QuietChartsCount}
-use Rattle.sc_calm_answers_law.specs.Settings.{frames_after, QuietJournalsHaveFrames, QuietSettingsAreLinked}
-use Rattle.sc_calm_answers_law.specs.Journal.{IsCalmJournal, IsFront}
-use Rattle.sc_calm_answers_law.specs.Resting.{RestsAt}
-use Rattle.sc_calm_answers_law.specs.KeptRising.{ChartHintsRise}
-use Rattle.sc_calm_answers_law.specs.Viewing.{ViewsAgree}
+use Rattle.sc_scenario.specs.Definitions.{ValidScenariosAreBounded}
+use Rattle.sc_sound.specs.Definitions.{groups_at, Player, player_table, births, as_nodes}
+use Rattle.sc_calm_law.specs.Definitions.{Chart, players, FindsCalm, Rows}
+use Rattle.sc_following_law.specs.Definitions.{Mark, Asks, Votes, Tells, mark_of, marks_of, named_mark}
+use Rattle.sc_calm_rows_law.specs.Definitions.{IsSeat}
+use Rattle.sc_calm_mail_law.specs.Definitions.{SlotsAreLeft, ReplicasLast}
+use Rattle.sc_calm_answers_law.specs.Definitions.{IsQuietWhileYoung, CountsAs, NodesMayPump, AreNear, MayBegin, RequestRowsFindCalm, QuietJournalsKnowOne, LawfulQuietJournalsCountOnce, QuietGroupsHaveCuts, StandingGroupsAreRound, QuietChartsCount, frames_after, QuietJournalsHaveFrames, QuietSettingsAreLinked, IsCalmJournal, IsFront, RestsAt, ChartHintsRise, ViewsAgree, setting_of, IsKnownFront, IsRequested, RequestsBegin, RequestsStay, RequestsFindCalm, RequestsLeaveYoung}
+use Rattle.sc_calm_charts_law.specs.Definitions.{far_at, chart_at, quiet_front}
+use Rattle.sc_calm_scenes_law.specs.Definitions.{IsNowhere}
+use Rattle.sc_budget_law.specs.Definitions.{IsAsking, AreFarFromLast, RequestsGoOn, AreRequests, NobodyWaits, replicas_after, setting_at, QuietJournalsAsk, replica_at, next_in, IsLinkedSetting, Setting, IsSetting, IsAsideBody, IsCalmMail, Frame, IsBegun, IsPlainBody}
 use Rattle.sc_calm_answers_law.proofs.Delivering.{there_or}
-use Rattle.sc_calm_answers_law.specs.Requested.{setting_of, IsKnownFront, IsRequested, RequestsBegin, RequestsStay, RequestsFindCalm, RequestsLeaveYoung}
 use Rattle.sc_calm_answers_law.proofs.Setting as quiet_of
 
 snoc_parts : {X : Type 0} (xs : List X) (last : X) (before : List X) (x : X) (after : List X) → xs ++ last ∷ [] ≡ before ++ x ∷ after → ((before ≡ xs) × (x ≡ last)) ⊎ ((rest : List X) × (xs ≡ before ++ x ∷ rest))

@@ -1,70 +1,26 @@
 -- Each child that a node makes by a mail is a group of the journal, as it began.
-use Rattle.std.proofs.Common.{◌≡◌, ℕ, ◌≤◌, eqb, true, List, [], ◌∷◌, ◌++◌, length, map, drop, Option, Some, None, inl, inr, refl, sym, ◌∙◌, ap, subst, option_to_list, arith}
-use Rattle.sc_base.specs.Among.{Among, Each}
-use Rattle.sc_base.specs.Same.{same_draw}
-use Rattle.sc_base.specs.declared.names.Draw.{Draw}
-use Rattle.sc_base.proofs.NameLemmas.{same_name, draw_is}
-use Rattle.sc_cmd.specs.declared.commands.Command.{Command}
-use Rattle.sc_cmd.specs.declared.cores.Base.{Base}
-use Rattle.sc_cmd.specs.declared.links.Route.{Route}
-use Rattle.sc_mail.specs.declared.bodies.Mail.{Mail}
-use Rattle.sc_mail.specs.declared.bodies.MailBody.{MailBody}
-use Rattle.sc_mail.specs.declared.bodies.MailBody.TheVariants.{Accepted as AcceptedMail, Learn}
-use Rattle.sc_mail.specs.declared.roles.Role.TheVariants.{Node, Client}
-use Rattle.sc_base.specs.Roster.{is_member}
-use Rattle.sc_actor.specs.declared.actors.Seat.{Seat}
-use Rattle.sc_actor.specs.Mail.{mails, numbered}
-use Rattle.sc_actor.specs.Replay.{value}
-use Rattle.sc_machine_table.specs.Group.{Group, group_of}
-use Rattle.sc_machine_table.specs.Logs.{state_after}
-use Rattle.sc_machine_table.specs.Machine.{applied}
-use Rattle.sc_log_entries.specs.Births.{birth_of}
-use Rattle.sc_log_entries.proofs.Children.{births_are_children}
-use Rattle.sc_paxos_words.proofs.ListLemmas.{Each-among, Each-weaker, find_found}
-use Rattle.sc_paxos_law.specs.Lawful.{IsLawfulHistory}
-use Rattle.sc_paxos_law.proofs.Among.{Among-left, Among-right, Among-either, from_map}
+use Rattle.std.proofs.Common.{◌≡◌, ℕ, ◌≤◌, eqb, true, List, [], ◌∷◌, ◌++◌, length, map, drop, Option, Some, None, inl, inr, refl, sym, ◌∙◌, ap, subst, arith}
+use Rattle.sc_base.specs.Definitions.{Among, Each, same_draw, is_member}
+use Rattle.sc_node_table.specs.Values.{Draw, Command, Base, Route, Mail, MailBody, Accepted as AcceptedMail, Learn, Node, Client, Seat}
+use Rattle.sc_base.proofs.Lemmas.{same_name, draw_is}
+use Rattle.sc_actor.specs.Definitions.{mails, numbered, value}
+use Rattle.sc_machine_table.specs.Definitions.{group_of, state_after}
+use Rattle.sc_log_entries.proofs.Lemmas.{births_are_children}
+use Rattle.sc_paxos_words.proofs.Lemmas.{Each-among, Each-weaker, find_found}
+use Rattle.sc_paxos_law.specs.Definitions.{IsLawfulHistory}
+use Rattle.sc_paxos_law.proofs.Lemmas.{Among-either, from_map}
 use Rattle.sc_scenario.specs.declared.scenarios.Scenario.{Scenario}
-use Rattle.sc_node_table.specs.Node.{NodeState, replica_of, group_of_mail}
-use Rattle.sc_node_table.specs.Replica.{ReplicaState, name_of}
-use Rattle.sc_node_table.specs.Rows.{mailed}
-use Rattle.sc_node_table.specs.Slots.{numbers_from}
-use Rattle.sc_sound.specs.GroupsOf.{children_of, groups_at, entries_at}
-use Rattle.sc_sound.specs.Logs.{decided_log}
-use Rattle.sc_sound.specs.Players.{Ahead, Player, Lawful, births, node_seat, client_seat, player_table}
-use Rattle.sc_ring_law.specs.Allowed.{Sources}
-use Rattle.sc_log_law.specs.Descent.{Rows}
-use Rattle.sc_log_law.specs.Findings.{AreFound, StayAsTold}
-use Rattle.sc_log_law.specs.InTurn.{DecideInTurn}
-use Rattle.sc_log_law.proofs.Findings.{told_rows, groups_are_found}
-use Rattle.sc_log_law.proofs.Histories.{told_rows_stay}
-use Rattle.sc_log_law.proofs.Told.{Told}
-use Rattle.sc_group_law.proofs.Births.{first_of}
-use Rattle.sc_group_law.proofs.Families.{h_of}
-use Rattle.sc_group_law.proofs.Holding.{held}
-use Rattle.sc_group_law.proofs.Names.{IsOneOf}
-use Rattle.sc_group_law.proofs.Midway.{Fine}
-use Rattle.sc_group_law.proofs.Invariant.{Steps, rule, first, IsReplica, IsTrue, OffersMade}
-use Rattle.sc_group_law.proofs.Offspring.{IsChildOf, learnt_are, accepted_are}
-use Rattle.sc_group_law.proofs.RowSteps.{among_numbers, number_among}
-use Rattle.sc_group_law.proofs.Speech.{Speaks}
-use Rattle.sc_whole_law.specs.Begins.{BeginsWell}
-use Rattle.sc_whole_law.specs.Orders.{OrdersAreAllowed}
-use Rattle.sc_whole_law.specs.Parameters.{stories_at, MayQueue, IsHeardAt}
-use Rattle.sc_whole_law.specs.Parties.{PartiesAreApart, MergesFit}
-use Rattle.sc_whole_law.proofs.Distinct.{parties_are_apart}
-use Rattle.sc_whole_law.proofs.Fitting.{merges_fit}
-use Rattle.sc_whole_law.proofs.Fronts.{goes_on_from}
-use Rattle.sc_whole_law.proofs.Granting.{speaks}
-use Rattle.sc_whole_law.proofs.Members.{members_stay_rosters}
-use Rattle.sc_whole_law.proofs.Turning.{Holds}
-use Rattle.sc_calm_rows_law.specs.Turns.{IsSeat, made_children, AreAsBegun}
-use Rattle.sc_calm_logs_law.proofs.Journals.{whole, front}
-
--- the child of an entry is one of its log's
-pub child_in : (group : Group) (front : List Command) (c : Command) (child : Base) → birth_of (state_after group front) c (applied (state_after group front) c).1 ≡ Some child → Among child (children_of group (front ++ c ∷ []))
-child_in group [] c child e = Among-left child (option_to_list (birth_of group c (applied group c).1)) [] (subst (λ o. Among child (option_to_list o)) (sym e) (inl refl))
-child_in group (d ∷ front) c child e =
-    Among-right child (option_to_list (birth_of group d (applied group d).1)) (children_of (applied group d).0 (front ++ c ∷ [])) (child_in (applied group d).0 front c child e)
+use Rattle.sc_node_table.specs.Definitions.{NodeState, replica_of, group_of_mail, ReplicaState, name_of, mailed, numbers_from}
+use Rattle.sc_sound.specs.Definitions.{groups_at, entries_at, decided_log, Ahead, Player, Lawful, births, node_seat, client_seat, player_table}
+use Rattle.sc_ring_law.specs.Definitions.{Sources}
+use Rattle.sc_log_law.specs.Definitions.{Rows, AreFound, StayAsTold, DecideInTurn}
+use Rattle.sc_log_law.proofs.Lemmas.{told_rows, groups_are_found, told_rows_stay, Told}
+use Rattle.sc_group_law.proofs.Lemmas.{first_of, h_of, held, IsOneOf, Fine, Steps, rule, first, IsReplica, IsTrue, OffersMade, IsChildOf, learnt_are, accepted_are, among_numbers, number_among, Speaks}
+use Rattle.sc_whole_law.specs.Definitions.{BeginsWell, OrdersAreAllowed, stories_at, MayQueue, IsHeardAt, PartiesAreApart, MergesFit}
+use Rattle.sc_whole_law.proofs.Lemmas.{parties_are_apart, merges_fit, goes_on_from, speaks, members_stay_rosters, Holds}
+use Rattle.sc_calm_rows_law.specs.Definitions.{IsSeat, made_children, AreAsBegun}
+use Rattle.sc_calm_logs_law.proofs.Lemmas.{whole, front}
+pub use Rattle.sc_calm_logs_law.proofs.Bringing.{child_in}
 
 -- a replica's part of a row begins
 start : (ahead : Ahead) (base : Base) (made : Command → Type 0) (heard : MailBody → Type 0) (me : ℕ) (before : Steps) (lawful : IsLawfulHistory (rule ahead base) (first ahead base) before) (requested : OffersMade made before) (r : ReplicaState) → IsReplica ahead base made before me r

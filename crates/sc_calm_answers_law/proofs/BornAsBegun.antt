@@ -1,20 +1,17 @@
 -- The replicas of a group at the births are as the group begins, at its first members; and those of the scenario's groups are there from then on.
 use Rattle.std.proofs.Common.{◌≡◌, Bool, true, false, cond, [], Option, Some, None, ◌⊎◌, inl, inr, refl, sym, ◌∙◌}
 use Rattle.std.proofs.lemmas.Bool.{cond-true}
-use Rattle.sc_base.specs.Among.{Among}
-use Rattle.sc_cmd.specs.declared.cores.Base.{Base}
-use Rattle.sc_base.specs.Roster.{is_member}
-use Rattle.sc_node_table.specs.Replica.{born_replica}
-use Rattle.sc_node_table.specs.Slots.{slots_ahead}
-use Rattle.sc_scenario.specs.Valid.{IsBounded, ValidScenariosAreBounded}
+use Rattle.sc_base.specs.Definitions.{Among, is_member}
+use Rattle.sc_node_table.specs.Values.{Base}
+use Rattle.sc_node_table.specs.Definitions.{born_replica, slots_ahead}
+use Rattle.sc_scenario.specs.Definitions.{IsBounded, ValidScenariosAreBounded}
 use Rattle.sc_scenario.specs.declared.scenarios.Scenario.{Scenario}
-use Rattle.sc_sound.specs.Players.{births, as_nodes}
-use Rattle.sc_calm_mail_law.specs.Lasting.{ReplicasLast}
-use Rattle.sc_calm_rows_law.specs.Groups.{view_at}
-use Rattle.sc_calm_rows_law.proofs.Beginning.{view_born}
-use Rattle.sc_calm_answers_law.specs.Tellers.{GroupsAreBornOrNot}
-use Rattle.sc_calm_answers_law.specs.SentJournals.{AreBornAsBegun, GroupsAreBornAsBegun, FirstGroupsAreNeverYoung}
-use Rattle.sc_ring_law.proofs.Finds.{some_none}
+use Rattle.sc_sound.specs.Definitions.{births, as_nodes}
+use Rattle.sc_calm_mail_law.specs.Definitions.{ReplicasLast}
+use Rattle.sc_calm_rows_law.specs.Definitions.{view_at}
+use Rattle.sc_calm_rows_law.proofs.Lemmas.{view_born}
+use Rattle.sc_calm_answers_law.specs.Definitions.{GroupsAreBornOrNot, AreBornAsBegun, GroupsAreBornAsBegun, FirstGroupsAreNeverYoung}
+use Rattle.sc_ring_law.proofs.Lemmas.{some_none}
 
 one_or_none : {X : Type 0} (b : Bool) (x : X) (o : Option X) → o ≡ cond b (Some x) None → (o ≡ None) ⊎ ((o ≡ Some x) × (b ≡ true))
 one_or_none true x o e = inr (e, refl)

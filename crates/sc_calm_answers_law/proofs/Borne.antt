@@ -1,50 +1,24 @@
 -- The children that a row makes while an order is under way are young.
 use Rattle.std.proofs.Common.{◌≡◌, ◌⊎◌, ℕ, Bool, true, false, true≢false, List, [], take, Option, Some, None, inl, inr, refl, sym, ◌∙◌, ap, subst}
 use Rattle.std.specs.List.{list_any}
-use Rattle.sc_base.specs.Among.{Among, Each}
-use Rattle.sc_base.specs.Same.{same_draw}
-use Rattle.sc_base.specs.declared.names.Draw.{Draw}
-use Rattle.sc_cmd.specs.declared.cores.Base.{Base}
-use Rattle.sc_cmd.specs.declared.cores.Lock.TheVariants.{Free}
-use Rattle.sc_cmd.specs.declared.orders.OrderLine.{OrderLine}
-use Rattle.sc_mail.specs.declared.bodies.Mail.{Mail}
-use Rattle.sc_mail.specs.declared.bodies.MailBody.{MailBody}
-use Rattle.sc_mail.specs.declared.bodies.MailBody.TheVariants.{Request, Answer, Prepare, Promise, Accept, Accepted, Nack, Learn, Ask, Install, TxPrepare, TxVote, TxOutcome, TxElsewhere, TxWatch, TxWatched, Told as ToldMail}
-use Rattle.sc_base.specs.Roster.{is_member}
-use Rattle.sc_actor.specs.declared.actors.Seat.{Seat}
-use Rattle.sc_actor.specs.declared.rows.Event.TheVariants.{Deliver, Go}
-use Rattle.sc_mail.specs.declared.roles.Role.TheVariants.{Node}
-use Rattle.sc_machine_table.specs.Group.{Group, group_of}
+use Rattle.sc_base.specs.Definitions.{Among, Each, same_draw, is_member}
+use Rattle.sc_node_table.specs.Values.{Draw, Base, Free, OrderLine, Mail, MailBody, Request, Answer, Prepare, Promise, Accept, Accepted, Nack, Learn, Ask, Install, TxPrepare, TxVote, TxOutcome, TxElsewhere, TxWatch, TxWatched, Told as ToldMail, Seat, Deliver, Go, Node}
+use Rattle.sc_machine_table.specs.Definitions.{Group, group_of}
 use Rattle.sc_scenario.specs.declared.scenarios.Scenario.{Scenario}
-use Rattle.sc_node_table.specs.Node.{NodeState, replica_of}
-use Rattle.sc_node_table.specs.Replica.{ReplicaState, Executed, born_replica}
-use Rattle.sc_node_table.specs.Rows.{mailed}
-use Rattle.sc_node_table.specs.Slots.{slots_ahead}
-use Rattle.sc_paxos_words.proofs.ListLemmas.{Each-among, Each-from}
-use Rattle.sc_sound.specs.GroupsOf.{groups_at}
-use Rattle.sc_sound.specs.Logs.{decided_log}
-use Rattle.sc_sound.specs.Players.{Player, births, as_nodes}
-use Rattle.sc_calm_law.specs.Totals.{Rows}
-use Rattle.sc_calm_rows_law.specs.Groups.{view_at}
-use Rattle.sc_calm_rows_law.specs.Turns.{with_event, AreAsBegun, made_children}
-use Rattle.sc_calm_rows_law.proofs.Turning.{rows_replicas}
-use Rattle.sc_calm_rows_law.proofs.Viewing.{view_was}
-use Rattle.sc_calm_orders_law.specs.Parts.{bond_of}
-use Rattle.sc_calm_orders_law.specs.Scenes.{Unbound}
-use Rattle.sc_calm_answers_law.specs.Led.{ChildrenAreBegun}
-use Rattle.sc_calm_scenes_law.specs.Fresh.{IsNowhere}
-use Rattle.sc_calm_scenes_law.specs.Taken.{IsTaking}
-use Rattle.sc_calm_answers_law.specs.Missed.{IsYoung}
-use Rattle.sc_calm_answers_law.specs.Tasks.{Task, Bears, BearsBy}
-use Rattle.sc_calm_answers_law.specs.Works.{DeliveriesKeepWork}
+use Rattle.sc_node_table.specs.Definitions.{NodeState, replica_of, ReplicaState, Executed, born_replica, mailed, slots_ahead}
+use Rattle.sc_paxos_words.proofs.Lemmas.{Each-among, Each-from}
+use Rattle.sc_sound.specs.Definitions.{groups_at, decided_log, Player, births, as_nodes}
+use Rattle.sc_calm_law.specs.Definitions.{Rows}
+use Rattle.sc_calm_rows_law.specs.Definitions.{view_at, with_event, AreAsBegun, made_children}
+use Rattle.sc_calm_rows_law.proofs.Lemmas.{rows_replicas, view_was, none_some}
+use Rattle.sc_calm_orders_law.specs.Definitions.{bond_of, Unbound}
+use Rattle.sc_calm_answers_law.specs.Definitions.{ChildrenAreBegun, IsYoung, Task, Bears, BearsBy, DeliveriesKeepWork, IsFront, AreBorneSo, IsWorkingRow}
+use Rattle.sc_calm_scenes_law.specs.Definitions.{IsNowhere, IsTaking}
 use Rattle.sc_calm_answers_law.proofs.WorkBirths.{HasBorn}
-use Rattle.sc_calm_answers_law.specs.Journal.{IsFront}
-use Rattle.sc_calm_answers_law.specs.Borne.{AreBorneSo, IsWorkingRow}
 use Rattle.sc_calm_answers_law.proofs.Lineage.{log_stays, kids_known}
 use Rattle.sc_calm_answers_law.proofs.Logs.{IsStateless, mailed_goes}
 use Rattle.sc_calm_answers_law.proofs.YoungStands.{OfJournals, born_by, state_of}
 use Rattle.std.proofs.lemmas.Option.{same_Some}
-use Rattle.sc_calm_rows_law.proofs.Beginning.{none_some}
 
 -- a mail by which children are made brings no state
 pub has_stateless : (from : ℕ) (body : MailBody) (r : ReplicaState) (kid : Base) → Among kid (mailed from body (r, [])).1 → IsStateless body

@@ -2,43 +2,16 @@
 use Rattle.std.proofs.Common.{◌≡◌, ℕ, ◌+◌, ◌&&◌, eqb, Bool, true, false, cond, List, [], ◌∷◌, ◌++◌, length, Option, Some, None, refl, sym, ◌∙◌, ap, subst}
 use Rattle.std.specs.Prelude.{is_some, nat_le}
 use Rattle.std.specs.List.{list_any}
-use Rattle.sc_base.specs.Among.{Among, Each}
-use Rattle.sc_base.specs.Same.{same_ballot}
-use Rattle.sc_base.specs.declared.names.Ballot.{Ballot}
-use Rattle.sc_base.specs.declared.ops.Op.{Op}
-use Rattle.sc_cmd.specs.declared.commands.Command.{Command}
-use Rattle.sc_cmd.specs.declared.commands.Command.TheVariants.{Call}
-use Rattle.sc_cmd.specs.declared.cores.Core.{Core}
-use Rattle.sc_mail.specs.declared.bodies.AnswerBody.{AnswerBody}
-use Rattle.sc_mail.specs.declared.bodies.Mail.{Mail}
-use Rattle.sc_base.specs.Majority.{is_majority}
-use Rattle.sc_base.specs.Roster.{is_member}
-use Rattle.sc_paxos_words.specs.declared.answers.Counted.{Counted}
-use Rattle.sc_paxos_words.specs.declared.answers.Counted.TheVariants.{Chosen, NotYet}
-use Rattle.sc_paxos_words.specs.declared.answers.Must.{Must}
-use Rattle.sc_paxos_words.specs.declared.answers.Must.TheVariants.{Value, Gap, Free as Open}
-use Rattle.sc_paxos_words.specs.declared.flights.Flight.{Flight}
-use Rattle.sc_paxos_words.specs.declared.reports.Report.{Report}
-use Rattle.sc_paxos_words.specs.Leaders.{LeaderState, must, flight_at, without_flight_at}
-use Rattle.sc_paxos_words.specs.Votes.{kept_voters, voters_after, with_voters, vote_at}
-use Rattle.sc_paxos_words.proofs.ListLemmas.{Each-among, find_found, from_filter}
-use Rattle.sc_machine_table.specs.Machine.{applied}
-use Rattle.sc_node_table.specs.Execute.{entered, executed_one, has_room, next_ready, executed}
-use Rattle.sc_node_table.specs.Pump.{Found, is_act, from_calls, from_acts, from_queues, found_by, found_for, offered, pumped_from, pumped}
-use Rattle.sc_node_table.specs.Queues.{call_of, without_call}
-use Rattle.sc_node_table.specs.Replica.{ReplicaState, Place, Executed, childless, next, settled, may_offer, set_at, taken_at, under_way, is_idle, forgotten, last_slot}
-use Rattle.sc_node_table.specs.Rows.{queued, requested, refused_at, request_row}
-use Rattle.sc_node_table.specs.Slots.{at_slot, with_slot, without_slot}
-use Rattle.sc_node_table.specs.Voting.{leads, readied, vote_tallied, voted, accepted_row}
-use Rattle.sc_law_lemmas.proofs.Places.{cleared, executed_place}
-use Rattle.sc_law_lemmas.proofs.Ways.{either_way}
-use Rattle.sc_budget_law.specs.Frames.{Frame, IsFrame}
-use Rattle.sc_budget_law.specs.PlainMail.{Requests, IsPlainCommand, IsPlainCall}
-use Rattle.sc_budget_law.specs.PlainNode.{IsPlainFlight, IsPlainGroup}
-use Rattle.sc_budget_law.proofs.Counts.{at_found, out_each, with_each}
-use Rattle.sc_budget_law.proofs.Entry.{told_after, counted_call}
-use Rattle.sc_budget_law.proofs.Pumping.{call_is}
-use Rattle.sc_budget_law.proofs.Served.{IsServed, call_plain}
+use Rattle.sc_base.specs.Definitions.{Among, Each, same_ballot, is_majority, is_member}
+use Rattle.sc_node_table.specs.Values.{Ballot, Op, Command, Call, Core, AnswerBody, Mail, Counted, Chosen, NotYet, Must, Gap, Flight, Report}
+use Rattle.sc_paxos_words.specs.declared.answers.Must.TheVariants.{Value, Free as Open}
+use Rattle.sc_paxos_words.specs.Definitions.{LeaderState, must, flight_at, without_flight_at, kept_voters, voters_after, with_voters, vote_at}
+use Rattle.sc_paxos_words.proofs.Lemmas.{Each-among, find_found, from_filter}
+use Rattle.sc_machine_table.specs.Definitions.{applied}
+use Rattle.sc_node_table.specs.Definitions.{entered, executed_one, has_room, next_ready, executed, Found, is_act, from_calls, from_acts, from_queues, found_by, found_for, offered, pumped_from, pumped, call_of, without_call, ReplicaState, Place, Executed, childless, next, settled, may_offer, set_at, taken_at, under_way, is_idle, forgotten, last_slot, queued, requested, refused_at, request_row, at_slot, with_slot, without_slot, leads, readied, vote_tallied, voted, accepted_row}
+use Rattle.sc_law_lemmas.proofs.Lemmas.{cleared, executed_place, either_way}
+use Rattle.sc_budget_law.specs.Definitions.{Frame, IsFrame, Requests, IsPlainCommand, IsPlainCall, IsPlainFlight, IsPlainGroup}
+use Rattle.sc_budget_law.proofs.Lemmas.{at_found, out_each, with_each, told_after, counted_call, call_is, IsServed, call_plain}
 
 -- ---- a pump leaves all but what is in flight and the queues
 

@@ -1,47 +1,28 @@
 -- A quiet front of a calm journal rests by its chart: all players rest, and each group that was ever led is led.
 use Rattle.std.proofs.Common.{◌≡◌, ℕ, ◌||◌, ◌⊎◌, Bool, true, false, List, [], ◌∷◌, ◌++◌, map, Option, Some, None, inl, inr, refl, sym, ◌∙◌, ap, subst, append_assoc, append-nil}
 use Rattle.std.specs.Prelude.{is_some}
-use Rattle.sc_base.specs.Among.{Among, Each}
-use Rattle.sc_base.specs.declared.names.Draw.{Draw}
-use Rattle.sc_cmd.specs.declared.cores.Base.{Base}
-use Rattle.sc_cmd.specs.declared.orders.OrderLine.{OrderLine}
-use Rattle.sc_mail.specs.declared.bodies.Mail.{Mail}
-use Rattle.sc_mail.specs.declared.roles.Role.TheVariants.{Node, Client}
-use Rattle.sc_actor.specs.declared.actors.Seat.{Seat}
-use Rattle.sc_actor.specs.declared.rows.Row.{Row}
-use Rattle.sc_actor.specs.Replay.{value}
-use Rattle.sc_actor.specs.System.{are_apart, has_gone}
-use Rattle.sc_base.specs.Limits.{client_actor}
-use Rattle.sc_client_table.specs.Client.{Client as ClientState}
-use Rattle.sc_node_table.specs.Node.{NodeState, replica_of, born_node}
-use Rattle.sc_node_table.specs.Replica.{ReplicaState, name_of}
-use Rattle.sc_node_table.specs.Slots.{numbers_from, slots_ahead}
-use Rattle.sc_orderly_law.specs.Timely.{AreInTime}
-use Rattle.sc_orderly_law.proofs.InTime.{by_time}
-use Rattle.sc_orderly_law.proofs.Seats.{seat_found}
-use Rattle.sc_paxos_law.proofs.Among.{Among-either, from_map}
-use Rattle.sc_paxos_words.proofs.ListLemmas.{Each-among, Each-append, Each-from, Each-passes, Each-weaker}
-use Rattle.sc_scenario.specs.Valid.{ValidScenariosAreBounded}
+use Rattle.sc_base.specs.Definitions.{Among, Each, client_actor}
+use Rattle.sc_node_table.specs.Values.{Draw, Base, OrderLine, Mail, Node, Client, Seat, Row}
+use Rattle.sc_actor.specs.Definitions.{value, are_apart, has_gone}
+use Rattle.sc_client_table.specs.Definitions.{Client as ClientState}
+use Rattle.sc_node_table.specs.Definitions.{NodeState, replica_of, born_node, ReplicaState, name_of, numbers_from, slots_ahead}
+use Rattle.sc_orderly_law.specs.Definitions.{AreInTime}
+use Rattle.sc_orderly_law.proofs.Lemmas.{by_time, seat_found}
+use Rattle.sc_paxos_law.proofs.Lemmas.{Among-either, from_map}
+use Rattle.sc_paxos_words.proofs.Lemmas.{Each-among, Each-append, Each-from, Each-passes, Each-weaker}
+use Rattle.sc_scenario.specs.Definitions.{ValidScenariosAreBounded}
 use Rattle.sc_scenario.specs.declared.scenarios.Asks.{Asks}
 use Rattle.sc_scenario.specs.declared.scenarios.Scenario.{Scenario}
-use Rattle.sc_sound.specs.Players.{Player, player_table, births, as_nodes, node_seat, client_seat, client_seats, route_of}
-use Rattle.sc_calm_law.specs.Charts.{players}
-use Rattle.sc_calm_law.specs.Quiet.{StandsQuiet, IsGoneQuiet, IsAtRest, IsAnswered}
-use Rattle.sc_calm_law.specs.Resting.{IsResting, RestsCalm}
-use Rattle.sc_calm_law.specs.Totals.{Rows, leads, is_leading, is_led}
-use Rattle.sc_calm_rows_law.specs.Groups.{view_at, replica_in, replicas_of as view_replicas}
-use Rattle.sc_calm_scenes_law.specs.Fresh.{IsThere}
-use Rattle.sc_calm_mail_law.specs.Lasting.{ReplicasLast}
-use Rattle.sc_calm_charts_law.specs.Charting.{replicas_of as chart_replicas, all_replicas, led_names, names_at, chart_at}
-use Rattle.sc_calm_charts_law.specs.Following.{AreAllLed, QuietChartsRest}
-use Rattle.sc_calm_charts_law.proofs.Names.{names_grow, more_names}
-use Rattle.sc_budget_law.specs.AskingQuiet.{replicas_after}
-use Rattle.sc_budget_law.proofs.BetweenStage.{stage}
-use Rattle.sc_calm_answers_law.specs.Starts.{LawfulReplicasAreNamedOnce}
-use Rattle.sc_calm_answers_law.specs.Journal.{IsCalmJournal}
-use Rattle.sc_calm_answers_law.specs.KnownFronts.{FrontsAreFound}
-use Rattle.sc_calm_answers_law.specs.Resting.{RestsAt}
-use Rattle.sc_calm_answers_law.specs.Viewing.{ViewsAgree}
+use Rattle.sc_sound.specs.Definitions.{Player, player_table, births, as_nodes, node_seat, client_seat, client_seats, route_of}
+use Rattle.sc_calm_law.specs.Definitions.{players, StandsQuiet, IsGoneQuiet, IsAtRest, IsAnswered, IsResting, RestsCalm, Rows, leads, is_leading, is_led}
+use Rattle.sc_calm_rows_law.specs.Definitions.{view_at, replica_in, replicas_of as view_replicas}
+use Rattle.sc_calm_scenes_law.specs.Definitions.{IsThere}
+use Rattle.sc_calm_mail_law.specs.Definitions.{ReplicasLast}
+use Rattle.sc_calm_charts_law.specs.Definitions.{replicas_of as chart_replicas, all_replicas, led_names, names_at, chart_at, AreAllLed, QuietChartsRest}
+use Rattle.sc_calm_charts_law.proofs.Lemmas.{names_grow, more_names}
+use Rattle.sc_budget_law.specs.Definitions.{replicas_after}
+use Rattle.sc_budget_law.proofs.Lemmas.{stage}
+use Rattle.sc_calm_answers_law.specs.Definitions.{LawfulReplicasAreNamedOnce, IsCalmJournal, FrontsAreFound, RestsAt, ViewsAgree}
 use Rattle.sc_calm_answers_law.proofs.Delivering.{in_all, led_there, gone_leads}
 use Rattle.sc_calm_answers_law.proofs.Elsewhere.{any_found}
 use Rattle.sc_calm_answers_law.proofs.Nodes.{node_replays}

@@ -3,47 +3,24 @@ use Rattle.std.proofs.Common.{◌≡◌, ℕ, ◌+◌, ◌*◌, ◌≤◌, eqb, 
 use Rattle.std.specs.List.{list_any}
 use Rattle.std.proofs.Math.Nat.{mul-le-mul}
 use Rattle.std.proofs.lemmas.Bool.{cases_lt}
-use Rattle.sc_base.specs.Among.{Among, Each}
-use Rattle.sc_cmd.specs.declared.cores.Base.{Base}
-use Rattle.sc_cmd.specs.declared.orders.OrderLine.{OrderLine}
-use Rattle.sc_mail.specs.declared.bodies.Mail.{Mail}
-use Rattle.sc_mail.specs.declared.bodies.MailBody.{MailBody}
-use Rattle.sc_mail.specs.declared.bodies.MailBody.TheVariants.{Request, Answer, Prepare, Promise, Accept, Accepted, Nack, Learn, Ask, Install, TxPrepare, TxVote, TxOutcome, TxElsewhere, TxWatch, TxWatched, Told}
-use Rattle.sc_mail.specs.declared.roles.Role.TheVariants.{Node, Client}
-use Rattle.sc_actor.specs.declared.actors.Seat.{Seat}
-use Rattle.sc_actor.specs.declared.rows.Row.{Row}
-use Rattle.sc_actor.specs.Mail.{mails, copies}
-use Rattle.sc_actor.specs.System.{System, numbers_of}
-use Rattle.sc_actor.specs.Mail.{is_delivery}
-use Rattle.sc_actor.specs.Walk.{is_quiet}
-use Rattle.sc_orderly_law.specs.Orderly.{deliveries, orders, is_born, mail_with}
-use Rattle.sc_orderly_law.specs.Owing.{HasRoom, under_way}
-use Rattle.sc_orderly_law.specs.Timely.{AreInTime, AreSpaced, Nothing, IsMeasure, orders_given}
+use Rattle.sc_base.specs.Definitions.{Among, Each}
+use Rattle.sc_node_table.specs.Values.{Base, OrderLine, Mail, MailBody, Request, Answer, Prepare, Promise, Accept, Accepted, Nack, Learn, Ask, Install, TxPrepare, TxVote, TxOutcome, TxElsewhere, TxWatch, TxWatched, Told, Node, Client, Seat, Row}
+use Rattle.sc_actor.specs.Definitions.{mails, copies, System, numbers_of, is_delivery, is_quiet}
+use Rattle.sc_orderly_law.specs.Definitions.{deliveries, orders, is_born, mail_with, HasRoom, under_way, AreInTime, AreSpaced, Nothing, IsMeasure, orders_given}
 use Rattle.sc_orderly_law.proofs.Given.{few_told, spaced_are_calm}
-use Rattle.sc_orderly_law.proofs.Paying.{count_push}
-use Rattle.sc_orderly_law.proofs.Timing.{rows_in_time, deliveries_and_orders}
-use Rattle.sc_paxos_words.proofs.ListLemmas.{Each-among, Each-from}
-use Rattle.sc_scenario.specs.Valid.{IsValid, ValidScenariosAreBounded}
+use Rattle.sc_orderly_law.proofs.Lemmas.{count_push, rows_in_time, deliveries_and_orders}
+use Rattle.sc_paxos_words.proofs.Lemmas.{Each-among, Each-from}
+use Rattle.sc_scenario.specs.Definitions.{IsValid, ValidScenariosAreBounded}
 use Rattle.sc_scenario.specs.declared.scenarios.Scenario.{Scenario}
-use Rattle.sc_sound.specs.Players.{Player, births, schedule, as_nodes, Lawful}
-use Rattle.sc_whole_law.proofs.Seats.{all_apart}
-use Rattle.sc_whole_law.specs.Valid.{ValidJournalsAreSound}
-use Rattle.sc_calm_law.specs.Charts.{Chart, players, run_owes}
-use Rattle.sc_calm_law.specs.Keeping.{KeptCalmIsMeasured}
-use Rattle.sc_calm_law.specs.Nodes.{IsDelivered}
-use Rattle.sc_calm_law.specs.Resting.{RestingOwesLittle, births_owe}
-use Rattle.sc_calm_law.specs.Totals.{Rows}
-use Rattle.sc_calm_mail_law.specs.Posted.{IsPosted, IsPlayers, IsNodesBody, IsClientsBody, MailIsPosted, DesksAreNotBorn}
-use Rattle.sc_budget_law.specs.AskingQuiet.{IsQuietJournal}
-use Rattle.sc_budget_law.specs.Budget.{budget_of}
-use Rattle.sc_budget_law.specs.Calm.{orders_of, calm_budget_of, IsCalmAtBudget, CalmLinesAreSpaced}
-use Rattle.sc_budget_law.specs.Laws.{PlainLinesEndQuiet, PlainRequestsAreAnswered}
-use Rattle.sc_budget_law.proofs.BetweenStage.{IsStage, stage}
-use Rattle.sc_calm_answers_law.specs.Answered.{charts_of, CalmJournalsAreCharted, CalmJournalsGoOn, CalmLinesSettle, CalmJournalsRest, CalmRequestsAreAnswered}
+use Rattle.sc_sound.specs.Definitions.{Player, births, schedule, as_nodes, Lawful}
+use Rattle.sc_whole_law.proofs.Lemmas.{all_apart}
+use Rattle.sc_whole_law.specs.Definitions.{ValidJournalsAreSound}
+use Rattle.sc_calm_law.specs.Definitions.{Chart, players, run_owes, KeptCalmIsMeasured, IsDelivered, RestingOwesLittle, births_owe, Rows}
+use Rattle.sc_calm_mail_law.specs.Definitions.{IsPosted, IsPlayers, IsNodesBody, IsClientsBody, MailIsPosted, DesksAreNotBorn}
+use Rattle.sc_budget_law.specs.Definitions.{IsQuietJournal, budget_of, orders_of, calm_budget_of, IsCalmAtBudget, CalmLinesAreSpaced, PlainLinesEndQuiet, PlainRequestsAreAnswered}
+use Rattle.sc_budget_law.proofs.Lemmas.{IsStage, stage}
+use Rattle.sc_calm_answers_law.specs.Definitions.{charts_of, CalmJournalsAreCharted, CalmJournalsGoOn, CalmLinesSettle, CalmJournalsRest, CalmRequestsAreAnswered, IsCalmJournal, IsFront, calm_deliveries_of, AreCharted, CalmLinesEndQuiet, CalmJournalsAreShort}
 use Rattle.sc_calm_answers_law.specs.Given.{OrdersMayBeGiven}
-use Rattle.sc_calm_answers_law.specs.Journal.{IsCalmJournal, IsFront}
-use Rattle.sc_calm_answers_law.specs.Lines.{calm_deliveries_of, AreCharted, CalmLinesEndQuiet}
-use Rattle.sc_calm_answers_law.specs.Short.{CalmJournalsAreShort}
 use Rattle.sc_calm_answers_law.proofs.Answered.{answered_calmly}
 use Rattle.sc_calm_answers_law.proofs.Covered.{births_covered}
 use Rattle.sc_calm_answers_law.proofs.Lines.{orders_same, rooms_for, within_deliveries, plain_by, plain_budget}

@@ -2,31 +2,19 @@
 use Rattle.std.proofs.Common.{◌≡◌, ◌⊎◌, ℕ, eqb, Bool, true, false, List, [], ◌∷◌, ◌++◌, Option, Some, None, inl, inr, refl, sym, ◌∙◌, ap, subst, append_assoc, cond}
 use Rattle.std.specs.List.{find, list_any}
 use Rattle.std.proofs.lemmas.Bool.{cases_Bool, eqb-true}
-use Rattle.sc_base.specs.Among.{Each}
-use Rattle.sc_base.specs.Same.{same_draw}
-use Rattle.sc_base.specs.declared.names.Draw.{Draw}
-use Rattle.sc_base.proofs.NameLemmas.{draw_is}
-use Rattle.sc_cmd.specs.declared.cores.Base.{Base}
-use Rattle.sc_mail.specs.declared.bodies.Mail.{Mail}
-use Rattle.sc_mail.specs.declared.bodies.MailBody.{MailBody}
-use Rattle.sc_mail.specs.declared.bodies.MailBody.TheVariants.{Request, Answer, Prepare, Promise, Accept, Accepted, Nack, Learn, Ask, Install, TxPrepare, TxVote, TxOutcome, TxElsewhere, TxWatch, TxWatched, Told as ToldMail}
-use Rattle.sc_actor.specs.declared.actors.Seat.{Seat}
-use Rattle.sc_orderly_law.specs.Orderly.{is_born, rest}
-use Rattle.sc_orderly_law.specs.Timely.{AreInTime}
-use Rattle.sc_paxos_words.proofs.ListLemmas.{Each-among, Each-weaker, find_found}
-use Rattle.sc_node_table.specs.Node.{group_of_mail}
-use Rattle.sc_node_table.specs.Replica.{ReplicaState, listed}
-use Rattle.sc_node_table.specs.Rows.{mailed}
-use Rattle.sc_sound.specs.Players.{Player, births, as_nodes}
-use Rattle.sc_calm_law.specs.Charts.{players}
-use Rattle.sc_calm_law.specs.Totals.{Rows}
-use Rattle.sc_following_law.specs.Following.{Mark, named_mark, mark_of, marks_of}
-use Rattle.sc_calm_mail_law.specs.Lasting.{ReplicasLast}
-use Rattle.sc_calm_rows_law.specs.Groups.{view_at, replica_in, marks_at}
-use Rattle.sc_calm_scenes_law.specs.Fresh.{IsThere, IsNowhere}
-use Rattle.sc_calm_answers_law.specs.Tasks.{Bears, BearsBy}
-use Rattle.sc_calm_answers_law.specs.Works.{DeliveriesKeepWork}
-use Rattle.sc_calm_answers_law.specs.Children.{GroupsAreQuietWhileYoung, ChildrenWereNowhere}
+use Rattle.sc_base.specs.Definitions.{Each, same_draw}
+use Rattle.sc_node_table.specs.Values.{Draw, Base, Mail, MailBody, Request, Answer, Prepare, Promise, Accept, Accepted, Nack, Learn, Ask, Install, TxPrepare, TxVote, TxOutcome, TxElsewhere, TxWatch, TxWatched, Told as ToldMail, Seat}
+use Rattle.sc_base.proofs.Lemmas.{draw_is}
+use Rattle.sc_orderly_law.specs.Definitions.{is_born, rest, AreInTime}
+use Rattle.sc_paxos_words.proofs.Lemmas.{Each-among, Each-weaker, find_found}
+use Rattle.sc_node_table.specs.Definitions.{group_of_mail, ReplicaState, listed, mailed}
+use Rattle.sc_sound.specs.Definitions.{Player, births, as_nodes}
+use Rattle.sc_calm_law.specs.Definitions.{players, Rows}
+use Rattle.sc_following_law.specs.Definitions.{Mark, named_mark, mark_of, marks_of}
+use Rattle.sc_calm_mail_law.specs.Definitions.{ReplicasLast}
+use Rattle.sc_calm_rows_law.specs.Definitions.{view_at, replica_in, marks_at}
+use Rattle.sc_calm_scenes_law.specs.Definitions.{IsThere, IsNowhere}
+use Rattle.sc_calm_answers_law.specs.Definitions.{Bears, BearsBy, DeliveriesKeepWork, GroupsAreQuietWhileYoung, ChildrenWereNowhere}
 use Rattle.sc_calm_answers_law.proofs.Staying.{IsNoneFor}
 
 pub none_some : {X P : Type 0} {x : X} → None ≡ Some x → P

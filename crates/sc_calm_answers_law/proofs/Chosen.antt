@@ -3,31 +3,18 @@ use Rattle.std.proofs.Common.{◌≡◌, ℕ, zero, suc, ◌+◌, ◌-◌, ◌<�
 use Rattle.std.specs.Prelude.{slice_get}
 use Rattle.std.specs.List.{list_any}
 use Rattle.std.proofs.lemmas.Bool.{cond_both, and_parts, cases_lt}
-use Rattle.sc_base.specs.Among.{Among}
-use Rattle.sc_base.specs.Same.{same_draw}
-use Rattle.sc_base.specs.declared.names.Ballot.{Ballot}
-use Rattle.sc_base.specs.declared.names.Draw.{Draw}
-use Rattle.sc_base.proofs.NameLemmas.{draw_is}
-use Rattle.sc_cmd.specs.declared.commands.Command.{Command}
-use Rattle.sc_cmd.specs.declared.cores.Base.{Base}
-use Rattle.sc_cmd.specs.declared.orders.OrderLine.{OrderLine}
-use Rattle.sc_mail.specs.declared.bodies.Mail.{Mail}
-use Rattle.sc_mail.specs.declared.bodies.MailBody.{MailBody}
-use Rattle.sc_mail.specs.declared.bodies.MailBody.TheVariants.{Request, Answer, Prepare, Promise, Accept, Accepted as AcceptedMail, Nack, Learn, Ask, Install, TxPrepare, TxVote, TxOutcome, TxElsewhere, TxWatch, TxWatched, Told as ToldMail}
-use Rattle.sc_actor.specs.declared.rows.Event.{Event}
-use Rattle.sc_actor.specs.declared.rows.Event.TheVariants.{Deliver, Tick, Go, Told, Crash, Drop, Again}
-use Rattle.sc_actor.specs.declared.rows.Row.{Row}
-use Rattle.sc_actor.specs.Mail.{mails, numbered}
-use Rattle.sc_paxos_law.specs.Chosen.{IsLog}
-use Rattle.sc_paxos_law.specs.Steps.{Step, Accepted}
-use Rattle.sc_paxos_law.proofs.Among.{Among-left, Among-either, shared_member}
-use Rattle.sc_paxos_words.proofs.ListLemmas.{Each-among}
-use Rattle.sc_group_law.proofs.RowSteps.{number_among}
-use Rattle.sc_sound.specs.Accepts.{is_accepted, accepts_of, accepts_got, accepts_at, accepts_from, accepts}
-use Rattle.sc_sound.specs.Logs.{rule_of}
-use Rattle.sc_sound.specs.Players.{as_nodes}
-use Rattle.sc_log_law.specs.Descent.{Rows}
-use Rattle.sc_calm_answers_law.specs.Offered.{AsksBelow, AreAskedBelow}
+use Rattle.sc_base.specs.Definitions.{Among, same_draw}
+use Rattle.sc_node_table.specs.Values.{Ballot, Draw, Command, Base, OrderLine, Mail, MailBody, Request, Answer, Prepare, Promise, Accept, Accepted as AcceptedMail, Nack, Learn, Ask, Install, TxPrepare, TxVote, TxOutcome, TxElsewhere, TxWatch, TxWatched, Told as ToldMail, Event, Deliver, Tick, Go, Crash, Drop, Again, Row}
+use Rattle.sc_base.proofs.Lemmas.{draw_is}
+use Rattle.sc_actor.specs.declared.rows.Event.TheVariants.{Told}
+use Rattle.sc_actor.specs.Definitions.{mails, numbered}
+use Rattle.sc_paxos_law.specs.Definitions.{IsLog, Step, Accepted}
+use Rattle.sc_paxos_law.proofs.Lemmas.{Among-left, Among-either, shared_member}
+use Rattle.sc_paxos_words.proofs.Lemmas.{Each-among}
+use Rattle.sc_group_law.proofs.Lemmas.{number_among}
+use Rattle.sc_sound.specs.Definitions.{is_accepted, accepts_of, accepts_got, accepts_at, accepts_from, accepts, rule_of, as_nodes}
+use Rattle.sc_log_law.specs.Definitions.{Rows}
+use Rattle.sc_calm_answers_law.specs.Definitions.{AsksBelow, AreAskedBelow}
 
 -- a mail that asks for what was accepted
 record IsAskedBy (group : Draw) (slot : ℕ) (sent : List Mail) : Type 0 where

@@ -1,39 +1,17 @@
 -- By a vote a leader executes what adds a member alone, and keeps its ballot.
 use Rattle.std.proofs.Common.{◌≡◌, ℕ, ◌+◌, ◌≤◌, true, false, true≢false, List, [], ◌∷◌, Option, Some, None, ◌⊎◌, inl, inr, refl, sym, ◌∙◌, ap, subst, arith}
 use Rattle.std.proofs.lemmas.Bool.{cases_eq, cases_lt}
-use Rattle.sc_base.specs.declared.names.Ballot.{Ballot}
-use Rattle.sc_cmd.specs.declared.commands.Command.{Command}
-use Rattle.sc_cmd.specs.declared.commands.Command.TheVariants.{Noop, Call, Join, Leave, Split, Begin, Prepared, RecordVote, GiveUp, Finish, Watched, RecordWatch}
-use Rattle.sc_cmd.specs.declared.cores.Core.{Core}
-use Rattle.sc_cmd.specs.declared.links.Route.{Route}
-use Rattle.sc_mail.specs.declared.bodies.MailBody.TheVariants.{Accepted}
-use Rattle.sc_machine_table.specs.Machine.{applied}
-use Rattle.sc_base.specs.Roster.{IsRoster, is_member}
-use Rattle.sc_node_table.specs.Execute.{entered, executed_one, next_child, next_ready, ending, executed_ready, executed}
-use Rattle.sc_node_table.specs.Pump.{is_act, pumped}
-use Rattle.sc_node_table.specs.Replica.{ReplicaState, Place, Executed, childless, name_of, next, flying, forgotten}
-use Rattle.sc_node_table.specs.Rows.{mailed}
-use Rattle.sc_node_table.specs.Slots.{at_slot}
-use Rattle.sc_law_lemmas.specs.Steps.{IfThere}
-use Rattle.sc_law_lemmas.proofs.Entries.{entered_next, idle_ready, idle_pump}
-use Rattle.sc_following_law.specs.Following.{Course, Progress, Sets, members_at}
-use Rattle.sc_following_law.specs.Counted.{IsLed, IsNext, IsOn, IsOff, LeadsPast}
-use Rattle.sc_following_law.specs.Executed.{AreNext, LeadsBy}
-use Rattle.sc_following_law.specs.Leading.{IsLeadOf, DecidesNext, ActsAlone}
-use Rattle.sc_following_law.proofs.Counted.{entries_lead}
-use Rattle.sc_following_law.proofs.Executed.{stays_led, ready_of, ready_leads}
-use Rattle.sc_following_law.proofs.InFlight.{slot_out}
-use Rattle.sc_following_law.proofs.Leading.{none_taken}
-use Rattle.sc_following_law.proofs.Offers.{pumps_offer}
-use Rattle.sc_following_law.proofs.Voted.{vote_row}
+use Rattle.sc_node_table.specs.Values.{Ballot, Command, Noop, Call, Join, Leave, Split, Begin, Prepared, RecordVote, GiveUp, Finish, Watched, RecordWatch, Core, Route, Accepted}
+use Rattle.sc_base.specs.Definitions.{IsRoster, is_member}
+use Rattle.sc_node_table.specs.Definitions.{entered, executed_one, next_child, next_ready, ending, executed_ready, executed, is_act, pumped, ReplicaState, Place, Executed, childless, name_of, next, flying, mailed, at_slot}
+use Rattle.sc_law_lemmas.specs.Definitions.{IfThere}
+use Rattle.sc_law_lemmas.proofs.Lemmas.{entered_next, idle_ready, idle_pump}
+use Rattle.sc_following_law.specs.Definitions.{Course, Progress, Sets, members_at, IsLed, IsNext, IsOn, IsOff, LeadsPast, AreNext, LeadsBy, IsLeadOf, DecidesNext, ActsAlone}
+use Rattle.sc_following_law.proofs.Lemmas.{entries_lead, stays_led, ready_of, ready_leads, slot_out, none_taken, pumps_offer, vote_row, entered_core}
 use Rattle.sc_calm_answers_law.proofs.Above.{MovesLast}
 use Rattle.sc_calm_answers_law.proofs.Cores.{called_core}
 
 -- ---- calls and fillers leave a group's core as it is
-
-entered_core : (command : Command) (r : ReplicaState) → (entered command r).group.core ≡ (applied r.group command).0.core
-unfolding entered forgotten
-entered_core command r = refl
 
 -- so what changes it is an act
 pub acts_or_same : (command : Command) (r : ReplicaState) → (is_act command ≡ true) ⊎ ((entered command r).group.core ≡ r.group.core)

@@ -4,18 +4,15 @@ use Rattle.std.specs.List.{sum_by}
 use Rattle.std.proofs.lemmas.Bool.{cond_both}
 use Rattle.std.proofs.lemmas.List.Sums.{sum_by-cons, sum_by-append}
 use Rattle.std.proofs.Math.Nat.{mul_comm, mul_left_comm, mul-add, mul-le-mul_left}
-use Rattle.sc_cmd.specs.declared.cores.Base.{Base}
-use Rattle.sc_actor.specs.declared.actors.Seat.{Seat}
-use Rattle.sc_node_table.specs.Slots.{numbers_from}
+use Rattle.sc_node_table.specs.Values.{Base, Seat}
+use Rattle.sc_node_table.specs.Definitions.{numbers_from}
 use Rattle.sc_scenario.specs.declared.scenarios.Asks.{Asks}
 use Rattle.sc_scenario.specs.declared.scenarios.Scenario.{Scenario}
-use Rattle.sc_sound.specs.Players.{Player, births, node_seat, client_seat, client_seats, route_of, as_nodes}
-use Rattle.sc_calm_law.specs.Charts.{Chart}
-use Rattle.sc_calm_law.specs.Resting.{birth_owes, births_owe}
-use Rattle.sc_budget_law.specs.Budget.{requests_of}
-use Rattle.sc_budget_law.specs.Calm.{orders_of, calm_budget_of}
-use Rattle.sc_budget_law.proofs.Sums.{shares, sum_mapped, none_together}
-use Rattle.sc_calm_answers_law.specs.Covered.{IsFirstChart, BirthsAreCovered}
+use Rattle.sc_sound.specs.Definitions.{Player, births, node_seat, client_seat, client_seats, route_of, as_nodes}
+use Rattle.sc_calm_law.specs.Definitions.{Chart, birth_owes, births_owe}
+use Rattle.sc_budget_law.specs.Definitions.{requests_of, orders_of, calm_budget_of}
+use Rattle.sc_budget_law.proofs.Lemmas.{shares, sum_mapped, none_together}
+use Rattle.sc_calm_answers_law.specs.Definitions.{IsFirstChart, BirthsAreCovered}
 
 -- a client with a request owes no more than its share: for each request, and for each order
 share_of : (share reach requests orders : ℕ) → requests + orders ≡ share → 1 ≤ requests
@@ -83,5 +80,6 @@ module _ (scenario : Scenario) (first : Chart) (is : IsFirstChart scenario first
       let most = is.most in
       omega (arith, split, none, clients, same, most, some)
 
+-- The budget of a calm scenario with an order covers what its clients owe at their births and what one order raises, by a chart on which no way by hints is longer than one more than there are orders, and no client is sent on more often than there are groups and orders.
 pub births_covered : BirthsAreCovered
 births_covered scenario first is some = covered scenario first is some

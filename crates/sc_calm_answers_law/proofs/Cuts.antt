@@ -3,36 +3,21 @@ use Rattle.std.proofs.Common.{◌≡◌, ℕ, ◌+◌, ◌-◌, ◌/◌, ◌%◌
 use Rattle.std.specs.Prelude.{IsTrue, find, ◌&&◌, cond, option_map, is_none}
 use Rattle.std.proofs.lemmas.Option.{none-some, same_Some}
 use Rattle.std.proofs.lemmas.Bool.{cases_Bool, lt-ltb}
-use Rattle.sc_base.proofs.NameLemmas.{draw_is, same_name}
-use Rattle.sc_base.specs.Among.{Among}
-use Rattle.sc_base.specs.Arc.{Arc, IsArc, offset, holds}
-use Rattle.sc_base.specs.Same.{same_draw}
-use Rattle.sc_base.specs.Text.{pos_of}
-use Rattle.sc_base.specs.declared.names.Draw.{Draw}
-use Rattle.sc_cmd.specs.declared.cores.Base.{Base}
-use Rattle.sc_cmd.specs.declared.cores.Lock.TheVariants.{Free}
-use Rattle.sc_cmd.specs.declared.orders.OrderLine.{OrderLine}
-use Rattle.sc_mail.specs.declared.bodies.Mail.{Mail}
-use Rattle.sc_actor.specs.declared.rows.Row.{Row}
-use Rattle.sc_ideal.specs.IdealStore.{holds_key}
-use Rattle.sc_log_entries.specs.Effective.{effective, effective_by, is_open, serves}
-use Rattle.sc_log_entries.specs.Parts.{IsPlaced}
-use Rattle.sc_log_entries.specs.Worlds.{StoreWorld, named_group, is_named}
+use Rattle.sc_base.proofs.Lemmas.{draw_is, same_name}
+use Rattle.sc_base.specs.Definitions.{Among, Arc, IsArc, offset, holds, same_draw, pos_of}
+use Rattle.sc_node_table.specs.Values.{Draw, Base, Free, OrderLine, Mail, Row}
+use Rattle.sc_ideal.specs.Definitions.{holds_key}
+use Rattle.sc_log_entries.specs.Definitions.{effective, effective_by, is_open, serves, IsPlaced, StoreWorld, named_group, is_named}
 use Rattle.sc_log_entries.specs.declared.Cut.{Cut}
-use Rattle.sc_log_law.specs.Findings.{AreItsLogs}
-use Rattle.sc_machine_table.specs.Group.{Group}
-use Rattle.sc_node_table.specs.Replica.{ReplicaState, next}
-use Rattle.sc_paxos_words.proofs.ListLemmas.{find_found}
+use Rattle.sc_log_law.specs.Definitions.{AreItsLogs}
+use Rattle.sc_machine_table.specs.Definitions.{Group}
+use Rattle.sc_node_table.specs.Definitions.{ReplicaState, next}
+use Rattle.sc_paxos_words.proofs.Lemmas.{find_found}
 use Rattle.sc_scenario.specs.declared.scenarios.Scenario.{Scenario}
-use Rattle.sc_sound.specs.GroupsOf.{groups_at, birth_at, is_birth_of, world_at}
-use Rattle.sc_sound.specs.Players.{as_nodes}
-use Rattle.sc_sound.specs.Soundness.{IsOneMap}
-use Rattle.sc_calm_law.specs.Quiet.{HasReplica, IsNewest, StandsQuiet}
-use Rattle.sc_budget_law.specs.AskingQuiet.{replicas_after, AreFramesOf, IsQuietJournal}
-use Rattle.sc_budget_law.specs.AtRest.{frame_at_rest}
-use Rattle.sc_budget_law.specs.Frames.{Frame, AreNamedApart}
-use Rattle.sc_calm_answers_law.specs.Cuts.{state_of, AreKnown, QuietGroupsHaveCuts}
-use Rattle.sc_calm_answers_law.specs.Round.{IsOfCut}
+use Rattle.sc_sound.specs.Definitions.{groups_at, birth_at, is_birth_of, world_at, as_nodes, IsOneMap}
+use Rattle.sc_calm_law.specs.Definitions.{HasReplica, IsNewest, StandsQuiet}
+use Rattle.sc_budget_law.specs.Definitions.{replicas_after, AreFramesOf, IsQuietJournal, frame_at_rest, Frame, AreNamedApart}
+use Rattle.sc_calm_answers_law.specs.Definitions.{state_of, AreKnown, QuietGroupsHaveCuts, IsOfCut}
 
 -- ---- names
 
@@ -176,6 +161,7 @@ module _ (words : ℕ → ℕ → ℕ × ℕ) (scenario : Scenario) (first : Bas
       let c = cut_of f.0 f.1 in
       (c.cut, subst (λ x. IsOfCut world x c.cut) f.2 c.is)
 
+-- In a quiet journal whose groups are one map the groups that stand are those of the cuts, where each group of the journal has a replica, and one that has executed as much as any has executed its whole log.
 pub quiet_cuts : QuietGroupsHaveCuts
 quiet_cuts words scenario first rows frames map logs known quiet are = record {
   apart = apart words scenario first rows frames map logs known quiet are;

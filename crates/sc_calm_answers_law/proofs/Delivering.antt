@@ -2,74 +2,31 @@
 use Rattle.std.proofs.Common.{◌≡◌, ℕ, ◌+◌, ◌≤◌, ◌^◌, zero, suc, eqb, cond, true, false, Bool, List, [], ◌∷◌, ◌++◌, length, map, take, find, Option, Some, None, ◌⊎◌, inl, inr, refl, sym, ◌∙◌, ap, subst, arith, append-nil, append_assoc, length-append}
 use Rattle.std.specs.Prelude.{is_some, ◌||◌}
 use Rattle.std.proofs.lemmas.Bool.{eqb-true}
-use Rattle.sc_base.specs.Among.{Among, Each}
-use Rattle.sc_base.proofs.NameLemmas.{draw_is}
-use Rattle.sc_base.specs.Same.{same_draw}
-use Rattle.sc_base.specs.declared.names.Draw.{Draw}
-use Rattle.sc_cmd.specs.declared.cores.Base.{Base}
-use Rattle.sc_cmd.specs.declared.links.Route.{Route}
-use Rattle.sc_cmd.specs.declared.orders.OrderLine.{OrderLine}
-use Rattle.sc_mail.specs.declared.bodies.Mail.{Mail}
-use Rattle.sc_mail.specs.declared.bodies.MailBody.{MailBody}
-use Rattle.sc_mail.specs.declared.bodies.MailBody.TheVariants.{Request, Answer, Prepare, Promise, Accept, Accepted, Nack, Learn, Ask, Install, TxPrepare, TxVote, TxOutcome, TxElsewhere, TxWatch, TxWatched, Told}
-use Rattle.sc_mail.specs.declared.roles.Role.TheVariants.{Node, Client}
-use Rattle.sc_actor.specs.declared.actors.Seat.{Seat}
-use Rattle.sc_actor.specs.declared.rows.Event.TheVariants.{Deliver}
-use Rattle.sc_actor.specs.Mail.{mails, numbered}
-use Rattle.sc_actor.specs.Replay.{value}
-use Rattle.sc_actor.specs.System.{System, row_of, numbers_of}
-use Rattle.sc_actor.specs.Walk.{is_quiet}
-use Rattle.sc_orderly_law.specs.Orderly.{IsCalmRow}
-use Rattle.sc_orderly_law.specs.Timely.{AreInTime}
-use Rattle.sc_orderly_law.proofs.InTime.{in_time_before, in_time_tidy, last_in_time}
-use Rattle.sc_orderly_law.proofs.Resting.{TakesFirst, takes_first, is_born-from}
-use Rattle.sc_node_table.specs.Node.{NodeState, replica_of, group_of_mail}
-use Rattle.sc_node_table.specs.Replica.{ReplicaState, name_of}
-use Rattle.sc_paxos_words.proofs.ListLemmas.{find_found}
+use Rattle.sc_base.specs.Definitions.{Among, Each, same_draw}
+use Rattle.sc_base.proofs.Lemmas.{draw_is}
+use Rattle.sc_node_table.specs.Values.{Draw, Base, Route, OrderLine, Mail, MailBody, Request, Answer, Prepare, Promise, Accept, Accepted, Nack, Learn, Ask, Install, TxPrepare, TxVote, TxOutcome, TxElsewhere, TxWatch, TxWatched, Told, Node, Client, Seat, Deliver}
+use Rattle.sc_actor.specs.Definitions.{mails, numbered, value, System, row_of, numbers_of, is_quiet}
+use Rattle.sc_orderly_law.specs.Definitions.{IsCalmRow, AreInTime}
+use Rattle.sc_orderly_law.proofs.Lemmas.{in_time_before, in_time_tidy, last_in_time, TakesFirst, takes_first, is_born-from}
+use Rattle.sc_node_table.specs.Definitions.{NodeState, replica_of, group_of_mail, ReplicaState, name_of}
+use Rattle.sc_paxos_words.proofs.Lemmas.{find_found}
 use Rattle.sc_scenario.specs.declared.scenarios.Scenario.{Scenario}
-use Rattle.sc_scenario.specs.Valid.{ValidScenariosAreBounded}
-use Rattle.sc_sound.specs.GroupsOf.{groups_at}
-use Rattle.sc_sound.specs.Players.{Player, player_table, births, as_nodes}
-use Rattle.sc_calm_law.specs.Charts.{Chart, players}
-use Rattle.sc_calm_law.specs.Keeping.{IsCalmFor, FindsCalm, MayAskThere}
-use Rattle.sc_calm_law.specs.Laws.{Points}
-use Rattle.sc_calm_law.specs.Parties.{StandsOnce}
-use Rattle.sc_calm_law.specs.Totals.{Rows, led_elsewhere, leads, is_leading, is_led}
-use Rattle.sc_calm_rows_law.specs.Groups.{replicas_of, replica_in, view_at}
-use Rattle.sc_calm_rows_law.specs.Turns.{with_event}
-use Rattle.sc_calm_mail_law.specs.Few.{SlotsAreLeft}
-use Rattle.sc_calm_logs_law.specs.Logged.{IsGroupOf, SlotsHaveRosters}
-use Rattle.sc_calm_groups_law.specs.Kept.{ScenariosAreKeptBorn, ReplicasAreKept}
-use Rattle.sc_calm_groups_law.specs.Through.{Delivers}
-use Rattle.sc_calm_answers_law.specs.Tellers.{AreFew}
-use Rattle.sc_calm_charts_law.specs.Charting.{replicas_of as chart_replicas, all_replicas, chart_at}
-use Rattle.sc_calm_charts_law.specs.Following.{LedStandOnce}
-use Rattle.sc_calm_charts_law.specs.Fronts.{quiet_upto}
-use Rattle.sc_calm_charts_law.proofs.Names.{led_by}
-use Rattle.sc_calm_orders_law.specs.Scenes.{Turn, is_watch, Errand, Question, Elsewhere, Asking, Here, Scene}
-use Rattle.sc_calm_orders_law.specs.Parts.{errand_by, bond_of}
-use Rattle.sc_calm_orders_law.specs.Stages.{Stage, Asks, SentOn, IsAt}
-use Rattle.sc_calm_orders_law.proofs.Lists.{among-left, among-right}
-use Rattle.sc_calm_scenes_law.specs.Fresh.{IsThere, IsNowhere, IsFresh, FreshGroupsStay}
-use Rattle.sc_calm_scenes_law.specs.Quiet.{WorksFlyLone}
-use Rattle.sc_calm_scenes_law.specs.Scenes.{is_running, left_after, scene_at}
-use Rattle.sc_calm_scenes_law.specs.Asked.{AnswersReachLeaders}
-use Rattle.sc_calm_scenes_law.specs.Turns.{ScenesTell}
-use Rattle.sc_calm_scenes_law.proofs.Left.{takes_one}
-use Rattle.sc_calm_scenes_law.proofs.Newest.{lead_runs}
-use Rattle.sc_calm_scenes_law.proofs.Turning.{calm_is}
+use Rattle.sc_scenario.specs.Definitions.{ValidScenariosAreBounded}
+use Rattle.sc_sound.specs.Definitions.{groups_at, Player, player_table, births, as_nodes}
+use Rattle.sc_calm_law.specs.Definitions.{Chart, players, IsCalmFor, FindsCalm, MayAskThere, Points, StandsOnce, Rows, led_elsewhere, leads, is_leading, is_led}
+use Rattle.sc_calm_rows_law.specs.Definitions.{replicas_of, replica_in, view_at, with_event}
+use Rattle.sc_calm_mail_law.specs.Definitions.{SlotsAreLeft}
+use Rattle.sc_calm_logs_law.specs.Definitions.{IsGroupOf, SlotsHaveRosters}
+use Rattle.sc_calm_groups_law.specs.Definitions.{ScenariosAreKeptBorn, ReplicasAreKept, Delivers}
+use Rattle.sc_calm_answers_law.specs.Definitions.{AreFew, FindsBy, JournalMailFinds, StrayMailFinds, MailIsForItsNode, IsPlainAt, IsNoRequest, NeedsAt, NeedsBesides, MayCountAt, IsUnsettled, WellLedLeadAlone, StagesLeaveOneWork, IsCalmJournal, AreSent, GoesOnBy, IsUnder, StagesAsk, ViewsAgree, IsKnownMail, IsKnownDelivery, OrderRowsFindCalm}
+use Rattle.sc_calm_charts_law.specs.Definitions.{replicas_of as chart_replicas, all_replicas, chart_at, LedStandOnce, quiet_upto}
+use Rattle.sc_calm_charts_law.proofs.Lemmas.{led_by}
+use Rattle.sc_calm_orders_law.specs.Definitions.{Turn, is_watch, Errand, Question, Elsewhere, Asking, Here, Scene, errand_by, bond_of, Stage, Asks, SentOn, IsAt}
+use Rattle.sc_calm_orders_law.proofs.Lemmas.{among-left, among-right}
+use Rattle.sc_calm_scenes_law.specs.Definitions.{IsThere, IsNowhere, IsFresh, FreshGroupsStay, WorksFlyLone, is_running, left_after, scene_at, AnswersReachLeaders, ScenesTell}
+use Rattle.sc_calm_scenes_law.proofs.Lemmas.{takes_one, lead_runs, calm_is}
 use Rattle.sc_calm_entries_law.specs.Paid.{BondsAsk, OrderEntriesCount}
-use Rattle.sc_calm_answers_law.specs.Finding.{FindsBy, JournalMailFinds, StrayMailFinds, MailIsForItsNode}
-use Rattle.sc_calm_answers_law.specs.Meeting.{IsPlainAt, IsNoRequest, NeedsAt, NeedsBesides, MayCountAt}
-use Rattle.sc_calm_answers_law.specs.Beside.{IsUnsettled}
-use Rattle.sc_calm_answers_law.specs.Guided.{WellLedLeadAlone}
-use Rattle.sc_calm_answers_law.specs.Leader.{StagesLeaveOneWork}
-use Rattle.sc_budget_law.specs.AskingQuiet.{replicas_after}
-use Rattle.sc_calm_answers_law.specs.Journal.{IsCalmJournal, AreSent, GoesOnBy}
-use Rattle.sc_calm_answers_law.specs.JournalUnder.{IsUnder}
-use Rattle.sc_calm_answers_law.specs.KeptAsking.{StagesAsk}
-use Rattle.sc_calm_answers_law.specs.Viewing.{ViewsAgree}
-use Rattle.sc_calm_answers_law.specs.KeptFinding.{IsKnownMail, IsKnownDelivery, OrderRowsFindCalm}
+use Rattle.sc_budget_law.specs.Definitions.{replicas_after}
 use Rattle.sc_calm_answers_law.proofs.KeptCounting.{may_count}
 use Rattle.sc_calm_answers_law.proofs.Questions.{IsQuestionOf, question_stage, IsSentOnIn, elsewhere_stage}
 use Rattle.sc_calm_answers_law.proofs.Hinting.{errand_there}

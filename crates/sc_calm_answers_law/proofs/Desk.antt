@@ -1,14 +1,10 @@
 -- Mail that has no mark for any group is nothing to requests.
 use Rattle.std.proofs.Common.{◌≡◌, ℕ, cond, true, false, Bool, List, [], ◌∷◌, ◌++◌, Option, Some, None, refl, sym, ◌∙◌, ap}
-use Rattle.sc_base.specs.Among.{Each}
-use Rattle.sc_base.specs.Same.{same_draw}
-use Rattle.sc_base.specs.declared.names.Draw.{Draw}
-use Rattle.sc_mail.specs.declared.bodies.Mail.{Mail}
-use Rattle.sc_mail.specs.declared.bodies.MailBody.{MailBody}
-use Rattle.sc_mail.specs.declared.bodies.MailBody.TheVariants.{Request, Answer, Prepare, Promise, Accept, Accepted, Nack, Learn, Ask, Install, TxPrepare, TxVote, TxOutcome, TxElsewhere, TxWatch, TxWatched, Told}
-use Rattle.sc_node_table.specs.Replica.{listed}
-use Rattle.sc_following_law.specs.Following.{Mark, marks_of, mark_of}
-use Rattle.sc_budget_law.specs.Between.{Mark as AskMark, Other, mark, mark_of as ask_mark}
+use Rattle.sc_base.specs.Definitions.{Each, same_draw}
+use Rattle.sc_node_table.specs.Values.{Draw, Mail, MailBody, Request, Answer, Prepare, Promise, Accept, Accepted, Nack, Learn, Ask, Install, TxPrepare, TxVote, TxOutcome, TxElsewhere, TxWatch, TxWatched, Told}
+use Rattle.sc_node_table.specs.Definitions.{listed}
+use Rattle.sc_following_law.specs.Definitions.{Mark, marks_of, mark_of}
+use Rattle.sc_budget_law.specs.Definitions.{Mark as AskMark, Other, mark, mark_of as ask_mark}
 
 no_some : {X : Type 0} (x : X) (b : Bool) → b ≡ true → cond b (Some x) None ≡ None → ⊥
 no_some x b t e = (let bad : Some x ≡ None = sym (ap (λ y. cond y (Some x) None) t) ∙ e in cc)

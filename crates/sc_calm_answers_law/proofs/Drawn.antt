@@ -3,38 +3,24 @@ use Rattle.std.proofs.Common.{◌≡◌, ℕ, zero, suc, ◌+◌, ◌≤◌, ◌
 use Rattle.std.specs.Prelude.{is_none}
 use Rattle.std.specs.List.{find, list_any}
 use Rattle.std.proofs.lemmas.Bool.{cases_Bool, cond-true, le-leb, and_from}
-use Rattle.sc_base.proofs.NameLemmas.{draw_is}
-use Rattle.sc_base.specs.declared.names.Draw.{Draw}
-use Rattle.sc_base.specs.Among.{Among, Each}
-use Rattle.sc_base.specs.Drawing.{next_name}
-use Rattle.sc_base.specs.Same.{same_draw}
-use Rattle.sc_cmd.specs.declared.cores.Base.{Base}
-use Rattle.sc_cmd.specs.declared.orders.OrderLine.{OrderLine}
-use Rattle.sc_mail.specs.declared.roles.Role.TheVariants.{Node, Client}
-use Rattle.sc_actor.specs.declared.actors.Seat.{Seat}
+use Rattle.sc_base.proofs.Lemmas.{draw_is}
+use Rattle.sc_node_table.specs.Values.{Draw, Base, OrderLine, Node, Client, Seat}
+use Rattle.sc_base.specs.Definitions.{Among, Each, next_name, same_draw}
 use Rattle.sc_actor.specs.declared.rows.Event.TheVariants.{Told}
-use Rattle.sc_actor.specs.Replay.{value}
-use Rattle.sc_actor.specs.System.{row_of}
-use Rattle.sc_names_law.specs.Fresh.{BeginsUndrawn, AllNames}
-use Rattle.sc_names_law.specs.Names.{PlayerNames, ReplicaNames}
-use Rattle.sc_names_law.specs.Owners.{owned_by, drawn_for, names_drawn, is_node_of, drawn_at}
-use Rattle.sc_names_law.proofs.Fresh.{drawn_are_new}
-use Rattle.sc_paxos_words.proofs.ListLemmas.{Each-among, Each-append, find_found}
-use Rattle.sc_scenario.specs.Groups.{base_at, bases_up_to}
+use Rattle.sc_actor.specs.Definitions.{value, row_of}
+use Rattle.sc_names_law.specs.Definitions.{BeginsUndrawn, AllNames, PlayerNames, ReplicaNames, owned_by, drawn_for, names_drawn, is_node_of, drawn_at}
+use Rattle.sc_names_law.proofs.Lemmas.{drawn_are_new}
+use Rattle.sc_paxos_words.proofs.Lemmas.{Each-among, Each-append, find_found}
+use Rattle.sc_scenario.specs.Definitions.{base_at, bases_up_to, IsBounded}
 use Rattle.sc_scenario.specs.declared.drafts.GroupLine.{GroupLine}
-use Rattle.sc_scenario.specs.Valid.{IsBounded}
 use Rattle.sc_scenario.specs.declared.scenarios.Asks.{Asks}
 use Rattle.sc_scenario.specs.declared.scenarios.Scenario.{Scenario}
-use Rattle.sc_node_table.specs.Node.{NodeState, replica_of, group_of_order}
-use Rattle.sc_node_table.specs.Ordering.{takes_name, untaken}
-use Rattle.sc_node_table.specs.Replica.{ReplicaState, name_of}
-use Rattle.sc_node_table.specs.Slots.{numbers_from}
-use Rattle.sc_sound.specs.Players.{Player, player_table, node_seat, client_seat, client_seats, route_of, births, as_nodes, Lawful}
-use Rattle.sc_calm_law.specs.Totals.{Rows}
-use Rattle.sc_calm_rows_law.specs.Groups.{view_at, replicas_of, replica_in}
-use Rattle.sc_calm_rows_law.specs.Turns.{IsSeat}
-use Rattle.sc_calm_rows_law.proofs.Turning.{found_name}
-use Rattle.sc_calm_scenes_law.specs.Fresh.{IsNowhere}
+use Rattle.sc_node_table.specs.Definitions.{NodeState, replica_of, group_of_order, takes_name, untaken, ReplicaState, name_of, numbers_from}
+use Rattle.sc_sound.specs.Definitions.{Player, player_table, node_seat, client_seat, client_seats, route_of, births, as_nodes, Lawful}
+use Rattle.sc_calm_law.specs.Definitions.{Rows}
+use Rattle.sc_calm_rows_law.specs.Definitions.{view_at, replicas_of, replica_in, IsSeat}
+use Rattle.sc_calm_rows_law.proofs.Lemmas.{found_name}
+use Rattle.sc_calm_scenes_law.specs.Definitions.{IsNowhere}
 
 -- ---- the groups of a scenario have no name that nodes draw
 

@@ -3,31 +3,19 @@ use Rattle.std.proofs.Common.{◌≡◌, ℕ, ◌+◌, ◌≤◌, ◌&&◌, ◌|
 use Rattle.std.specs.Prelude.{is_some}
 use Rattle.std.specs.List.{list_any}
 use Rattle.std.proofs.lemmas.Bool.{cases_Bool, and_parts, not-true}
-use Rattle.sc_base.specs.Among.{Among}
-use Rattle.sc_base.specs.declared.names.Draw.{Draw}
-use Rattle.sc_cmd.specs.declared.cores.Base.{Base}
-use Rattle.sc_cmd.specs.declared.links.Route.{Route}
-use Rattle.sc_mail.specs.declared.roles.Role.TheVariants.{Node, Client}
-use Rattle.sc_actor.specs.declared.actors.Seat.{Seat}
-use Rattle.sc_actor.specs.Replay.{value}
-use Rattle.sc_actor.specs.System.{are_apart}
-use Rattle.sc_orderly_law.proofs.Seats.{seat_found}
-use Rattle.sc_node_table.specs.Node.{replica_of}
-use Rattle.sc_node_table.specs.Replica.{ReplicaState, next}
-use Rattle.sc_sound.specs.Players.{Player, player_table}
-use Rattle.sc_calm_law.specs.Charts.{players}
-use Rattle.sc_calm_law.specs.Nodes.{group_owes}
-use Rattle.sc_calm_law.specs.Owed.{idle_owes}
-use Rattle.sc_calm_law.specs.Totals.{Rows, is_leading, leads, led_elsewhere}
-use Rattle.sc_actor.specs.declared.rows.Event.TheVariants.{Go}
-use Rattle.sc_following_law.specs.Following.{Course, Progress, Sets}
-use Rattle.sc_following_law.specs.Hints.{Tellers}
-use Rattle.sc_following_law.proofs.Marks.{reached-least}
-use Rattle.sc_calm_rows_law.specs.Groups.{view_at, next_in, progress_at, marks_at}
-use Rattle.sc_calm_rows_law.specs.Turns.{IsSeat}
-use Rattle.sc_calm_rows_law.proofs.Viewing.{view_was}
-use Rattle.sc_calm_groups_law.specs.Led.{Ends, IsWellLed}
-use Rattle.sc_calm_groups_law.specs.Through.{HasOneLog}
+use Rattle.sc_base.specs.Definitions.{Among}
+use Rattle.sc_node_table.specs.Values.{Draw, Base, Route, Node, Client, Seat, Go}
+use Rattle.sc_actor.specs.Definitions.{value, are_apart}
+use Rattle.sc_orderly_law.proofs.Lemmas.{seat_found}
+use Rattle.sc_node_table.specs.Definitions.{replica_of, ReplicaState, next}
+use Rattle.sc_sound.specs.Definitions.{Player, player_table}
+use Rattle.sc_calm_law.specs.Definitions.{players, group_owes, idle_owes, Rows, is_leading, leads, led_elsewhere}
+use Rattle.sc_following_law.specs.Definitions.{Course, Progress, Sets, Tellers}
+use Rattle.sc_following_law.proofs.Lemmas.{reached-least}
+use Rattle.sc_calm_rows_law.specs.Definitions.{view_at, next_in, progress_at, marks_at, IsSeat}
+use Rattle.sc_calm_rows_law.proofs.Lemmas.{view_was}
+use Rattle.sc_calm_groups_law.specs.Definitions.{Ends, IsWellLed, HasOneLog}
+pub use Rattle.sc_following_law.proofs.Leading.{none_there as none_of}
 
 -- one of some passes a test
 pub any_found : {X : Type 0} (p : X → Bool) (xs : List X) → list_any p xs ≡ true → (x : X) × Among x xs × (p x ≡ true)
@@ -37,11 +25,6 @@ any_found {X} p (x ∷ xs) e = by (p x) refl (any_found p xs) e
     by : (b : Bool) → p x ≡ b → (list_any p xs ≡ true → (y : X) × Among y xs × (p y ≡ true)) → (b || list_any p xs) ≡ true → (y : X) × Among y (x ∷ xs) × (p y ≡ true)
     by true is more e = (x, inl refl, is)
     by false is more e = (let f = more e in (f.0, inr f.1, f.2))
-
--- what is not there is None
-pub none_of : {X : Type 0} (o : Option X) → is_some o ≡ false → o ≡ None
-none_of None e = refl
-none_of (Some x) e = absurd (true≢false e)
 
 -- a group owes no less where none leads still and it is gone no more than before, or where it stands
 pub owes_same : (r q : ReplicaState) → r.running ≡ false → q.running ≡ false → is_some r.group.core.gone ≡ is_some q.group.core.gone → group_owes r ≤ group_owes q

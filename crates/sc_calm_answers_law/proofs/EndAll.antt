@@ -3,36 +3,19 @@ use Rattle.std.proofs.Common.{◌≡◌, ℕ, ◌+◌, ◌-◌, ◌≤◌, true,
 use Rattle.std.specs.Prelude.{slice_get, unwrap_or}
 use Rattle.std.proofs.lemmas.Bool.{cases_lt, both_ways}
 use Rattle.std.proofs.lemmas.Option.{slice_get_past}
-use Rattle.sc_base.specs.Among.{Among, Each}
-use Rattle.sc_base.specs.Arc.{end_of}
-use Rattle.sc_base.specs.declared.names.Ballot.{Ballot}
-use Rattle.sc_base.specs.declared.names.Draw.{Draw}
-use Rattle.sc_cmd.specs.declared.commands.Command.{Command}
-use Rattle.sc_cmd.specs.declared.cores.Core.{Core}
-use Rattle.sc_machine_table.specs.Group.{Group}
-use Rattle.sc_base.specs.Roster.{is_member}
-use Rattle.sc_paxos_words.specs.Ballots.{below}
-use Rattle.sc_paxos_words.specs.Leaders.{LeaderState, must}
-use Rattle.sc_paxos_words.proofs.BallotLemmas.{not_below_parts}
-use Rattle.sc_node_table.specs.Replica.{ReplicaState, next, members}
+use Rattle.sc_base.specs.Definitions.{Among, Each, end_of, is_member}
+use Rattle.sc_node_table.specs.Values.{Ballot, Draw, Command, Core}
+use Rattle.sc_machine_table.specs.Definitions.{Group}
+use Rattle.sc_paxos_words.specs.Definitions.{below, LeaderState, must}
+use Rattle.sc_paxos_words.proofs.Lemmas.{not_below_parts}
+use Rattle.sc_node_table.specs.Definitions.{ReplicaState, next, members}
 use Rattle.sc_scenario.specs.declared.scenarios.Scenario.{Scenario}
-use Rattle.sc_sound.specs.Players.{system_of, as_nodes}
-use Rattle.sc_orderly_law.specs.Orderly.{rest, is_born}
-use Rattle.sc_calm_law.specs.Laws.{AreNines, MayPump}
-use Rattle.sc_calm_law.specs.Owed.{Ways}
-use Rattle.sc_calm_law.specs.Quiet.{HasReplica, IsNewest, IsAtRest, IsLinked, StandsQuiet, IsGoneQuiet, RisesAt}
-use Rattle.sc_budget_law.specs.Asking.{IsAsking}
-use Rattle.sc_budget_law.specs.AskingLines.{AreSeated}
-use Rattle.sc_budget_law.specs.AskingQuiet.{replicas_after, setting_at, AreFramesOf, IsQuietJournal}
-use Rattle.sc_budget_law.specs.AtRest.{IsOfNodes, IsKept, frame_at_rest}
-use Rattle.sc_budget_law.specs.BetweenJournal.{replica_at}
-use Rattle.sc_budget_law.specs.CalmNode.{IsSetting}
-use Rattle.sc_budget_law.specs.Frames.{Frame, IsFrame}
-use Rattle.sc_budget_law.specs.PlainClient.{IsBegun}
-use Rattle.sc_budget_law.specs.PlainNode.{IsPlainAt}
-use Rattle.sc_budget_law.proofs.BetweenStage.{IsStage}
-use Rattle.sc_budget_law.proofs.BetweenViews.{Journal}
-use Rattle.sc_calm_answers_law.specs.QuietLines.{HaveOneLog, AreReplicasQuiet}
+use Rattle.sc_sound.specs.Definitions.{system_of, as_nodes}
+use Rattle.sc_orderly_law.specs.Definitions.{rest, is_born}
+use Rattle.sc_calm_law.specs.Definitions.{AreNines, MayPump, Ways, HasReplica, IsNewest, IsAtRest, IsLinked, StandsQuiet, IsGoneQuiet, RisesAt}
+use Rattle.sc_budget_law.specs.Definitions.{IsAsking, AreSeated, replicas_after, setting_at, AreFramesOf, IsQuietJournal, IsOfNodes, IsKept, frame_at_rest, replica_at, IsSetting, Frame, IsFrame, IsBegun, IsPlainAt}
+use Rattle.sc_budget_law.proofs.Lemmas.{IsStage, Journal}
+use Rattle.sc_calm_answers_law.specs.Definitions.{HaveOneLog, AreReplicasQuiet}
 use Rattle.sc_calm_answers_law.proofs.EndGroups as end_of_line
 use Rattle.sc_calm_answers_law.proofs.EndStands as ends
 use Rattle.sc_calm_answers_law.proofs.LinesServe.{HaveServed}

@@ -1,40 +1,16 @@
 -- At the end of a line of requests each group that stood is quiet again.
 use Rattle.std.proofs.Common.{◌≡◌, ℕ, zero, suc, ◌+◌, ◌<◌, ◌≤◌, eqb, true, List, [], ◌∷◌, map, count_by, Some, inl, inr, refl, sym, ◌∙◌, ap, subst, arith}
 use Rattle.std.proofs.lemmas.Bool.{cases_eq, both_ways}
-use Rattle.sc_base.specs.Among.{Among, Each}
-use Rattle.sc_cmd.specs.declared.commands.Command.{Command}
-use Rattle.sc_cmd.specs.declared.commands.Command.TheVariants.{Call}
-use Rattle.sc_cmd.specs.declared.cores.Core.{Core}
-use Rattle.sc_mail.specs.declared.roles.Role.TheVariants.{Node}
-use Rattle.sc_base.specs.Roster.{is_member}
-use Rattle.sc_paxos_words.specs.declared.flights.Flight.{Flight}
-use Rattle.sc_node_table.specs.Node.{replica_of}
-use Rattle.sc_node_table.specs.Replica.{ReplicaState, next}
+use Rattle.sc_base.specs.Definitions.{Among, Each, is_member}
+use Rattle.sc_node_table.specs.Values.{Command, Call, Core, Node, Flight}
+use Rattle.sc_node_table.specs.Definitions.{replica_of, ReplicaState, next}
 use Rattle.sc_scenario.specs.declared.scenarios.Scenario.{Scenario}
-use Rattle.sc_sound.specs.Players.{node_seat, births, system_of, as_nodes}
-use Rattle.sc_orderly_law.specs.Orderly.{rest, is_born}
-use Rattle.sc_orderly_law.proofs.Resting.{is_born-from}
-use Rattle.sc_orderly_law.proofs.Seats.{seat_found}
-use Rattle.sc_calm_law.specs.Quiet.{IsAtRest}
-use Rattle.sc_budget_law.specs.Asking.{IsAsking}
-use Rattle.sc_budget_law.specs.AskingLines.{AreSeated}
-use Rattle.sc_budget_law.specs.Between.{Asks as AsksFor, Votes, mark, IsVoting}
-use Rattle.sc_budget_law.specs.BetweenJournal.{replica_at, votes_in, marks_at, IsGroupAt}
-use Rattle.sc_budget_law.specs.CalmNode.{Setting, IsSetting}
-use Rattle.sc_budget_law.specs.Frames.{Frame, IsFrame}
-use Rattle.sc_budget_law.specs.PlainClient.{IsBegun}
-use Rattle.sc_budget_law.specs.PlainMail.{IsPlainCommand}
-use Rattle.sc_budget_law.proofs.Counts.{one_if, one_yes}
-use Rattle.sc_budget_law.proofs.Leading.{in_range, range_yes}
-use Rattle.sc_budget_law.specs.PlainNode.{takers, IsPlainFlight, IsPlainReplica, IsLeading, IsPlainAt}
-use Rattle.sc_budget_law.proofs.BetweenStage.{IsStage}
-use Rattle.sc_budget_law.proofs.BetweenSteps.{node_born, node_number}
-use Rattle.sc_budget_law.proofs.BetweenViews.{Journal, replica_is}
-use Rattle.sc_budget_law.proofs.Leading.{IsHeld}
-use Rattle.sc_budget_law.proofs.Lists.{some_is}
-use Rattle.sc_budget_law.proofs.Pumping.{call_is}
-use Rattle.sc_budget_law.proofs.QuietLeader.{leader_idle}
-use Rattle.sc_budget_law.proofs.ReplicaRows.{leading_at}
+use Rattle.sc_sound.specs.Definitions.{node_seat, births, system_of, as_nodes}
+use Rattle.sc_orderly_law.specs.Definitions.{rest, is_born}
+use Rattle.sc_orderly_law.proofs.Lemmas.{is_born-from, seat_found}
+use Rattle.sc_calm_law.specs.Definitions.{IsAtRest}
+use Rattle.sc_budget_law.specs.Definitions.{IsAsking, AreSeated, Asks as AsksFor, Votes, mark, IsVoting, replica_at, votes_in, marks_at, IsGroupAt, Setting, IsSetting, Frame, IsFrame, IsBegun, IsPlainCommand, takers, IsPlainFlight, IsPlainReplica, IsLeading, IsPlainAt}
+use Rattle.sc_budget_law.proofs.Lemmas.{one_if, one_yes, in_range, range_yes, IsStage, node_born, node_number, Journal, replica_is, IsHeld, some_is, call_is, leader_idle, leading_at}
 use Rattle.sc_calm_answers_law.proofs.LinesServe.{HasServed, HaveServed}
 
 module _ (words : ℕ → ℕ → ℕ × ℕ) (scenario : Scenario) (begins : IsStage scenario) (set : Setting) (is : IsSetting set) (seated : AreSeated scenario set) (rows : Journal) (j : IsAsking words scenario set begins.first rows) (served : HaveServed scenario set rows)

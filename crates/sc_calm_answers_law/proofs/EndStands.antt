@@ -2,41 +2,21 @@
 use Rattle.std.proofs.Common.{◌≡◌, ℕ, zero, suc, ◌+◌, ◌-◌, ◌<◌, true, false, List, [], ◌∷◌, map, Option, Some, None, inl, inr, refl, sym, ◌∙◌, ap, subst, arith}
 use Rattle.std.specs.Prelude.{slice_get, unwrap_or}
 use Rattle.std.proofs.lemmas.Bool.{cases_eq, both_ways, and_from}
-use Rattle.sc_base.specs.Among.{Among}
-use Rattle.sc_base.specs.declared.names.Ballot.{Ballot}
-use Rattle.sc_base.specs.declared.names.Draw.{Draw}
-use Rattle.sc_cmd.specs.declared.commands.Command.{Command}
-use Rattle.sc_cmd.specs.declared.cores.Core.{Core}
-use Rattle.sc_base.specs.Roster.{is_member}
-use Rattle.sc_paxos_words.specs.declared.reports.Report.{Report}
-use Rattle.sc_paxos_words.specs.Ballots.{below}
-use Rattle.sc_paxos_words.specs.Leaders.{LeaderState}
-use Rattle.sc_paxos_words.proofs.BallotLemmas.{at_least_itself}
-use Rattle.sc_node_table.specs.Replica.{ReplicaState, name_of, next, members, first_set, may_offer}
-use Rattle.sc_node_table.specs.Slots.{numbers_from, slots_ahead}
-use Rattle.sc_paxos_law.proofs.Among.{place_among}
+use Rattle.sc_base.specs.Definitions.{Among, is_member}
+use Rattle.sc_node_table.specs.Values.{Ballot, Draw, Command, Core, Report}
+use Rattle.sc_paxos_words.specs.Definitions.{below, LeaderState}
+use Rattle.sc_paxos_words.proofs.Lemmas.{at_least_itself, Each-from}
+use Rattle.sc_node_table.specs.Definitions.{ReplicaState, name_of, next, members, first_set, may_offer, numbers_from, slots_ahead}
+use Rattle.sc_paxos_law.proofs.Lemmas.{place_among}
 use Rattle.sc_scenario.specs.declared.scenarios.Scenario.{Scenario}
-use Rattle.sc_sound.specs.Players.{system_of, as_nodes}
-use Rattle.sc_orderly_law.specs.Orderly.{rest, is_born}
-use Rattle.sc_calm_law.specs.Owed.{Ways}
-use Rattle.sc_calm_law.specs.Quiet.{IsNewest, LeadsAtRest, IsBelow, MayVote, IsUpToDate, IsLinked, StandsQuiet}
-use Rattle.sc_budget_law.specs.Asking.{IsAsking}
-use Rattle.sc_budget_law.specs.AskingLines.{AreSeated}
-use Rattle.sc_budget_law.specs.AskingQuiet.{replicas_after, setting_at, AreFramesOf, IsQuietJournal}
-use Rattle.sc_budget_law.specs.AtRest.{IsKept, frame_at_rest}
-use Rattle.sc_budget_law.specs.Between.{told}
-use Rattle.sc_budget_law.specs.BetweenJournal.{replica_at, next_in, IsGroupAt}
-use Rattle.sc_budget_law.specs.CalmNode.{Setting, IsSetting}
-use Rattle.sc_budget_law.specs.Frames.{Frame, IsFrame}
-use Rattle.sc_budget_law.specs.PlainClient.{IsBegun}
-use Rattle.sc_budget_law.specs.PlainNode.{AreTaken, IsPlainReplica, IsLeading, IsPlainAt}
-use Rattle.sc_budget_law.proofs.BetweenStage.{IsStage}
-use Rattle.sc_budget_law.proofs.BetweenViews.{Journal}
-use Rattle.sc_budget_law.proofs.Lists.{some_is}
-use Rattle.sc_calm_answers_law.specs.QuietLines.{HaveOneLog}
+use Rattle.sc_sound.specs.Definitions.{system_of, as_nodes}
+use Rattle.sc_orderly_law.specs.Definitions.{rest, is_born}
+use Rattle.sc_calm_law.specs.Definitions.{Ways, IsNewest, LeadsAtRest, IsBelow, MayVote, IsUpToDate, IsLinked, StandsQuiet}
+use Rattle.sc_budget_law.specs.Definitions.{IsAsking, AreSeated, replicas_after, setting_at, AreFramesOf, IsQuietJournal, IsKept, frame_at_rest, told, replica_at, next_in, IsGroupAt, Setting, IsSetting, Frame, IsFrame, IsBegun, AreTaken, IsPlainReplica, IsLeading, IsPlainAt}
+use Rattle.sc_budget_law.proofs.Lemmas.{IsStage, Journal, some_is}
+use Rattle.sc_calm_answers_law.specs.Definitions.{HaveOneLog}
 use Rattle.sc_calm_answers_law.proofs.EndGroups as end_of_line
 use Rattle.sc_calm_answers_law.proofs.LinesServe.{HasServed, HaveServed}
-use Rattle.sc_paxos_words.proofs.ListLemmas.{Each-from}
 
 from_map : {X Y : Type 0} (f : X → Y) (xs : List X) (y : Y) → Among y (map f xs) → (x : X) × (f x ≡ y)
 from_map f [] y a = absurd a

@@ -1,52 +1,27 @@
 -- A group is gone by its log as its replicas say.
 use Rattle.std.proofs.Common.{◌≡◌, ℕ, ◌+◌, ◌-◌, zero, suc, ◌⊎◌, inl, inr, ◌<◌, ◌≤◌, true, false, true≢false, List, [], ◌++◌, length, take, is_some, Some, None, refl, sym, ◌∙◌, ap, subst, arith}
 use Rattle.std.proofs.lemmas.Bool.{cases_lt}
-use Rattle.sc_base.specs.Among.{Among}
-use Rattle.sc_base.specs.declared.names.Ballot.{Ballot}
-use Rattle.sc_base.proofs.NameLemmas.{same_name}
-use Rattle.sc_cmd.specs.declared.commands.Command.{Command}
-use Rattle.sc_cmd.specs.declared.cores.Base.{Base}
-use Rattle.sc_cmd.specs.declared.links.Route.{Route}
-use Rattle.sc_mail.specs.declared.bodies.Mail.{Mail}
-use Rattle.sc_mail.specs.declared.bodies.MailBody.{MailBody}
-use Rattle.sc_mail.specs.declared.bodies.MailBody.TheVariants.{Accepted as AcceptedMail, Learn}
-use Rattle.sc_machine_table.specs.Group.{Group, group_of}
-use Rattle.sc_machine_table.specs.Logs.{state_after}
-use Rattle.sc_base.specs.Roster.{IsRoster, is_member}
-use Rattle.sc_actor.specs.declared.actors.Seat.{Seat}
-use Rattle.sc_actor.specs.Mail.{mails, numbered}
-use Rattle.sc_paxos_law.specs.Chosen.{IsLog}
-use Rattle.sc_paxos_law.specs.Steps.{Accepted}
-use Rattle.sc_paxos_law.specs.Lawful.{IsLawfulHistory}
-use Rattle.sc_scenario.specs.Valid.{ValidScenariosAreBounded}
+use Rattle.sc_base.specs.Definitions.{Among, IsRoster, is_member}
+use Rattle.sc_node_table.specs.Values.{Ballot, Command, Base, Route, Mail, MailBody, Accepted as AcceptedMail, Learn, Seat}
+use Rattle.sc_base.proofs.Lemmas.{same_name}
+use Rattle.sc_machine_table.specs.Definitions.{Group, group_of, state_after}
+use Rattle.sc_actor.specs.Definitions.{mails, numbered}
+use Rattle.sc_paxos_law.specs.Definitions.{IsLog, Accepted, IsLawfulHistory}
+use Rattle.sc_scenario.specs.Definitions.{ValidScenariosAreBounded}
 use Rattle.sc_scenario.specs.declared.scenarios.Scenario.{Scenario}
-use Rattle.sc_node_table.specs.Execute.{entered}
-use Rattle.sc_node_table.specs.Node.{NodeState}
-use Rattle.sc_node_table.specs.Replica.{ReplicaState, next}
-use Rattle.sc_node_table.specs.Rows.{mailed}
-use Rattle.sc_node_table.specs.Voting.{accepted_row}
-use Rattle.sc_sound.specs.Logs.{decided_log}
-use Rattle.sc_sound.specs.Players.{Ahead, Player, route_of}
-use Rattle.sc_log_law.specs.Descent.{Rows}
-use Rattle.sc_ring_law.specs.Allowed.{Sources}
-use Rattle.sc_names_law.specs.Laws.{OtherNamesAreFree, TakenOrdersAreAllowed, TakenWishesAreAllowed, WishesAreAtPositions}
-use Rattle.sc_names_law.specs.Owners.{owner_in}
-use Rattle.sc_group_law.proofs.Families.{h_of}
-use Rattle.sc_group_law.proofs.Growth.{IsLearnt}
-use Rattle.sc_group_law.proofs.Invariant.{Steps, rule, first, IsTrue}
-use Rattle.sc_group_law.proofs.RowSteps.{number_among}
-use Rattle.sc_whole_law.specs.Begins.{BeginsWell, section_op}
-use Rattle.sc_whole_law.specs.Orders.{OrdersAreAllowed}
-use Rattle.sc_whole_law.specs.Parameters.{MayQueue, IsHeardAt}
-use Rattle.sc_whole_law.specs.StartLaws.{ValidScenariosBeginWell}
-use Rattle.sc_whole_law.proofs.Scheduled.{orders_allowed}
-use Rattle.sc_following_law.specs.Following.{members_at}
-use Rattle.sc_calm_logs_law.specs.Logged.{logged_sets, IsGroupOf, HasReplica}
-use Rattle.sc_calm_logs_law.proofs.Along.{IsAlong, entered_along}
-use Rattle.sc_calm_logs_law.proofs.Journals.{part, roster, fronts, sent_in, along, opens, flying}
-use Rattle.sc_calm_groups_law.specs.Logged.{RestsBy}
-use Rattle.sc_calm_answers_law.specs.Led.{over_at, GroupsBeginStanding, EndsAreLogged, ChildrenAreBegun, MembersMoveOneWay}
-use Rattle.sc_calm_answers_law.specs.States.{state_at, ReplicasRunLogs}
+use Rattle.sc_node_table.specs.Definitions.{entered, NodeState, ReplicaState, next, mailed, accepted_row}
+use Rattle.sc_sound.specs.Definitions.{decided_log, Ahead, Player, route_of}
+use Rattle.sc_log_law.specs.Definitions.{Rows}
+use Rattle.sc_ring_law.specs.Definitions.{Sources}
+use Rattle.sc_names_law.specs.Definitions.{OtherNamesAreFree, TakenOrdersAreAllowed, TakenWishesAreAllowed, WishesAreAtPositions, owner_in}
+use Rattle.sc_group_law.proofs.Lemmas.{h_of, IsLearnt, Steps, rule, first, IsTrue, number_among}
+use Rattle.sc_whole_law.specs.Definitions.{BeginsWell, section_op, OrdersAreAllowed, MayQueue, IsHeardAt, ValidScenariosBeginWell}
+use Rattle.sc_whole_law.proofs.Lemmas.{orders_allowed}
+use Rattle.sc_following_law.specs.Definitions.{members_at}
+use Rattle.sc_calm_logs_law.specs.Definitions.{logged_sets, IsGroupOf, HasReplica}
+use Rattle.sc_calm_logs_law.proofs.Lemmas.{IsAlong, entered_along, part, roster, fronts, sent_in, along, opens, flying}
+use Rattle.sc_calm_groups_law.specs.Definitions.{RestsBy}
+use Rattle.sc_calm_answers_law.specs.Definitions.{over_at, GroupsBeginStanding, EndsAreLogged, ChildrenAreBegun, MembersMoveOneWay, state_at, ReplicasRunLogs}
 use Rattle.sc_calm_answers_law.proofs.LedBegins.{begun_first, begun_stands}
 use Rattle.sc_calm_answers_law.proofs.Born.{children_as_begun}
 use Rattle.sc_calm_answers_law.proofs.Gone.{later_gone}

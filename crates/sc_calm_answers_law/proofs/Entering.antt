@@ -3,59 +3,27 @@ use Rattle.std.proofs.Common.{◌≡◌, ◌⊎◌, ℕ, zero, suc, ◌≤◌, e
 use Rattle.std.specs.Prelude.{not, ◌||◌}
 use Rattle.std.proofs.lemmas.Bool.{cond_both, or_left, or_right, eq-eqb}
 use Rattle.std.proofs.lemmas.Option.{none-some}
-use Rattle.sc_base.specs.Among.{Among, Each}
-use Rattle.sc_base.specs.Same.{same_draw}
-use Rattle.sc_base.specs.declared.names.Draw.{Draw}
-use Rattle.sc_cmd.specs.declared.bodies.Body.{Body}
+use Rattle.sc_base.specs.Definitions.{Among, Each, same_draw, IsRoster, is_member, with_member, united, with_any}
+use Rattle.sc_node_table.specs.Values.{Draw, Body, Command, Noop, Call, Join, Leave, Split, Begin, Prepared, RecordVote, GiveUp, Finish, Watched, RecordWatch, Base, Core, Lock, Free, Coordinating, Promised, Watching, Effect, Heard, Past, Flight}
 use Rattle.sc_cmd.specs.declared.bodies.Body.TheVariants as At
-use Rattle.sc_cmd.specs.declared.commands.Command.{Command}
-use Rattle.sc_cmd.specs.declared.commands.Command.TheVariants.{Noop, Call, Join, Leave, Split, Begin, Prepared, RecordVote, GiveUp, Finish, Watched, RecordWatch}
-use Rattle.sc_cmd.specs.declared.cores.Base.{Base}
-use Rattle.sc_cmd.specs.declared.cores.Core.{Core}
-use Rattle.sc_cmd.specs.declared.cores.Lock.{Lock}
-use Rattle.sc_cmd.specs.declared.cores.Lock.TheVariants.{Free, Coordinating, Promised, Watching}
-use Rattle.sc_cmd.specs.declared.effects.Effect.{Effect}
-use Rattle.sc_cmd.specs.declared.votes.Heard.{Heard}
-use Rattle.sc_cmd.specs.declared.votes.Past.{Past}
 use Rattle.sc_cmd.specs.declared.votes.Past.TheVariants as Cast
-use Rattle.sc_base.specs.Roster.{IsRoster, is_member, with_member}
-use Rattle.sc_base.specs.Union.{united, with_any}
-use Rattle.sc_machine_table.specs.Group.{Group, group_of}
-use Rattle.sc_machine_table.specs.Machine.{applied}
-use Rattle.sc_machine_table.specs.Plans.{can_split, may_merge}
-use Rattle.sc_machine_table.specs.Splits.{staying}
-use Rattle.sc_machine_table.specs.Transactions.{released, watch_recorded, asks_watcher, committed}
-use Rattle.sc_paxos_words.specs.declared.flights.Flight.{Flight}
-use Rattle.sc_paxos_words.proofs.ListLemmas.{Each-among}
+use Rattle.sc_machine_table.specs.Definitions.{Group, group_of, applied, can_split, may_merge, staying, released, watch_recorded, asks_watcher, committed}
+use Rattle.sc_paxos_words.proofs.Lemmas.{Each-among}
 use Rattle.sc_scenario.specs.declared.scenarios.Scenario.{Scenario}
-use Rattle.sc_node_table.specs.Replica.{ReplicaState, forgotten, members, next}
-use Rattle.sc_node_table.specs.Execute.{entered}
-use Rattle.sc_node_table.specs.Questions.{asked_link}
-use Rattle.sc_node_table.specs.Spoken.{before_of}
-use Rattle.sc_sound.specs.Logs.{decided_log}
-use Rattle.sc_sound.specs.Players.{births, as_nodes}
-use Rattle.sc_whole_law.specs.Laws.{MembersStayRosters}
-use Rattle.sc_calm_law.specs.Laws.{newcomers}
-use Rattle.sc_calm_law.specs.Totals.{Rows}
-use Rattle.sc_calm_orders_law.specs.Parts.{bond_in, bond_of, is_cast_yes, work_by}
-use Rattle.sc_calm_orders_law.specs.Scenes.{Work, Opens, Records, GivesUp, Here, Turn, First, Lone, Next, is_watch, Asking}
-use Rattle.sc_calm_orders_law.specs.Stages.{Stage, IsAt, IsVote}
-use Rattle.sc_calm_rows_law.specs.Groups.{view_at}
-use Rattle.sc_calm_logs_law.specs.Logged.{SlotsHaveRosters, ViewsAreReplicas}
-use Rattle.sc_calm_answers_law.specs.States.{ReplicasRunLogs}
-use Rattle.sc_following_law.proofs.Polled.{with_kept}
-use Rattle.sc_calm_scenes_law.specs.Quiet.{IsWork, QuietScenesAreOver}
-use Rattle.sc_calm_scenes_law.specs.Scenes.{scene_at}
-use Rattle.sc_calm_scenes_law.proofs.Viewing.{tell}
+use Rattle.sc_node_table.specs.Definitions.{ReplicaState, forgotten, members, next, entered, asked_link, before_of}
+use Rattle.sc_sound.specs.Definitions.{decided_log, births, as_nodes}
+use Rattle.sc_whole_law.specs.Definitions.{MembersStayRosters}
+use Rattle.sc_calm_law.specs.Definitions.{newcomers, Rows}
+use Rattle.sc_calm_orders_law.specs.Definitions.{bond_in, bond_of, is_cast_yes, work_by, Work, Opens, Records, GivesUp, Here, Turn, First, Lone, Next, is_watch, Asking, Stage, IsAt, IsVote}
+use Rattle.sc_calm_rows_law.specs.Definitions.{view_at}
+use Rattle.sc_calm_logs_law.specs.Definitions.{SlotsHaveRosters, ViewsAreReplicas}
+use Rattle.sc_calm_answers_law.specs.Definitions.{ReplicasRunLogs, LeadsSince, IsRecord, RecordsAreTrue, ReplicasTell, IsTrueEntry, FlightsAreEntries}
+use Rattle.sc_following_law.proofs.Lemmas.{with_kept}
+use Rattle.sc_calm_scenes_law.specs.Definitions.{IsWork, QuietScenesAreOver, scene_at, IsThere}
+use Rattle.sc_calm_scenes_law.proofs.Lemmas.{tell}
 use Rattle.sc_calm_entries_law.specs.Paid.{IsEntry}
-use Rattle.sc_calm_answers_law.specs.TrueEntries.{LeadsSince}
-use Rattle.sc_calm_answers_law.specs.Recorded.{IsRecord, RecordsAreTrue}
-use Rattle.sc_calm_answers_law.specs.Told.{ReplicasTell}
-use Rattle.sc_calm_answers_law.specs.Votes.{IsTrueEntry}
-use Rattle.sc_calm_scenes_law.specs.Fresh.{IsThere}
 use Rattle.sc_calm_answers_law.proofs.Since.{base_of}
 use Rattle.sc_calm_answers_law.proofs.Leads.{IsWorkAt, OfOrder, OfQuestion, OfVote, OfOutcome, at_stage, stands_in, was_there}
-use Rattle.sc_calm_answers_law.specs.OrderedEntries.{FlightsAreEntries}
 
 -- ---- members
 

@@ -1,22 +1,16 @@
 -- A quiet front of a calm journal: a group's replicas are even, and one leads where it stands.
 use Rattle.std.proofs.Common.{◌≡◌, ℕ, ◌+◌, ◌≤◌, Bool, true, false, cond, List, [], Option, Some, None, inl, inr, refl, sym, ◌∙◌, ap, arith}
 use Rattle.std.proofs.lemmas.Bool.{cases_Bool}
-use Rattle.sc_base.specs.declared.names.Draw.{Draw}
-use Rattle.sc_cmd.specs.declared.cores.Base.{Base}
-use Rattle.sc_base.specs.Roster.{is_member, least_of}
-use Rattle.sc_actor.specs.declared.actors.Seat.{Seat}
-use Rattle.sc_node_table.specs.Replica.{ReplicaState}
-use Rattle.sc_sound.specs.Players.{Player}
-use Rattle.sc_calm_law.specs.Charts.{players}
-use Rattle.sc_calm_law.specs.Quiet.{HasReplica}
-use Rattle.sc_calm_law.specs.Totals.{Rows}
-use Rattle.sc_following_law.specs.Following.{Course, Progress, Sets, members_at, IsEven, IsEvenLed}
-use Rattle.sc_following_law.specs.Hints.{Tellers}
-use Rattle.sc_following_law.proofs.InQuiet.{quiet-even}
-use Rattle.sc_following_law.proofs.Leads.{least_in}
-use Rattle.sc_calm_rows_law.specs.Groups.{view_at, marks_at, next_in, progress_at, IsLedBy}
-use Rattle.sc_calm_groups_law.specs.Led.{Ends}
-use Rattle.sc_calm_answers_law.specs.SentJournals.{IsSentThrough}
+use Rattle.sc_node_table.specs.Values.{Draw, Base, Seat}
+use Rattle.sc_base.specs.Definitions.{is_member, least_of}
+use Rattle.sc_node_table.specs.Definitions.{ReplicaState}
+use Rattle.sc_sound.specs.Definitions.{Player}
+use Rattle.sc_calm_law.specs.Definitions.{players, HasReplica, Rows}
+use Rattle.sc_following_law.specs.Definitions.{Course, Progress, Sets, members_at, IsEven, IsEvenLed, Tellers}
+use Rattle.sc_following_law.proofs.Lemmas.{quiet-even, least_in}
+use Rattle.sc_calm_rows_law.specs.Definitions.{view_at, marks_at, next_in, progress_at, IsLedBy}
+use Rattle.sc_calm_groups_law.specs.Definitions.{Ends}
+use Rattle.sc_calm_answers_law.specs.Definitions.{IsSentThrough}
 
 module _ (words : ℕ → ℕ → ℕ × ℕ) (at : Sets) (over : Ends) (by : Tellers) (births : List (Seat Player)) (front : Rows) (base : Base) (t : IsSentThrough at over by words births front base) where
   abbrev name : Draw

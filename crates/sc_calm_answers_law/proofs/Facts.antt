@@ -1,38 +1,26 @@
 -- What is known of the replicas of a quiet group: where they are, and which state they have.
 use Rattle.std.proofs.Common.{◌≡◌, ℕ, ◌+◌, ◌<◌, ◌≤◌, Bool, true, false, cond, List, [], ◌∷◌, length, Option, Some, None, inl, inr, refl, sym, ◌∙◌, ap, subst, arith, append-nil}
 use Rattle.std.proofs.lemmas.Bool.{cases_Bool, cases_lt}
-use Rattle.sc_base.specs.Among.{Among}
-use Rattle.sc_cmd.specs.declared.cores.Base.{Base}
-use Rattle.sc_base.specs.Roster.{is_member}
-use Rattle.sc_actor.specs.declared.actors.Seat.{Seat}
-use Rattle.sc_orderly_law.specs.Orderly.{is_born}
-use Rattle.sc_orderly_law.proofs.InTime.{in_time_tidy}
-use Rattle.sc_orderly_law.proofs.Resting.{quiet-empty}
+use Rattle.sc_base.specs.Definitions.{Among, is_member}
+use Rattle.sc_node_table.specs.Values.{Base, Seat}
+use Rattle.sc_orderly_law.specs.Definitions.{is_born}
+use Rattle.sc_orderly_law.proofs.Lemmas.{in_time_tidy, quiet-empty}
 use Rattle.sc_scenario.specs.declared.scenarios.Scenario.{Scenario}
-use Rattle.sc_node_table.specs.Replica.{ReplicaState, next, last_slot}
-use Rattle.sc_sound.specs.Players.{Player, births, as_nodes}
-use Rattle.sc_calm_law.specs.Charts.{players}
-use Rattle.sc_calm_law.specs.Quiet.{HasReplica}
-use Rattle.sc_log_law.specs.Descent.{Rows}
-use Rattle.sc_following_law.specs.Following.{marks_of, Course, Progress, Sets, members_at}
-use Rattle.sc_following_law.specs.Hints.{Tellers}
-use Rattle.sc_following_law.specs.Offers.{AreAt}
-use Rattle.sc_following_law.proofs.Taught.{quiet_members_know}
-use Rattle.sc_calm_rows_law.specs.Evens.{IsEvenAt}
-use Rattle.sc_calm_rows_law.specs.Groups.{next_in, progress_at, marks_at}
-use Rattle.sc_calm_rows_law.proofs.Evens.{quiet_rests}
-use Rattle.sc_calm_logs_law.specs.Logged.{logged_sets, HasReplica as HasLogged}
-use Rattle.sc_calm_logs_law.proofs.Views.{views_are_replicas}
-use Rattle.sc_calm_mail_law.specs.Idle.{IsPlainlyKept}
-use Rattle.sc_calm_mail_law.proofs.FewJournals.{journals_idle, slots_left}
-use Rattle.sc_calm_groups_law.specs.Led.{Ends}
-use Rattle.sc_calm_groups_law.specs.Logged.{IsOfLog}
-use Rattle.sc_calm_groups_law.specs.Slots.{IsSlotKept}
-use Rattle.sc_calm_groups_law.specs.Tops.{IsTopKept}
-use Rattle.sc_calm_groups_law.proofs.Keeping.{replicas_kept, scenarios_kept_born}
-use Rattle.sc_calm_answers_law.specs.Led.{over_at}
-use Rattle.sc_calm_answers_law.specs.States.{state_at, ReplicasRunLogs}
-use Rattle.sc_calm_answers_law.specs.Rests.{replicas_at, IsQuietGroup, MembersHaveReplicas}
+use Rattle.sc_node_table.specs.Definitions.{ReplicaState, next, last_slot}
+use Rattle.sc_sound.specs.Definitions.{Player, births, as_nodes}
+use Rattle.sc_calm_law.specs.Definitions.{players, HasReplica}
+use Rattle.sc_log_law.specs.Definitions.{Rows}
+use Rattle.sc_following_law.specs.Definitions.{marks_of, Course, Progress, Sets, members_at, Tellers, AreAt}
+use Rattle.sc_following_law.proofs.Lemmas.{quiet_members_know}
+use Rattle.sc_calm_rows_law.specs.Definitions.{IsEvenAt, next_in, progress_at, marks_at}
+use Rattle.sc_calm_rows_law.proofs.Lemmas.{quiet_rests}
+use Rattle.sc_calm_logs_law.specs.Definitions.{logged_sets, HasReplica as HasLogged}
+use Rattle.sc_calm_logs_law.proofs.Lemmas.{views_are_replicas}
+use Rattle.sc_calm_mail_law.specs.Definitions.{IsPlainlyKept}
+use Rattle.sc_calm_mail_law.proofs.Lemmas.{journals_idle, slots_left}
+use Rattle.sc_calm_groups_law.specs.Definitions.{Ends, IsOfLog, IsSlotKept, IsTopKept}
+use Rattle.sc_calm_groups_law.proofs.Lemmas.{replicas_kept, scenarios_kept_born}
+use Rattle.sc_calm_answers_law.specs.Definitions.{over_at, state_at, ReplicasRunLogs, replicas_at, IsQuietGroup, MembersHaveReplicas}
 
 -- the members of as many slots from one on are the same
 pub opens_same : (at : Sets) (slot : ℕ) (xs ys : List (List ℕ)) → AreAt at slot xs → AreAt at slot ys → length xs ≡ length ys → xs ≡ ys
@@ -125,5 +113,6 @@ module _ (by : Tellers) (words : ℕ → ℕ → ℕ × ℕ) (scenario : Scenari
     pub same_state : (one other : ℕ) (r s : ReplicaState) → view one ≡ Some r → view other ≡ Some s → next r ≡ next s → r.group ≡ s.group
     same_state one other r s e f nexts = (ran one r e).1 ∙ ap (λ n. state_at as_nodes base journal n) nexts ∙ sym (ran other s f).1
 
+-- Each node that was ever a member of the group has a replica of it.
 pub members_have_replicas : MembersHaveReplicas
 members_have_replicas by words scenario journal front base course q node slot low m = members_have by words scenario journal front base course q node slot low m

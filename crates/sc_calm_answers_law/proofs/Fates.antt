@@ -1,20 +1,15 @@
 -- What becomes of those that left a group, after each kind of row.
 use Rattle.std.proofs.Common.{◌≡◌, ℕ, zero, suc, ◌+◌, ◌-◌, ◌<◌, ◌≤◌, true, false, true≢false, List, [], ◌∷◌, ◌++◌, Option, Some, ◌⊎◌, inl, inr, refl, sym, ◌∙◌, ap, subst, arith, append-nil}
 use Rattle.std.proofs.lemmas.Bool.{cases_Bool, cases_eq, cases_lt}
-use Rattle.sc_base.specs.Among.{Each}
-use Rattle.sc_base.specs.declared.names.Ballot.{Ballot}
-use Rattle.sc_base.specs.Roster.{is_member}
-use Rattle.sc_node_table.specs.Replica.{listed}
-use Rattle.sc_paxos_words.specs.Ballots.{IsAtLeast}
-use Rattle.sc_paxos_words.proofs.BallotLemmas.{at_least_itself}
-use Rattle.sc_following_law.specs.Following.{Mark, promise_by, reached, pledged, AreFit, Course, Progress, Sets, members_at, IsOpen, IsFollowing}
-use Rattle.sc_following_law.specs.Hints.{Tellers, hint_by, hinted, IsOther, IsHeeding, StaysSo, GoesBy}
-use Rattle.sc_following_law.specs.Rows.{IsRow, IsIdle, IsCount, Takes, told_from, Leads, Elects}
-use Rattle.sc_following_law.proofs.Hints.{hinted-append}
-use Rattle.sc_following_law.proofs.Keeps.{counts_of}
-use Rattle.sc_following_law.proofs.Marks.{reached-append, pledged-append, reached-least, pledged-most, rises, offers-reached}
+use Rattle.sc_base.specs.Definitions.{Each, is_member}
+use Rattle.sc_node_table.specs.Values.{Ballot}
+use Rattle.sc_node_table.specs.Definitions.{listed}
+use Rattle.sc_paxos_words.specs.Definitions.{IsAtLeast}
+use Rattle.sc_paxos_words.proofs.Lemmas.{at_least_itself}
+use Rattle.sc_following_law.specs.Definitions.{Mark, promise_by, reached, pledged, AreFit, Course, Progress, Sets, members_at, IsOpen, IsFollowing, Tellers, hint_by, hinted, IsOther, IsHeeding, StaysSo, GoesBy, IsRow, IsIdle, IsCount, Takes, told_from, Leads, Elects}
+use Rattle.sc_following_law.proofs.Lemmas.{hinted-append, counts_of, reached-append, pledged-append, reached-least, pledged-most, rises, offers-reached}
 use Rattle.sc_calm_answers_law.proofs.Above.{MovesLast}
-use Rattle.sc_calm_answers_law.specs.Fates.{IsPassed, IsFated, EndsGone, AreFated}
+use Rattle.sc_calm_answers_law.specs.Definitions.{IsPassed, IsFated, EndsGone, AreFated}
 use Rattle.sc_calm_answers_law.proofs.Lists.{round_most, Silent, none_silent, counts_silent, pledged_rises, fit_behind, open_or, member_open, told_nothing, told_all, offered_nothing}
 
 -- a group begins so, with all nodes taking its first leader for that

@@ -1,23 +1,19 @@
 -- Mail of a group of a lawful journal of a valid scenario, as what is said of mail of any group that is well led.
 use Rattle.std.proofs.Common.{◌≡◌, true, List}
-use Rattle.sc_mail.specs.declared.bodies.Mail.{Mail}
-use Rattle.sc_actor.specs.declared.actors.Seat.{Seat}
-use Rattle.sc_actor.specs.declared.rows.Event.TheVariants.{Deliver}
-use Rattle.sc_actor.specs.Mail.{mails}
-use Rattle.sc_actor.specs.System.{row_of}
-use Rattle.sc_orderly_law.proofs.InTime.{in_time_before}
-use Rattle.sc_paxos_words.proofs.ListLemmas.{Each-among}
-use Rattle.sc_scenario.specs.Valid.{ValidScenariosAreBounded}
-use Rattle.sc_node_table.specs.Node.{may_come}
-use Rattle.sc_sound.specs.Players.{Player, births, as_nodes, player_table}
-use Rattle.sc_calm_law.specs.Charts.{players}
-use Rattle.sc_calm_mail_law.proofs.Posting.{mail_comes}
-use Rattle.sc_calm_logs_law.specs.Logged.{logged_sets}
-use Rattle.sc_calm_groups_law.proofs.BornWell.{scenarios_well_born}
-use Rattle.sc_calm_answers_law.specs.Led.{over_at}
-use Rattle.sc_group_law.proofs.RowSteps.{number_among}
-use Rattle.sc_whole_law.proofs.Seats.{all_apart}
-use Rattle.sc_calm_answers_law.specs.Finding.{GroupMailFinds}
+use Rattle.sc_node_table.specs.Values.{Mail, Seat, Deliver}
+use Rattle.sc_actor.specs.Definitions.{mails, row_of}
+use Rattle.sc_orderly_law.proofs.Lemmas.{in_time_before}
+use Rattle.sc_paxos_words.proofs.Lemmas.{Each-among}
+use Rattle.sc_scenario.specs.Definitions.{ValidScenariosAreBounded}
+use Rattle.sc_node_table.specs.Definitions.{may_come}
+use Rattle.sc_sound.specs.Definitions.{Player, births, as_nodes, player_table}
+use Rattle.sc_calm_law.specs.Definitions.{players}
+use Rattle.sc_calm_mail_law.proofs.Lemmas.{mail_comes}
+use Rattle.sc_calm_logs_law.specs.Definitions.{logged_sets}
+use Rattle.sc_calm_groups_law.proofs.Lemmas.{scenarios_well_born}
+use Rattle.sc_calm_answers_law.specs.Definitions.{over_at, GroupMailFinds}
+use Rattle.sc_group_law.proofs.Lemmas.{number_among}
+use Rattle.sc_whole_law.proofs.Lemmas.{all_apart}
 use Rattle.sc_calm_answers_law.proofs.Meeting.{finds}
 
 module _ (bounded : ValidScenariosAreBounded) where

@@ -1,17 +1,12 @@
 -- Mail of a group, in first rows of a journal whose rows come in time.
 use Rattle.std.proofs.Common.{◌≡◌, ◌∷◌, ◌++◌, ◌∙◌, ap, append_assoc}
-use Rattle.sc_cmd.specs.declared.orders.OrderLine.{OrderLine}
-use Rattle.sc_mail.specs.declared.bodies.Mail.{Mail}
-use Rattle.sc_actor.specs.declared.rows.Event.TheVariants.{Deliver}
-use Rattle.sc_actor.specs.declared.rows.Row.{Row}
-use Rattle.sc_actor.specs.System.{row_of}
-use Rattle.sc_orderly_law.specs.Timely.{AreInTime}
-use Rattle.sc_sound.specs.Players.{births, as_nodes, player_table}
-use Rattle.sc_calm_law.specs.Charts.{players}
-use Rattle.sc_calm_rows_law.specs.Turns.{with_event}
-use Rattle.sc_calm_answers_law.specs.Led.{LedLogsAreOne}
-use Rattle.sc_calm_answers_law.specs.Tellers.{tellers_at, GroupsAreLed, LedRowsGoOn}
-use Rattle.sc_calm_answers_law.specs.Finding.{GroupMailFinds, JournalMailFinds, StatesStand}
+use Rattle.sc_node_table.specs.Values.{OrderLine, Mail, Deliver, Row}
+use Rattle.sc_actor.specs.Definitions.{row_of}
+use Rattle.sc_orderly_law.specs.Definitions.{AreInTime}
+use Rattle.sc_sound.specs.Definitions.{births, as_nodes, player_table}
+use Rattle.sc_calm_law.specs.Definitions.{players}
+use Rattle.sc_calm_rows_law.specs.Definitions.{with_event}
+use Rattle.sc_calm_answers_law.specs.Definitions.{LedLogsAreOne, tellers_at, GroupsAreLed, LedRowsGoOn, GroupMailFinds, JournalMailFinds, StatesStand}
 use Rattle.sc_calm_answers_law.proofs.Strays.{calm_here}
 
 pub journal_mail_finds : GroupsAreLed → LedLogsAreOne → LedRowsGoOn → GroupMailFinds → StatesStand → JournalMailFinds

@@ -1,30 +1,16 @@
 -- What a row leaves of a replica that does not run, where another leads its group or the group is gone.
 use Rattle.std.proofs.Common.{◌≡◌, ℕ, ◌+◌, ◌≤◌, Bool, true, false, true≢false, cond, List, [], ◌∷◌, length, Option, Some, None, inl, inr, refl, sym, ◌∙◌, ap, subst}
-use Rattle.sc_base.specs.Same.{same_draw}
-use Rattle.sc_base.specs.declared.names.Draw.{Draw}
-use Rattle.sc_cmd.specs.declared.commands.Command.{Command}
-use Rattle.sc_cmd.specs.declared.cores.Base.{Base}
-use Rattle.sc_cmd.specs.declared.orders.OrderLine.{OrderLine}
-use Rattle.sc_base.specs.Roster.{IsRoster}
-use Rattle.sc_actor.specs.declared.actors.Seat.{Seat}
-use Rattle.sc_actor.specs.declared.rows.Event.{Event}
-use Rattle.sc_actor.specs.Mail.{mails}
-use Rattle.sc_node_table.specs.Execute.{entered}
-use Rattle.sc_node_table.specs.Replica.{ReplicaState, Place, next}
-use Rattle.sc_sound.specs.Players.{Player}
-use Rattle.sc_calm_law.specs.Laws.{AreNines}
-use Rattle.sc_calm_law.specs.Led.{StaysBehind}
-use Rattle.sc_calm_law.specs.Totals.{Rows}
-use Rattle.sc_following_law.specs.Following.{Mark, named_mark, next_by, Course, Sets}
-use Rattle.sc_following_law.specs.Hints.{Tellers}
-use Rattle.sc_following_law.specs.Offers.{AreAt}
-use Rattle.sc_following_law.specs.Tables.{Stays}
-use Rattle.sc_following_law.proofs.Learn.{looked_same, over, over_off, place2, looks}
-use Rattle.sc_calm_rows_law.specs.Groups.{view_at, taken_mark}
-use Rattle.sc_calm_rows_law.specs.Turns.{with_event, IsReplicasRow, IsBornOr}
-use Rattle.sc_calm_rows_law.proofs.Keeping.{same_some}
-use Rattle.sc_calm_groups_law.specs.Kinds.{IsGroupRow, RowPasses, RowRests, RowTakes, RowMakes, RowLeads, RowElects}
-use Rattle.sc_calm_groups_law.specs.Led.{Ends}
+use Rattle.sc_base.specs.Definitions.{same_draw, IsRoster}
+use Rattle.sc_node_table.specs.Values.{Draw, Command, Base, OrderLine, Seat, Event}
+use Rattle.sc_actor.specs.Definitions.{mails}
+use Rattle.sc_node_table.specs.Definitions.{entered, ReplicaState, Place, next}
+use Rattle.sc_sound.specs.Definitions.{Player}
+use Rattle.sc_calm_law.specs.Definitions.{AreNines, StaysBehind, Rows}
+use Rattle.sc_following_law.specs.Definitions.{Mark, named_mark, next_by, Course, Sets, Tellers, AreAt, Stays}
+use Rattle.sc_following_law.proofs.Lemmas.{looked_same, over, over_off, place2, looks}
+use Rattle.sc_calm_rows_law.specs.Definitions.{view_at, taken_mark, with_event, IsReplicasRow, IsBornOr}
+use Rattle.sc_calm_rows_law.proofs.Lemmas.{same_some}
+use Rattle.sc_calm_groups_law.specs.Definitions.{IsGroupRow, RowPasses, RowRests, RowTakes, RowMakes, RowLeads, RowElects, Ends}
 use Rattle.sc_calm_answers_law.proofs.Elsewhere.{IsApart}
 
 -- the slot that is next after a mark, if there is one

@@ -3,58 +3,30 @@ use Rattle.std.proofs.Common.{◌≡◌, ℕ, ◌<◌, ◌&&◌, eqb, cond, true
 use Rattle.std.specs.List.{All}
 use Rattle.std.proofs.lemmas.Bool.{cases_Bool, cond-false, and_parts, leb-true}
 use Rattle.std.proofs.lemmas.List.Elements.{All-head, All-tail}
-use Rattle.sc_base.specs.Among.{Each}
-use Rattle.sc_base.specs.Limits.{most_nodes}
-use Rattle.sc_base.specs.Same.{same_draw}
-use Rattle.sc_base.specs.declared.names.Draw.{Draw}
-use Rattle.sc_base.specs.declared.names.Ballot.{Ballot}
-use Rattle.sc_base.proofs.NameLemmas.{draw_is}
-use Rattle.sc_cmd.specs.declared.cores.Base.{Base}
-use Rattle.sc_cmd.specs.declared.orders.OrderLine.{OrderLine}
-use Rattle.sc_mail.specs.declared.bodies.Mail.{Mail}
-use Rattle.sc_mail.specs.declared.bodies.MailBody.{MailBody}
-use Rattle.sc_mail.specs.declared.bodies.MailBody.TheVariants.{Request, Answer, Prepare, Promise, Accept, Accepted, Nack, Learn, Ask, Install, TxPrepare, TxVote, TxOutcome, TxElsewhere, TxWatch, TxWatched, Told as ToldMail}
-use Rattle.sc_mail.specs.declared.roles.Role.TheVariants.{Node, Client}
-use Rattle.sc_base.specs.Roster.{is_member}
-use Rattle.sc_actor.specs.declared.actors.Seat.{Seat}
-use Rattle.sc_actor.specs.declared.rows.Event.{Event}
-use Rattle.sc_actor.specs.declared.rows.Event.TheVariants.{Deliver}
-use Rattle.sc_actor.specs.declared.rows.Row.{Row}
-use Rattle.sc_actor.specs.Mail.{mails, numbered}
-use Rattle.sc_actor.specs.Replay.{value}
-use Rattle.sc_actor.specs.System.{row_of}
-use Rattle.sc_client_table.specs.Client.{Client as ClientState}
-use Rattle.sc_orderly_law.specs.Timely.{AreInTime}
-use Rattle.sc_orderly_law.proofs.InTime.{in_time_before}
-use Rattle.sc_paxos_words.specs.Ballots.{below, IsAtLeast}
-use Rattle.sc_paxos_words.proofs.ListLemmas.{Each-among, Each-append, find_found}
-use Rattle.sc_scenario.specs.Valid.{IsBounded, IsBoundedClient}
+use Rattle.sc_base.specs.Definitions.{Each, most_nodes, same_draw, is_member}
+use Rattle.sc_node_table.specs.Values.{Draw, Ballot, Base, OrderLine, Mail, MailBody, Request, Answer, Prepare, Promise, Accept, Accepted, Nack, Learn, Ask, Install, TxPrepare, TxVote, TxOutcome, TxElsewhere, TxWatch, TxWatched, Told as ToldMail, Node, Client, Seat, Event, Deliver, Row}
+use Rattle.sc_base.proofs.Lemmas.{draw_is}
+use Rattle.sc_actor.specs.Definitions.{mails, numbered, value, row_of}
+use Rattle.sc_client_table.specs.Definitions.{Client as ClientState}
+use Rattle.sc_orderly_law.specs.Definitions.{AreInTime}
+use Rattle.sc_orderly_law.proofs.Lemmas.{in_time_before}
+use Rattle.sc_paxos_words.specs.Definitions.{below, IsAtLeast}
+use Rattle.sc_paxos_words.proofs.Lemmas.{Each-among, Each-append, find_found}
+use Rattle.sc_scenario.specs.Definitions.{IsBounded, IsBoundedClient}
 use Rattle.sc_scenario.specs.declared.scenarios.Asks.{Asks as Requests}
 use Rattle.sc_scenario.specs.declared.scenarios.Scenario.{Scenario}
-use Rattle.sc_node_table.specs.Node.{may_come, is_node}
-use Rattle.sc_node_table.specs.Replica.{ReplicaState, listed}
-use Rattle.sc_node_table.specs.Slots.{numbers_from}
-use Rattle.sc_group_law.proofs.RowSteps.{number_among}
-use Rattle.sc_law_lemmas.specs.Steps.{GoesOn}
-use Rattle.sc_sound.specs.Players.{Player, player_table, node_seat, client_seat, client_seats, route_of, births, as_nodes}
-use Rattle.sc_calm_law.specs.Charts.{players}
-use Rattle.sc_calm_law.specs.Totals.{Rows}
-use Rattle.sc_following_law.specs.Following.{Mark, Asks, Votes, Tells, Installs, Prepares, Promises, mark_of, Course, Progress, Sets, IsFit, AreFit}
-use Rattle.sc_following_law.specs.Hints.{Tellers}
-use Rattle.sc_following_law.specs.Rows.{IsRow}
-use Rattle.sc_following_law.specs.Tables.{marks_for}
-use Rattle.sc_calm_rows_law.specs.Groups.{view_at, marks_at, mark_in, next_in, progress_at}
-use Rattle.sc_calm_rows_law.specs.Turns.{IsSeat, with_event}
-use Rattle.sc_calm_rows_law.proofs.Marking.{rows_are}
-use Rattle.sc_calm_rows_law.proofs.Viewing.{view_was}
-use Rattle.sc_calm_groups_law.specs.Led.{Ends, IsWellLed}
-use Rattle.sc_calm_groups_law.specs.Logged.{IsLogOf}
-use Rattle.sc_calm_groups_law.specs.Through.{Delivers, IsSentSo}
-use Rattle.sc_calm_mail_law.proofs.Posting.{mail_comes, clients_stay}
+use Rattle.sc_node_table.specs.Definitions.{may_come, is_node, ReplicaState, listed, numbers_from}
+use Rattle.sc_group_law.proofs.Lemmas.{number_among}
+use Rattle.sc_law_lemmas.specs.Definitions.{GoesOn}
+use Rattle.sc_sound.specs.Definitions.{Player, player_table, node_seat, client_seat, client_seats, route_of, births, as_nodes}
+use Rattle.sc_calm_law.specs.Definitions.{players, Rows}
+use Rattle.sc_following_law.specs.Definitions.{Mark, Asks, Votes, Tells, Installs, Prepares, Promises, mark_of, Course, Progress, Sets, IsFit, AreFit, Tellers, IsRow, marks_for}
+use Rattle.sc_calm_rows_law.specs.Definitions.{view_at, marks_at, mark_in, next_in, progress_at, IsSeat, with_event}
+use Rattle.sc_calm_rows_law.proofs.Lemmas.{rows_are, view_was}
+use Rattle.sc_calm_groups_law.specs.Definitions.{Ends, IsWellLed, IsLogOf, Delivers, IsSentSo}
+use Rattle.sc_calm_mail_law.proofs.Lemmas.{mail_comes, clients_stay}
 use Rattle.sc_calm_answers_law.proofs.Telling.{last_parts}
-use Rattle.sc_calm_answers_law.specs.SentHomes.{FindsOne, IsStranger}
-use Rattle.sc_calm_answers_law.specs.SentJournals.{IsSentOn, IsQuietWhileYoung, NextMailIsSentSo}
-use Rattle.sc_calm_answers_law.specs.Sent.{SaysWell}
+use Rattle.sc_calm_answers_law.specs.Definitions.{FindsOne, IsStranger, IsSentOn, IsQuietWhileYoung, NextMailIsSentSo, SaysWell}
 
 -- ---- the number of a client is none of a node's
 
@@ -244,5 +216,6 @@ module _ (words : ℕ → ℕ → ℕ × ℕ) (at : Sets) (over : Ends) (by : Te
       ];
     }
 
+-- Where mail finds a replica where it needs one, and says so of a group, it is sent so in one row more.
 pub next_mail_so : NextMailIsSentSo
 next_mail_so words at over by scenario rows seat event base course bounded log timely was sent quiet so = then_so words at over by scenario rows base course bounded log was sent quiet seat event timely so

@@ -1,41 +1,23 @@
 -- Each row of a line of requests finds what it needs.
 use Rattle.std.proofs.Common.{◌≡◌, ℕ, ◌-◌, ◌≤◌, eqb, List, ◌∷◌, ◌++◌, find, Some, inl, inr, refl, sym, ◌∙◌, ap, subst}
 use Rattle.std.specs.Prelude.{slice_get}
-use Rattle.sc_base.specs.Among.{Among, Each}
-use Rattle.sc_base.specs.Limits.{client_actor}
-use Rattle.sc_base.specs.declared.ops.Op.{Op}
-use Rattle.sc_cmd.specs.declared.cores.Base.{Base}
-use Rattle.sc_cmd.specs.declared.orders.OrderLine.{OrderLine}
-use Rattle.sc_mail.specs.declared.bodies.Mail.{Mail}
-use Rattle.sc_mail.specs.declared.roles.Role.TheVariants.{Node, Client}
-use Rattle.sc_actor.specs.declared.actors.Seat.{Seat}
-use Rattle.sc_actor.specs.declared.rows.Event.{Event}
-use Rattle.sc_actor.specs.declared.rows.Event.TheVariants.{Deliver, Tick, Go, Told, Crash, Drop, Again}
-use Rattle.sc_actor.specs.Mail.{mails, numbered}
-use Rattle.sc_actor.specs.Replay.{value}
-use Rattle.sc_actor.specs.System.{row_of, has_gone, waiting, kth}
-use Rattle.sc_client_table.specs.Client.{Client as ClientState}
+use Rattle.sc_base.specs.Definitions.{Among, Each, client_actor}
+use Rattle.sc_node_table.specs.Values.{Op, Base, OrderLine, Mail, Node, Client, Seat, Event, Deliver, Tick, Go, Crash, Drop, Again}
+use Rattle.sc_actor.specs.declared.rows.Event.TheVariants.{Told}
+use Rattle.sc_actor.specs.Definitions.{mails, numbered, value, row_of, has_gone, waiting, kth}
+use Rattle.sc_client_table.specs.Definitions.{Client as ClientState}
 use Rattle.sc_scenario.specs.declared.scenarios.Asks.{Asks}
 use Rattle.sc_scenario.specs.declared.scenarios.Scenario.{Scenario}
-use Rattle.sc_scenario.specs.Valid.{ValidScenariosAreBounded}
-use Rattle.sc_sound.specs.Players.{Player, player_table, births, node_seat, client_seat, route_of, system_of, as_nodes}
-use Rattle.sc_orderly_law.specs.Orderly.{IsTidy, IsOrderly, IsInOrder}
-use Rattle.sc_orderly_law.proofs.Resting.{TakesFirst, takes_first, is_born-from}
-use Rattle.sc_calm_law.specs.Charts.{Chart}
-use Rattle.sc_calm_law.specs.Keeping.{IsCalmFor, MayGoNow, FindsCalm}
-use Rattle.sc_calm_law.specs.Totals.{led_elsewhere}
-use Rattle.sc_budget_law.specs.Asking.{IsAskingNode, IsAskingClient, IsAsking, AreFarFromLast}
-use Rattle.sc_budget_law.specs.CalmAsking.{IsLinkedSetting, IsCalmClient}
-use Rattle.sc_budget_law.specs.CalmNode.{Setting, IsSetting, IsCalmMail}
-use Rattle.sc_budget_law.specs.PlainClient.{IsBegun}
+use Rattle.sc_scenario.specs.Definitions.{ValidScenariosAreBounded}
+use Rattle.sc_sound.specs.Definitions.{Player, player_table, births, node_seat, client_seat, route_of, system_of, as_nodes}
+use Rattle.sc_orderly_law.specs.Definitions.{IsTidy, IsOrderly, IsInOrder}
+use Rattle.sc_orderly_law.proofs.Lemmas.{TakesFirst, takes_first, is_born-from}
+use Rattle.sc_calm_law.specs.Definitions.{Chart, IsCalmFor, MayGoNow, FindsCalm, led_elsewhere}
+use Rattle.sc_budget_law.specs.Definitions.{IsAskingNode, IsAskingClient, IsAsking, AreFarFromLast, IsLinkedSetting, IsCalmClient, Setting, IsSetting, IsCalmMail, IsBegun}
 use Rattle.sc_budget_law.proofs.AskingTurns as turns_of
 use Rattle.sc_budget_law.proofs.AskingClients as clients_of
-use Rattle.sc_budget_law.proofs.BetweenStage.{IsStage, stage}
-use Rattle.sc_budget_law.proofs.BetweenViews.{Journal}
-use Rattle.sc_budget_law.proofs.BetweenWhole.{of_player}
-use Rattle.sc_calm_answers_law.specs.RequestsFinding.{CountsAs}
-use Rattle.sc_calm_answers_law.specs.Hearing.{AreReached, AllAskLeaders, IsAnswerTo, AnswersAreHeardCalmly, ClientsGoCalmly, AnswersAreExpected, LinesAskLeaders}
-use Rattle.sc_calm_answers_law.specs.Rows.{NodesMayPump, AreNear, RequestRowsFindCalm}
+use Rattle.sc_budget_law.proofs.Lemmas.{IsStage, stage, Journal, of_player}
+use Rattle.sc_calm_answers_law.specs.Definitions.{CountsAs, AreReached, AllAskLeaders, IsAnswerTo, AnswersAreHeardCalmly, ClientsGoCalmly, AnswersAreExpected, LinesAskLeaders, NodesMayPump, AreNear, RequestRowsFindCalm}
 use Rattle.sc_calm_answers_law.proofs.Taken.{requests_taken}
 
 some_mail : {one other : Mail} → Some one ≡ Some other → one ≡ other

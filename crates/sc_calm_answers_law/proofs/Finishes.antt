@@ -1,49 +1,23 @@
 -- An outcome that is in flight at a party can be taken there; so each that a leader has in flight of an order is true.
 use Rattle.std.proofs.Common.{◌≡◌, ℕ, Bool, List, [], ◌∷◌, Some, refl, sym, ◌∙◌, ap, subst}
 use Rattle.std.proofs.lemmas.Bool.{cond-true}
-use Rattle.sc_base.specs.Among.{Among}
-use Rattle.sc_base.specs.Same.{same_draw}
-use Rattle.sc_base.specs.declared.names.Draw.{Draw}
-use Rattle.sc_base.proofs.NameLemmas.{same_name}
-use Rattle.sc_actor.specs.declared.actors.Seat.{Seat}
-use Rattle.sc_actor.proofs.WalkLemmas.{lawful-prefix}
-use Rattle.sc_cmd.specs.declared.bodies.Offer.{Offer}
-use Rattle.sc_cmd.specs.declared.bodies.Watch.{Watch}
-use Rattle.sc_cmd.specs.declared.commands.Command.{Command}
-use Rattle.sc_cmd.specs.declared.commands.Command.TheVariants.{Noop, Call, Join, Leave, Split, Begin, Prepared, RecordVote, GiveUp, Finish, Watched, RecordWatch}
-use Rattle.sc_cmd.specs.declared.cores.Base.{Base}
-use Rattle.sc_cmd.specs.declared.cores.Lock.TheVariants.{Free, Promised, Watching}
-use Rattle.sc_cmd.specs.declared.effects.Effect.TheVariants.{NoEffect}
-use Rattle.sc_cmd.specs.declared.votes.Outcome.{Outcome}
-use Rattle.sc_machine_table.specs.Finishes.{finished, participant_after, settled_in, watch_ended}
-use Rattle.sc_machine_table.specs.Group.{Group}
-use Rattle.sc_machine_table.specs.Logs.{state_after}
-use Rattle.sc_machine_table.specs.Machine.{applied}
-use Rattle.sc_machine_table.specs.Plans.{frozen_of}
-use Rattle.sc_node_table.specs.Replica.{ReplicaState}
-use Rattle.sc_paxos_words.specs.declared.flights.Flight.{Flight}
-use Rattle.sc_paxos_words.proofs.ListLemmas.{Each-among, Each-from}
+use Rattle.sc_base.specs.Definitions.{Among, same_draw}
+use Rattle.sc_node_table.specs.Values.{Draw, Seat, Offer, Watch, Command, Noop, Call, Join, Leave, Split, Begin, Prepared, RecordVote, GiveUp, Finish, Watched, RecordWatch, Base, Free, Promised, Watching, NoEffect, Outcome, Flight}
+use Rattle.sc_base.proofs.Lemmas.{same_name}
+use Rattle.sc_actor.proofs.Lemmas.{lawful-prefix}
+use Rattle.sc_machine_table.specs.Definitions.{finished, participant_after, settled_in, watch_ended, Group, state_after, applied, frozen_of}
+use Rattle.sc_node_table.specs.Definitions.{ReplicaState}
+use Rattle.sc_paxos_words.proofs.Lemmas.{Each-among, Each-from}
 use Rattle.sc_scenario.specs.declared.scenarios.Scenario.{Scenario}
-use Rattle.sc_sound.specs.GroupsOf.{world_at}
-use Rattle.sc_sound.specs.Players.{Lawful, Player, as_nodes, births, schedule, system_of}
-use Rattle.sc_sound.specs.Soundness.{IsOneMap}
-use Rattle.sc_whole_law.specs.Valid.{ValidEntriesAreLogs, ValidJournalsAreSound}
-use Rattle.sc_log_law.specs.Findings.{AreItsLogs}
-use Rattle.sc_calm_law.specs.Totals.{Rows}
-use Rattle.sc_calm_answers_law.specs.Votes.{IsTrueEntry}
-use Rattle.sc_calm_orders_law.specs.Parts.{bond_of, work_by}
-use Rattle.sc_calm_orders_law.specs.Scenes.{Answers, Bound, Ends, Here, Records, Work}
-use Rattle.sc_calm_orders_law.specs.Stages.{IsAt, IsOrder, Stage, leads_of, parties_of}
-use Rattle.sc_calm_rows_law.specs.Groups.{view_at}
-use Rattle.sc_calm_scenes_law.specs.Fresh.{IsThere}
-use Rattle.sc_calm_scenes_law.specs.Scenes.{scene_at}
-use Rattle.sc_calm_scenes_law.proofs.Viewing.{tell}
-use Rattle.sc_calm_answers_law.specs.Deeds.{Doer, HasDone, Voting, doer, doers_of}
-use Rattle.sc_calm_answers_law.specs.TrueEntries.{LeadsSince, VotesAreTrue}
-use Rattle.sc_calm_answers_law.specs.Finished.{EntriesAreTrue, FinishesAreTrue}
-use Rattle.sc_calm_answers_law.specs.Outcomes.{HasOwnKeys, OutcomesAreTaken}
-use Rattle.sc_calm_answers_law.specs.Recorded.{RecordsAreTrue}
-use Rattle.sc_calm_answers_law.specs.Told.{IsAllowedBy, LockTells, ReplicasTell}
+use Rattle.sc_sound.specs.Definitions.{world_at, Lawful, Player, as_nodes, births, schedule, system_of, IsOneMap}
+use Rattle.sc_whole_law.specs.Definitions.{ValidEntriesAreLogs, ValidJournalsAreSound}
+use Rattle.sc_log_law.specs.Definitions.{AreItsLogs}
+use Rattle.sc_calm_law.specs.Definitions.{Rows}
+use Rattle.sc_calm_answers_law.specs.Definitions.{IsTrueEntry, Doer, HasDone, Voting, doer, doers_of, LeadsSince, VotesAreTrue, EntriesAreTrue, FinishesAreTrue, HasOwnKeys, OutcomesAreTaken, RecordsAreTrue, IsAllowedBy, LockTells, ReplicasTell}
+use Rattle.sc_calm_orders_law.specs.Definitions.{bond_of, work_by, Answers, Bound, Ends, Here, Records, Work, IsAt, IsOrder, Stage, leads_of, parties_of}
+use Rattle.sc_calm_rows_law.specs.Definitions.{view_at}
+use Rattle.sc_calm_scenes_law.specs.Definitions.{IsThere, scene_at}
+use Rattle.sc_calm_scenes_law.proofs.Lemmas.{tell}
 use Rattle.sc_calm_answers_law.proofs.Grants.{Decides}
 use Rattle.sc_calm_answers_law.proofs.Leads.{IsEnding, IsWorkAt, OfOrder, OfOutcome, OfQuestion, OfVote, at_stage, was_there}
 use Rattle.sc_calm_answers_law.proofs.Opened.{ByOffer, ByWatch, IsBoundBy}

@@ -3,25 +3,13 @@ use Rattle.std.proofs.Common.{◌≡◌, ℕ, ◌+◌, ◌^◌, ◌<◌, ◌≤�
 use Rattle.std.specs.Prelude.{length, ◌&&◌, ◌||◌, ◌==◌, not, nat_le, nat_lt, cond}
 use Rattle.std.specs.FinMap.{empty, entries}
 use Rattle.std.proofs.lemmas.Bool.{and_from, cases_Bool, cond-true, cond-false, eq-eqb, le-leb, lt-ltb, ltb-true, ltb-false, or_parts}
-use Rattle.sc_base.specs.Arc.{Arc, before, end_of, holds, offset}
-use Rattle.sc_base.specs.Text.{pos_of}
-use Rattle.sc_cmd.specs.Cores.{is_alone}
-use Rattle.sc_cmd.specs.declared.bodies.Body.{Body}
+use Rattle.sc_base.specs.Definitions.{Arc, before, end_of, holds, offset, pos_of, is_member, united}
+use Rattle.sc_cmd.specs.Definitions.{is_alone}
+use Rattle.sc_node_table.specs.Values.{Body, Offer, Core, Route, No, Apart, TooMany}
 use Rattle.sc_cmd.specs.declared.bodies.Body.TheVariants as At
-use Rattle.sc_cmd.specs.declared.bodies.Offer.{Offer}
-use Rattle.sc_cmd.specs.declared.cores.Core.{Core}
-use Rattle.sc_cmd.specs.declared.links.Route.{Route}
-use Rattle.sc_cmd.specs.declared.votes.No.{No}
-use Rattle.sc_cmd.specs.declared.votes.No.TheVariants.{Apart, TooMany}
-use Rattle.sc_ideal.specs.IdealStore.{holds_key, part_of, with_pairs}
-use Rattle.sc_machine_table.specs.Group.{Group}
-use Rattle.sc_machine_table.specs.Orders.{limit_refused, locked_in, migrate_refused, repart_refused}
-use Rattle.sc_machine_table.specs.Plans.{can_cut, can_join, can_merge, can_migrate, can_repart, frozen_of, has_key_of, may_merge, taken}
-use Rattle.sc_machine_table.specs.Votes.{body_no, no_of, offer_no, place_no, size_no, vote_of}
-use Rattle.sc_base.specs.Roster.{is_member}
-use Rattle.sc_base.specs.Union.{united}
-use Rattle.sc_ring_law.proofs.Insides.{InsideOf, inside_part, no_shared, outside_next}
-use Rattle.sc_ring_law.proofs.View.{IsOnRing}
+use Rattle.sc_ideal.specs.Definitions.{holds_key, part_of, with_pairs}
+use Rattle.sc_machine_table.specs.Definitions.{Group, limit_refused, locked_in, migrate_refused, repart_refused, can_cut, can_join, can_merge, can_migrate, can_repart, frozen_of, has_key_of, may_merge, taken, body_no, no_of, offer_no, place_no, size_no, vote_of}
+use Rattle.sc_ring_law.proofs.Lemmas.{InsideOf, inside_part, no_shared, outside_next, IsOnRing, part_room as before_room}
 use Rattle.sc_calm_answers_law.proofs.Opened.{opening_refused}
 
 -- two groups, where one ends the other begins, and each has what lies on its arc
@@ -83,9 +71,6 @@ cut_near arc at e = ltb-true (offset arc at) arc.len (and_first (holds arc at) (
     and_first : (x y : Bool) → (x && y) ≡ true → x ≡ true
     and_first true y e = refl
     and_first false y e = absurd (true≢false (sym e))
-
-before_room : (a b c : ℕ) → a + b ≤ 2 ^ 32 → c < b → a + c ≤ 2 ^ 32
-before_room a b c e f = omega (arith, e, f)
 
 less_too : (a b c : ℕ) → a < b → b < c → a < c
 less_too a b c e f = omega (arith, e, f)

@@ -1,37 +1,20 @@
 -- The charts of a journal follow one another while an order is under way.
 use Rattle.std.proofs.Common.{◌≡◌, ℕ, Bool, true, false, cond, List, [], ◌∷◌, ◌++◌, replicate, Some, ◌⊎◌, inl, inr, sym, ◌∙◌, ap, subst}
-use Rattle.sc_base.specs.Among.{Among, Each}
-use Rattle.sc_base.specs.declared.names.Draw.{Draw}
-use Rattle.sc_cmd.specs.declared.orders.OrderLine.{OrderLine}
-use Rattle.sc_mail.specs.declared.bodies.Mail.{Mail}
-use Rattle.sc_actor.specs.declared.actors.Seat.{Seat}
-use Rattle.sc_actor.specs.declared.rows.Event.{Event}
-use Rattle.sc_actor.specs.Mail.{mails, copies}
-use Rattle.sc_actor.specs.Walk.{is_quiet}
-use Rattle.sc_actor.specs.Replay.{value}
-use Rattle.sc_actor.specs.System.{System, row_of, numbers_of}
-use Rattle.sc_orderly_law.specs.Orderly.{is_born, mail_with}
-use Rattle.sc_orderly_law.specs.Owing.{under_way}
-use Rattle.sc_orderly_law.specs.Timely.{AreInTime}
-use Rattle.sc_paxos_words.proofs.ListLemmas.{Each-from}
+use Rattle.sc_base.specs.Definitions.{Among, Each}
+use Rattle.sc_node_table.specs.Values.{Draw, OrderLine, Mail, Seat, Event}
+use Rattle.sc_actor.specs.Definitions.{mails, copies, is_quiet, value, System, row_of, numbers_of}
+use Rattle.sc_orderly_law.specs.Definitions.{is_born, mail_with, under_way, AreInTime}
+use Rattle.sc_paxos_words.proofs.Lemmas.{Each-from}
 use Rattle.sc_scenario.specs.declared.scenarios.Scenario.{Scenario}
-use Rattle.sc_sound.specs.Players.{Player, player_table, births, as_nodes}
-use Rattle.sc_calm_law.specs.Charts.{players, MayFollow}
-use Rattle.sc_calm_law.specs.Totals.{Rows}
-use Rattle.sc_calm_rows_law.specs.Groups.{view_at}
-use Rattle.sc_calm_rows_law.specs.Turns.{with_event}
-use Rattle.sc_calm_charts_law.specs.Charting.{all_replicas, asked_in, chart_at}
-use Rattle.sc_calm_charts_law.specs.Following.{WaitsForNone, AsksSame, ChartsFollow}
-use Rattle.sc_calm_orders_law.specs.Scenes.{Turn, First, Lone, Next, is_watch, Elsewhere, Asking, Here}
-use Rattle.sc_calm_orders_law.specs.Parts.{errand_by}
-use Rattle.sc_calm_orders_law.specs.Stages.{Deal, Stage, Asks, SentOn, IsAt}
-use Rattle.sc_calm_orders_law.specs.Follows.{closed, OfQuestion, OfVote, OfOutcome, LastTakes, OneTakes, TwoTakes, LastFreed, OneFreed, TwoFreed, IsStepOf, ByRest, ByOrder, ByChange, ByDeal, ByPassing, ByAsking, ByTaking, ByVote, ByNo, ByHearing, ByDeciding, ByEnd}
-use Rattle.sc_calm_orders_law.proofs.Lists.{among-left, among-right}
-use Rattle.sc_calm_scenes_law.specs.Kept.{StageAfter}
-use Rattle.sc_calm_scenes_law.specs.Scenes.{left_after, scene_at}
-use Rattle.sc_calm_scenes_law.proofs.Newest.{lead_runs}
-use Rattle.sc_calm_answers_law.specs.KeptAsking.{AllLeadAlone, StagesAsk}
-use Rattle.sc_calm_answers_law.specs.Following.{OrderChartsFollow}
+use Rattle.sc_sound.specs.Definitions.{Player, player_table, births, as_nodes}
+use Rattle.sc_calm_law.specs.Definitions.{players, MayFollow, Rows}
+use Rattle.sc_calm_rows_law.specs.Definitions.{view_at, with_event}
+use Rattle.sc_calm_charts_law.specs.Definitions.{all_replicas, asked_in, chart_at, WaitsForNone, AsksSame, ChartsFollow}
+use Rattle.sc_calm_orders_law.specs.Definitions.{Turn, First, Lone, Next, is_watch, Elsewhere, Asking, Here, errand_by, Deal, Stage, Asks, SentOn, IsAt, closed, OfQuestion, OfVote, OfOutcome, LastTakes, OneTakes, TwoTakes, LastFreed, OneFreed, TwoFreed, IsStepOf, ByRest, ByOrder, ByChange, ByDeal, ByPassing, ByAsking, ByTaking, ByVote, ByNo, ByHearing, ByDeciding, ByEnd}
+use Rattle.sc_calm_orders_law.proofs.Lemmas.{among-left, among-right}
+use Rattle.sc_calm_scenes_law.specs.Definitions.{StageAfter, left_after, scene_at}
+use Rattle.sc_calm_scenes_law.proofs.Lemmas.{lead_runs}
+use Rattle.sc_calm_answers_law.specs.Definitions.{AllLeadAlone, StagesAsk, OrderChartsFollow}
 use Rattle.sc_calm_answers_law.proofs.Delivering.{among_all, named_so, runs_there}
 use Rattle.sc_calm_answers_law.proofs.Questions.{elsewhere_stage}
 use Rattle.sc_calm_answers_law.proofs.Hinting.{errand_there}

@@ -1,59 +1,31 @@
 -- A row of a calm journal finds what an order needs.
 use Rattle.std.proofs.Common.{List, Some, [], ap, false, inl, inr, subst, sym, true, true≢false, ℕ, ◌∙◌, ◌≡◌, refl}
 use Rattle.std.proofs.lemmas.Bool.{cases_Bool}
-use Rattle.sc_actor.specs.Mail.{mails, numbered}
-use Rattle.sc_actor.specs.Replay.{value}
-use Rattle.sc_actor.specs.System.{row_of}
-use Rattle.sc_actor.specs.declared.actors.Seat.{Seat}
-use Rattle.sc_actor.specs.declared.rows.Event.{Event}
-use Rattle.sc_actor.specs.declared.rows.Event.TheVariants.{Deliver, Go, Told}
-use Rattle.sc_base.specs.declared.names.Draw.{Draw}
+use Rattle.sc_actor.specs.Definitions.{mails, numbered, value, row_of}
+use Rattle.sc_node_table.specs.Values.{Seat, Event, Deliver, Go, Draw, Base, OrderLine, Mail, Node}
+use Rattle.sc_actor.specs.declared.rows.Event.TheVariants.{Told}
 use Rattle.sc_calm_answers_law.proofs.Beside.{besides_found}
 use Rattle.sc_calm_answers_law.proofs.Leader.{leaders_found}
 use Rattle.sc_calm_answers_law.proofs.Leading.{alone, quiet_leaders_have_nothing, unbound}
 use Rattle.sc_calm_answers_law.proofs.Missed.{missed_found, young_may}
 use Rattle.sc_calm_answers_law.proofs.Votes.{votes_found}
-use Rattle.sc_calm_answers_law.specs.Beside.{IsHere}
-use Rattle.sc_calm_answers_law.specs.Guided.{IsGuided, IsNamedGuide}
-use Rattle.sc_calm_answers_law.specs.Missed.{IsYoung}
-use Rattle.sc_calm_answers_law.specs.FoundRows.{IsOrdersRow, IsToldCalmly, MakesYoung, OrdersRowsFind, OrdersRowsMeet}
-use Rattle.sc_calm_groups_law.proofs.Keeping.{replicas_kept, scenarios_kept_born}
-use Rattle.sc_calm_groups_law.specs.Kept.{IsKeptPlayer}
-use Rattle.sc_calm_groups_law.specs.Slots.{IsSlotKept}
-use Rattle.sc_calm_law.specs.Charts.{players}
-use Rattle.sc_calm_law.specs.Totals.{Rows}
-use Rattle.sc_calm_mail_law.proofs.FewJournals.{journals_idle}
-use Rattle.sc_calm_mail_law.proofs.Posting.{mail_comes, mail_posted}
-use Rattle.sc_calm_mail_law.specs.Idle.{IsPlainlyKept}
-use Rattle.sc_calm_mail_law.specs.Posted.{IsPosted}
-use Rattle.sc_calm_orders_law.specs.Parts.{works_in}
-use Rattle.sc_calm_orders_law.specs.Running.{IsIdle}
-use Rattle.sc_calm_rows_law.proofs.Viewing.{view_was}
-use Rattle.sc_calm_rows_law.specs.Groups.{view_at}
-use Rattle.sc_calm_scenes_law.specs.Counted.{IsOrdered}
-use Rattle.sc_calm_scenes_law.specs.Found.{AtAnother, AtLeader, ByAnother, ByLeader, FindsOrder, FindsQuiet, FindsReplica, NodeFinds}
-use Rattle.sc_calm_scenes_law.specs.Quiet.{HasNothing}
-use Rattle.sc_calm_scenes_law.specs.Taken.{IsTaking, MayBear}
-use Rattle.sc_calm_scenes_law.specs.Turns.{LeadsAlone}
-use Rattle.sc_cmd.specs.declared.cores.Base.{Base}
-use Rattle.sc_cmd.specs.declared.orders.OrderLine.{OrderLine}
-use Rattle.sc_mail.specs.declared.bodies.Mail.{Mail}
-use Rattle.sc_node_table.specs.Node.{NodeState, group_of_order, may_come, replica_of}
-use Rattle.sc_node_table.specs.Replica.{ReplicaState}
-use Rattle.sc_node_table.specs.Rows.{mailed}
-use Rattle.sc_orderly_law.proofs.InTime.{in_time_before}
-use Rattle.sc_orderly_law.specs.Timely.{AreInTime}
-use Rattle.sc_paxos_words.proofs.ListLemmas.{Each-among, Each-weaker}
+use Rattle.sc_calm_answers_law.specs.Definitions.{IsHere, IsGuided, IsNamedGuide, IsYoung, IsOrdersRow, IsToldCalmly, MakesYoung, OrdersRowsFind, OrdersRowsMeet}
+use Rattle.sc_calm_groups_law.proofs.Lemmas.{replicas_kept, scenarios_kept_born, Plays as TopPlays, replay_well as tops_replay, top_plays as plays_of}
+use Rattle.sc_calm_groups_law.specs.Definitions.{IsSlotKept}
+use Rattle.sc_calm_law.specs.Definitions.{players, Rows}
+use Rattle.sc_calm_mail_law.proofs.Lemmas.{journals_idle, mail_comes, mail_posted}
+use Rattle.sc_calm_mail_law.specs.Definitions.{IsPlainlyKept, IsPosted}
+use Rattle.sc_calm_orders_law.specs.Definitions.{works_in, IsIdle}
+use Rattle.sc_calm_rows_law.proofs.Lemmas.{view_was}
+use Rattle.sc_calm_rows_law.specs.Definitions.{view_at}
+use Rattle.sc_calm_scenes_law.specs.Definitions.{IsOrdered, AtAnother, AtLeader, ByAnother, ByLeader, FindsOrder, FindsQuiet, FindsReplica, NodeFinds, HasNothing, IsTaking, MayBear, LeadsAlone}
+use Rattle.sc_node_table.specs.Definitions.{NodeState, group_of_order, may_come, replica_of, ReplicaState, mailed}
+use Rattle.sc_orderly_law.proofs.Lemmas.{in_time_before}
+use Rattle.sc_orderly_law.specs.Definitions.{AreInTime}
+use Rattle.sc_paxos_words.proofs.Lemmas.{Each-among, Each-weaker}
 use Rattle.sc_scenario.specs.declared.scenarios.Scenario.{Scenario}
-use Rattle.sc_sound.specs.Players.{Player, as_nodes, births, player_table}
-use Rattle.sc_mail.specs.declared.roles.Role.TheVariants.{Node, Client}
-use Rattle.sc_calm_groups_law.proofs.TopNodes.{Plays as TopPlays, replay_well as tops_replay}
-use Rattle.sc_group_law.proofs.RowSteps.{number_among}
-
--- a player that is kept has its number
-plays_of : (who : ℕ) (player : Player) → IsKeptPlayer who player → TopPlays who player
-plays_of who (Node node) k = (k.0, k.1)
-plays_of who (Client client) k = tt
+use Rattle.sc_sound.specs.Definitions.{Player, as_nodes, births, player_table}
+use Rattle.sc_group_law.proofs.Lemmas.{number_among}
 
 -- a replica that is kept has nothing to do where it does not run
 idle_kept : (who : ℕ) (r : ReplicaState) → IsPlainlyKept who r → IsSlotKept r → r.running ≡ false → IsIdle r
@@ -150,11 +122,13 @@ module _ (words : ℕ → ℕ → ℕ × ℕ) (scenario : Scenario) (rows : Rows
     told = told;
   }
 
+-- Each mail that is delivered in a calm journal in which an order is under way meets what an order needs, where groups are guided, and by what is said of the mail.
 pub orders_rows_meet : OrdersRowsMeet
 orders_rows_meet words scenario rows seat number q = record {
   here = λ mail group node r t here. here_found words scenario rows seat (Deliver number) q number mail node r refl group t here;
   missed = λ mail group node t none. missed words scenario rows seat (Deliver number) q number mail group node refl t;
 }
 
+-- Each row of such a journal finds what an order needs, where the children that it makes are young.
 pub orders_rows_find : OrdersRowsFind
 orders_rows_find words scenario rows seat event q young = finds words scenario rows seat event q young

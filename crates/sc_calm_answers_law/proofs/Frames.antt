@@ -3,33 +3,20 @@ use Rattle.std.proofs.Common.{◌≡◌, ℕ, ◌≤◌, leb, cond, true, true�
 use Rattle.std.specs.Prelude.{filter}
 use Rattle.std.proofs.lemmas.Bool.{cases_Bool, and_from, le-leb}
 use Rattle.std.proofs.lemmas.Option.{none-some}
-use Rattle.sc_base.proofs.NameLemmas.{draw_is, same_name}
-use Rattle.sc_base.specs.Among.{Among}
-use Rattle.sc_base.specs.Limits.{most_nodes}
-use Rattle.sc_base.specs.Same.{same_draw}
-use Rattle.sc_base.specs.declared.names.Draw.{Draw}
-use Rattle.sc_cmd.specs.declared.cores.Base.{Base}
-use Rattle.sc_cmd.specs.declared.orders.OrderLine.{OrderLine}
-use Rattle.sc_mail.specs.declared.bodies.Mail.{Mail}
-use Rattle.sc_actor.specs.declared.rows.Row.{Row}
-use Rattle.sc_actor.specs.Replay.{value}
-use Rattle.sc_node_table.specs.Node.{is_node, replica_of}
-use Rattle.sc_node_table.specs.Replica.{ReplicaState, name_of}
-use Rattle.sc_node_table.specs.Slots.{numbers_from}
-use Rattle.sc_paxos_law.proofs.Among.{Among-flat_map, from_flat_map, from_map}
-use Rattle.sc_paxos_words.proofs.ListLemmas.{Among-filter, Each-among, find_found}
+use Rattle.sc_base.proofs.Lemmas.{draw_is, same_name}
+use Rattle.sc_base.specs.Definitions.{Among, most_nodes, same_draw}
+use Rattle.sc_node_table.specs.Values.{Draw, Base, OrderLine, Mail, Row}
+use Rattle.sc_actor.specs.Definitions.{value}
+use Rattle.sc_node_table.specs.Definitions.{is_node, replica_of, ReplicaState, name_of, numbers_from}
+use Rattle.sc_paxos_law.proofs.Lemmas.{Among-flat_map, from_flat_map, from_map}
+use Rattle.sc_paxos_words.proofs.Lemmas.{Among-filter, Each-among, find_found}
 use Rattle.sc_scenario.specs.declared.scenarios.Scenario.{Scenario}
-use Rattle.sc_scenario.specs.Valid.{IsValid, ValidScenariosAreBounded}
-use Rattle.sc_sound.specs.Players.{Player, player_table, node_seat, as_nodes, Lawful}
-use Rattle.sc_calm_law.specs.Quiet.{StandsQuiet}
-use Rattle.sc_budget_law.specs.AskingQuiet.{replicas_after, IsQuietJournal}
-use Rattle.sc_budget_law.specs.AtRest.{frame_at_rest}
-use Rattle.sc_budget_law.specs.BetweenJournal.{replicas_of}
-use Rattle.sc_budget_law.specs.Frames.{Frame}
-use Rattle.sc_budget_law.proofs.BetweenSteps.{in_numbers, to_numbers}
-use Rattle.sc_budget_law.proofs.Lists.{map_among}
-use Rattle.sc_calm_answers_law.specs.Starts.{AreNamedOnce, LawfulReplicasAreNamedOnce}
-use Rattle.sc_calm_answers_law.specs.Settings.{nodes_replicas, frames_after, AreAtNodes, QuietJournalsHaveFrames}
+use Rattle.sc_scenario.specs.Definitions.{IsValid, ValidScenariosAreBounded}
+use Rattle.sc_sound.specs.Definitions.{Player, player_table, node_seat, as_nodes, Lawful}
+use Rattle.sc_calm_law.specs.Definitions.{StandsQuiet}
+use Rattle.sc_budget_law.specs.Definitions.{replicas_after, IsQuietJournal, frame_at_rest, replicas_of, Frame}
+use Rattle.sc_budget_law.proofs.Lemmas.{in_numbers, to_numbers, map_among}
+use Rattle.sc_calm_answers_law.specs.Definitions.{AreNamedOnce, LawfulReplicasAreNamedOnce, nodes_replicas, frames_after, AreAtNodes, QuietJournalsHaveFrames}
 
 -- ---- lists
 

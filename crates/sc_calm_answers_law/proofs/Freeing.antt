@@ -1,46 +1,20 @@
 -- By each command a group loses no member, or it is locked in no transaction after it.
 use Rattle.std.proofs.Common.{◌≡◌, ℕ, ◌+◌, ◌-◌, Bool, true, false, cond, zero, suc, take, List, [], ◌∷◌, Option, Some, None, ◌⊎◌, inl, inr, refl, sym, ◌∙◌, ap, subst, arith}
-use Rattle.sc_cmd.specs.Cores.{is_alone}
-use Rattle.sc_cmd.specs.declared.cores.Lock.{Lock}
-use Rattle.sc_cmd.specs.declared.cores.Lock.TheVariants.{Free, Coordinating, Promised, Watching}
-use Rattle.sc_cmd.specs.declared.links.Route.{Route}
-use Rattle.sc_cmd.specs.declared.commands.Command.{Command}
-use Rattle.sc_cmd.specs.declared.commands.Command.TheVariants.{Noop, Call, Join, Leave, Split, Begin, Prepared, RecordVote, GiveUp, Finish, Watched, RecordWatch}
-use Rattle.sc_cmd.specs.declared.cores.Core.{Core}
-use Rattle.sc_base.specs.declared.names.Draw.{Draw}
-use Rattle.sc_base.specs.Same.{same_draw}
-use Rattle.sc_base.specs.Roster.{is_member}
-use Rattle.sc_following_law.proofs.Polled.{with_kept}
-use Rattle.sc_cmd.specs.declared.bodies.Body.{Body}
+use Rattle.sc_cmd.specs.Definitions.{is_alone}
+use Rattle.sc_node_table.specs.Values.{Lock, Free, Coordinating, Promised, Watching, Route, Command, Noop, Call, Join, Leave, Split, Begin, Prepared, RecordVote, GiveUp, Finish, Watched, RecordWatch, Core, Draw, Body, Frozen, Heard, No, Outcome, Past, Vote, NoEffect, Changed, Decided, Base}
+use Rattle.sc_base.specs.Definitions.{same_draw, is_member}
+use Rattle.sc_following_law.proofs.Lemmas.{with_kept}
 use Rattle.sc_cmd.specs.declared.bodies.Body.TheVariants as Does
-use Rattle.sc_cmd.specs.declared.votes.Frozen.{Frozen}
-use Rattle.sc_cmd.specs.declared.votes.Heard.{Heard}
-use Rattle.sc_cmd.specs.declared.votes.No.{No}
-use Rattle.sc_cmd.specs.declared.votes.Outcome.{Outcome}
-use Rattle.sc_cmd.specs.declared.votes.Past.{Past}
 use Rattle.sc_cmd.specs.declared.votes.Past.TheVariants as Cast
-use Rattle.sc_cmd.specs.declared.votes.Vote.{Vote}
 use Rattle.sc_cmd.specs.declared.votes.Vote.TheVariants as Says
-use Rattle.sc_cmd.specs.declared.effects.Effect.TheVariants.{NoEffect, Changed, Decided}
-use Rattle.sc_machine_table.specs.Group.{Group}
-use Rattle.sc_machine_table.specs.Finishes.{participant_after, watcher_after, party_freed, settled_in, finished}
-use Rattle.sc_machine_table.specs.Machine.{applied, ordered_by, split_group}
-use Rattle.sc_machine_table.specs.Orders.{refusal_of, refused_in, refused_free, locked_in, ordered, with_node, without_node}
-use Rattle.sc_machine_table.specs.Plans.{Plan, split_plan, merge_plan, closing_plan, repart_plan, migrate_plan}
-use Rattle.sc_machine_table.specs.Splits.{has_named, left_group}
-use Rattle.sc_machine_table.specs.Transactions.{begun_group, aborted, committed, heard_group, granted, participant_answered, asks_watcher, vote_recorded, released, watch_answered, watch_recorded, is_coordinating}
-use Rattle.sc_machine_table.specs.Votes.{has_voted, vote_of, watch_vote_of, voted_on}
-use Rattle.sc_machine_table.specs.Logs.{state_after}
-use Rattle.sc_cmd.specs.declared.cores.Base.{Base}
-use Rattle.sc_machine_table.specs.Group.{group_of}
-use Rattle.sc_sound.specs.Logs.{decided_log}
-use Rattle.sc_sound.specs.Players.{Ahead}
-use Rattle.sc_log_law.specs.Descent.{Rows}
-use Rattle.sc_following_law.specs.Following.{members_at}
-use Rattle.sc_calm_logs_law.specs.Logged.{logged_sets}
-use Rattle.sc_calm_answers_law.specs.States.{state_at, LeaversFree}
+use Rattle.sc_machine_table.specs.Definitions.{Group, participant_after, watcher_after, party_freed, settled_in, finished, applied, ordered_by, split_group, refusal_of, refused_in, refused_free, locked_in, ordered, with_node, without_node, Plan, split_plan, merge_plan, closing_plan, repart_plan, migrate_plan, has_named, left_group, begun_group, aborted, committed, heard_group, granted, participant_answered, asks_watcher, vote_recorded, released, watch_answered, watch_recorded, is_coordinating, has_voted, vote_of, watch_vote_of, voted_on, state_after, group_of}
+use Rattle.sc_sound.specs.Definitions.{decided_log, Ahead}
+use Rattle.sc_log_law.specs.Definitions.{Rows}
+use Rattle.sc_following_law.specs.Definitions.{members_at}
+use Rattle.sc_calm_logs_law.specs.Definitions.{logged_sets}
+use Rattle.sc_calm_answers_law.specs.Definitions.{state_at, LeaversFree}
 use Rattle.sc_calm_answers_law.proofs.Cores.{called_core, cond_either}
-use Rattle.sc_hist_law.proofs.Logs.{ordered_either}
+use Rattle.sc_hist_law.proofs.Lemmas.{ordered_either}
 
 -- ---- the core of the group stays
 
@@ -164,6 +138,7 @@ next_freed (c ∷ log) group (suc n) = next_freed log (applied group c).0 n
 abbrev members_after : Ahead → Base → Rows → ℕ → List ℕ
 members_after ahead base journal n = (state_after (group_of base) (take n (decided_log ahead base journal))).core.members
 
+-- The state after an entry by which a member goes is locked in no transaction.
 pub leavers_free : LeaversFree
 leavers_free ahead words scenario journal base group slot who was not_is = by slot was not_is
   where

@@ -2,38 +2,21 @@
 use Rattle.std.proofs.Common.{◌≡◌, ℕ, ◌+◌, ◌≤◌, Bool, cond, true, false, List, [], ◌∷◌, ◌++◌, length, Option, Some, None, inl, inr, refl, sym, ◌∙◌, ap, arith, append_assoc, length-append}
 use Rattle.std.specs.Prelude.{is_some, ◌&&◌}
 use Rattle.std.proofs.lemmas.Option.{none-some}
-use Rattle.sc_base.specs.Among.{Among}
-use Rattle.sc_base.specs.Same.{same_draw}
-use Rattle.sc_base.specs.declared.names.Draw.{Draw}
-use Rattle.sc_cmd.specs.declared.cores.Base.{Base}
-use Rattle.sc_cmd.specs.declared.links.Route.{Route}
-use Rattle.sc_orderly_law.specs.Timely.{AreInTime}
-use Rattle.sc_scenario.specs.Valid.{ValidScenariosAreBounded}
+use Rattle.sc_base.specs.Definitions.{Among, same_draw}
+use Rattle.sc_node_table.specs.Values.{Draw, Base, Route}
+use Rattle.sc_orderly_law.specs.Definitions.{AreInTime}
+use Rattle.sc_scenario.specs.Definitions.{ValidScenariosAreBounded}
 use Rattle.sc_scenario.specs.declared.scenarios.Scenario.{Scenario}
-use Rattle.sc_node_table.specs.Replica.{ReplicaState, name_of, born_replica}
-use Rattle.sc_node_table.specs.Slots.{slots_ahead}
-use Rattle.sc_sound.specs.GroupsOf.{groups_at}
-use Rattle.sc_sound.specs.Players.{births, as_nodes}
-use Rattle.sc_calm_law.specs.Charts.{players}
-use Rattle.sc_calm_law.specs.Totals.{Rows}
-use Rattle.sc_calm_rows_law.specs.Groups.{view_at}
-use Rattle.sc_calm_mail_law.specs.Few.{SlotsAreLeft}
-use Rattle.sc_calm_logs_law.specs.Logged.{IsGroupOf}
-use Rattle.sc_calm_answers_law.specs.Led.{GroupsBeginStanding}
-use Rattle.sc_calm_answers_law.specs.Tellers.{AreFew}
-use Rattle.sc_calm_answers_law.specs.Starts.{LawfulReplicasAreNamedOnce}
-use Rattle.sc_calm_charts_law.specs.Charting.{names_at, all_replicas, went_in}
-use Rattle.sc_calm_charts_law.specs.Ends.{GoInTurn}
-use Rattle.sc_calm_answers_law.specs.SentJournals.{GroupsBeginSent, GroupsAreBornAsBegun}
-use Rattle.sc_calm_answers_law.specs.Begins.{QuietJournalsBegin}
-use Rattle.sc_calm_answers_law.specs.Hinting.{GroupsBeginRising}
-use Rattle.sc_calm_answers_law.specs.KnownFronts.{IsQuietFront, FrontsAreFound}
-use Rattle.sc_calm_answers_law.specs.Journal.{IsCalmJournal, IsFront, AreSent, IsNamedGroup}
-use Rattle.sc_calm_answers_law.specs.Viewing.{ViewsAgree}
-use Rattle.sc_calm_answers_law.specs.OverJournals.{QuietJournalsRest}
+use Rattle.sc_node_table.specs.Definitions.{ReplicaState, name_of, born_replica, slots_ahead}
+use Rattle.sc_sound.specs.Definitions.{groups_at, births, as_nodes}
+use Rattle.sc_calm_law.specs.Definitions.{players, Rows}
+use Rattle.sc_calm_rows_law.specs.Definitions.{view_at}
+use Rattle.sc_calm_mail_law.specs.Definitions.{SlotsAreLeft}
+use Rattle.sc_calm_logs_law.specs.Definitions.{IsGroupOf}
+use Rattle.sc_calm_answers_law.specs.Definitions.{GroupsBeginStanding, AreFew, LawfulReplicasAreNamedOnce, GroupsBeginSent, GroupsAreBornAsBegun, QuietJournalsBegin, GroupsBeginRising, IsQuietFront, FrontsAreFound, IsCalmJournal, IsFront, AreSent, IsNamedGroup, ViewsAgree, QuietJournalsRest, JournalsBeginResting}
+use Rattle.sc_calm_charts_law.specs.Definitions.{names_at, all_replicas, went_in, GoInTurn}
 use Rattle.sc_calm_answers_law.proofs.OrderedKnown.{named_there}
 use Rattle.sc_calm_answers_law.proofs.Placing.{place_of}
-use Rattle.sc_calm_answers_law.specs.FrontBegins.{JournalsBeginResting}
 
 step : (b : Bool) (gone later : Option Route) (into : Route) → gone ≡ None → (later ≡ Some into → ⊥) → cond b gone later ≡ Some into → ⊥
 step true went later into none rest e = none-some into (sym none ∙ e)

@@ -1,30 +1,20 @@
 -- Of each front of a calm journal: its groups, what comes next in order, and that no mail is under way in a quiet one.
 use Rattle.std.proofs.Common.{◌≡◌, ℕ, false, true≢false, [], inl, inr, refl, ap, arith}
 use Rattle.std.proofs.lemmas.Bool.{cases_Bool}
-use Rattle.sc_base.specs.Among.{Among}
-use Rattle.sc_base.specs.declared.names.Draw.{Draw}
-use Rattle.sc_cmd.specs.declared.cores.Base.{Base}
-use Rattle.sc_cmd.specs.declared.orders.OrderLine.{OrderLine}
-use Rattle.sc_mail.specs.declared.bodies.Mail.{Mail}
-use Rattle.sc_actor.specs.System.{System}
-use Rattle.sc_actor.specs.declared.rows.Event.{Event}
-use Rattle.sc_actor.specs.declared.rows.Event.TheVariants.{Deliver, Tick, Go, Told, Crash, Drop, Again}
-use Rattle.sc_orderly_law.specs.Orderly.{IsInOrder, IsCalmEvent, is_born, is_told}
-use Rattle.sc_orderly_law.proofs.InTime.{in_time_tidy}
-use Rattle.sc_orderly_law.proofs.Resting.{quiet-empty}
+use Rattle.sc_base.specs.Definitions.{Among}
+use Rattle.sc_node_table.specs.Values.{Draw, Base, OrderLine, Mail, Event, Deliver, Tick, Go, Crash, Drop, Again}
+use Rattle.sc_actor.specs.Definitions.{System}
+use Rattle.sc_actor.specs.declared.rows.Event.TheVariants.{Told}
+use Rattle.sc_orderly_law.specs.Definitions.{IsInOrder, IsCalmEvent, is_born, is_told}
+use Rattle.sc_orderly_law.proofs.Lemmas.{in_time_tidy, quiet-empty}
 use Rattle.sc_scenario.specs.declared.scenarios.Scenario.{Scenario}
-use Rattle.sc_sound.specs.GroupsOf.{groups_at}
-use Rattle.sc_sound.specs.Players.{Player, births, as_nodes}
-use Rattle.sc_following_law.specs.Following.{marks_of}
-use Rattle.sc_calm_law.specs.Charts.{players}
-use Rattle.sc_calm_law.specs.Totals.{Rows}
-use Rattle.sc_calm_rows_law.specs.Groups.{marks_at}
-use Rattle.sc_calm_mail_law.specs.Few.{SlotsAreLeft}
-use Rattle.sc_calm_logs_law.specs.Logged.{IsGroupOf}
-use Rattle.sc_calm_answers_law.specs.Tellers.{AreFew}
-use Rattle.sc_calm_answers_law.specs.KnownFronts.{IsQuietFront}
-use Rattle.sc_calm_answers_law.specs.Strangers.{NoMailForStrangers}
-use Rattle.sc_calm_answers_law.specs.Journal.{IsCalmJournal, IsFront}
+use Rattle.sc_sound.specs.Definitions.{groups_at, Player, births, as_nodes}
+use Rattle.sc_following_law.specs.Definitions.{marks_of}
+use Rattle.sc_calm_law.specs.Definitions.{players, Rows}
+use Rattle.sc_calm_rows_law.specs.Definitions.{marks_at}
+use Rattle.sc_calm_mail_law.specs.Definitions.{SlotsAreLeft}
+use Rattle.sc_calm_logs_law.specs.Definitions.{IsGroupOf}
+use Rattle.sc_calm_answers_law.specs.Definitions.{AreFew, IsQuietFront, NoMailForStrangers, IsCalmJournal, IsFront}
 use Rattle.sc_calm_answers_law.proofs.BetweenRequests.{front_timely, front_short}
 
 -- each group of a calm journal is one of a lawful journal of a valid scenario

@@ -1,18 +1,18 @@
 -- Each order that a journal of a valid calm scenario tells is such as its lines may give.
 use Rattle.std.proofs.Common.{◌≡◌, ℕ, true, List, [], ◌∷◌, map, refl, ◌^◌, ◌&&◌, leb}
 use Rattle.std.proofs.lemmas.Bool.{and_from, le-leb, lt-ltb}
-use Rattle.sc_base.specs.Among.{Each}
-use Rattle.sc_cmd.specs.declared.orders.Order.{Order}
-use Rattle.sc_cmd.specs.declared.orders.Order.TheVariants.{Join, Leave, Split, Merge, Repart, Migrate}
-use Rattle.sc_orderly_law.specs.Timely.{Nothing, AreGivenSo}
+use Rattle.sc_base.specs.Definitions.{Each}
+use Rattle.sc_node_table.specs.Values.{Order, Merge, Repart, Migrate}
+use Rattle.sc_cmd.specs.declared.orders.Order.TheVariants.{Join, Leave, Split}
+use Rattle.sc_orderly_law.specs.Definitions.{Nothing, AreGivenSo}
 use Rattle.sc_orderly_law.proofs.Given.{spaced_are_calm, told_so}
-use Rattle.sc_paxos_words.proofs.ListLemmas.{Each-from_All}
-use Rattle.sc_scenario.specs.Valid.{IsUpTo, IsBoundedOrder, IsBoundedLine, ValidScenariosAreBounded}
+use Rattle.sc_paxos_words.proofs.Lemmas.{Each-from_All}
+use Rattle.sc_scenario.specs.Definitions.{IsUpTo, IsBoundedOrder, IsBoundedLine, ValidScenariosAreBounded}
 use Rattle.sc_scenario.specs.declared.scenarios.Scenario.{Scenario}
 use Rattle.sc_scenario.specs.declared.scenarios.SchedLine.{SchedLine}
 use Rattle.sc_scenario.specs.declared.scenarios.SchedLine.TheVariants.{Go, Deliver, Drop, Again, Tick, Crash, Told, Settle, Free, Storm}
-use Rattle.sc_sound.specs.Players.{line_of, schedule, as_nodes, system_of}
-use Rattle.sc_budget_law.specs.Calm.{CalmLinesAreSpaced}
+use Rattle.sc_sound.specs.Definitions.{line_of, schedule, as_nodes, system_of}
+use Rattle.sc_budget_law.specs.Definitions.{CalmLinesAreSpaced}
 use Rattle.sc_calm_answers_law.specs.Given.{names_nodes, may_be_given, OrdersMayBeGiven}
 
 up_to : (most n : ℕ) → IsUpTo most n → (leb 1 n && leb n most) ≡ true

@@ -1,24 +1,17 @@
 -- One group at most goes while an order is under way, into one that stands.
 use Rattle.std.proofs.Common.{◌≡◌, ◌++◌, ◌⊎◌, ℕ, Option, Some, None, inl, inr, refl, sym, ◌∙◌, ap}
 use Rattle.std.proofs.lemmas.Option.{none-some}
-use Rattle.sc_base.specs.declared.names.Draw.{Draw}
-use Rattle.sc_cmd.specs.declared.bodies.Offer.{Offer}
-use Rattle.sc_cmd.specs.declared.links.Route.{Route}
-use Rattle.sc_node_table.specs.Replica.{ReplicaState}
-use Rattle.sc_ring_law.specs.Stories.{Story}
+use Rattle.sc_node_table.specs.Values.{Draw, Offer, Route}
+use Rattle.sc_node_table.specs.Definitions.{ReplicaState}
+use Rattle.sc_ring_law.specs.Definitions.{Story}
 use Rattle.sc_scenario.specs.declared.scenarios.Scenario.{Scenario}
-use Rattle.sc_sound.specs.Players.{as_nodes}
-use Rattle.sc_whole_law.specs.Parameters.{stories_at}
-use Rattle.sc_calm_law.specs.Totals.{Rows}
-use Rattle.sc_calm_logs_law.specs.Logged.{IsGroupOf}
-use Rattle.sc_calm_orders_law.specs.Stages.{Stage}
-use Rattle.sc_budget_law.specs.AskingQuiet.{replicas_after}
-use Rattle.sc_calm_answers_law.specs.Goers.{GoersGoAlone, GoersGoInTurn, HasMerged, IsGoingSince, WasGone}
-use Rattle.sc_calm_answers_law.specs.Journal.{IsCalmJournal, IsFront}
-use Rattle.sc_calm_answers_law.specs.Known.{StillFrontsAreFree}
-use Rattle.sc_calm_answers_law.specs.KnownFronts.{FrontsAreFound, IsFoundFront, IsQuietFront}
-use Rattle.sc_calm_answers_law.specs.KnownTurns.{FrontsGoInTurn, GoesAlone}
-use Rattle.sc_calm_answers_law.specs.Merges.{MergesGoHome}
+use Rattle.sc_sound.specs.Definitions.{as_nodes}
+use Rattle.sc_whole_law.specs.Definitions.{stories_at}
+use Rattle.sc_calm_law.specs.Definitions.{Rows}
+use Rattle.sc_calm_logs_law.specs.Definitions.{IsGroupOf}
+use Rattle.sc_calm_orders_law.specs.Definitions.{Stage}
+use Rattle.sc_budget_law.specs.Definitions.{replicas_after}
+use Rattle.sc_calm_answers_law.specs.Definitions.{GoersGoAlone, GoersGoInTurn, HasMerged, IsGoingSince, WasGone, IsCalmJournal, IsFront, StillFrontsAreFree, FrontsAreFound, IsFoundFront, IsQuietFront, FrontsGoInTurn, GoesAlone, MergesGoHome}
 use Rattle.sc_calm_answers_law.proofs.OrderedKnown.{named_there}
 
 -- the participant of a story, if it has one

@@ -2,51 +2,26 @@
 use Rattle.std.proofs.Common.{◌≡◌, ◌⊎◌, ℕ, eqb, true≢false, List, [], Option, Some, None, is_some, inl, inr, refl, sym, ◌∙◌, ap, subst, arith}
 use Rattle.std.proofs.lemmas.Bool.{cases_Bool, eq-eqb, eqb-true}
 use Rattle.std.proofs.lemmas.Option.{none-some, same_Some}
-use Rattle.sc_base.specs.Among.{Each}
-use Rattle.sc_base.specs.declared.names.Draw.{Draw}
-use Rattle.sc_actor.specs.declared.actors.Seat.{Seat}
+use Rattle.sc_base.specs.Definitions.{Each}
+use Rattle.sc_node_table.specs.Values.{Draw, Seat, Base, Route, OrderLine, OrderRefusal, Node, Client}
 use Rattle.sc_actor.specs.declared.rows.Event.TheVariants.{Told}
 use Rattle.sc_actor.specs.declared.rows.Input.TheVariants.{Told as ToldInput}
-use Rattle.sc_actor.specs.Replay.{value}
-use Rattle.sc_actor.specs.System.{row_of}
-use Rattle.sc_client_table.specs.Client.{Client as ClientState}
-use Rattle.sc_cmd.specs.declared.cores.Base.{Base}
-use Rattle.sc_cmd.specs.declared.links.Route.{Route}
-use Rattle.sc_cmd.specs.declared.orders.OrderLine.{OrderLine}
-use Rattle.sc_cmd.specs.declared.orders.OrderRefusal.{OrderRefusal}
-use Rattle.sc_machine_table.specs.Group.{Group}
-use Rattle.sc_mail.specs.declared.roles.Role.TheVariants.{Node, Client}
-use Rattle.sc_node_table.specs.Node.{NodeState, group_of_order, on_order, ordered_of, replica_of}
-use Rattle.sc_node_table.specs.Ordering.{ordered_row, untaken}
-use Rattle.sc_node_table.specs.Replica.{ReplicaState, born_replica, listed, next}
-use Rattle.sc_node_table.specs.Slots.{slots_ahead}
+use Rattle.sc_actor.specs.Definitions.{value, row_of}
+use Rattle.sc_client_table.specs.Definitions.{Client as ClientState}
+use Rattle.sc_machine_table.specs.Definitions.{Group}
+use Rattle.sc_node_table.specs.Definitions.{NodeState, group_of_order, on_order, ordered_of, replica_of, ordered_row, untaken, ReplicaState, born_replica, listed, next, slots_ahead}
 use Rattle.sc_scenario.specs.declared.scenarios.Scenario.{Scenario}
-use Rattle.sc_sound.specs.Players.{Player, as_nodes, births, player_table}
-use Rattle.sc_calm_law.specs.Totals.{Rows}
-use Rattle.sc_calm_logs_law.specs.Logged.{IsGroupOf}
-use Rattle.sc_calm_logs_law.proofs.Views.{views_are_replicas}
-use Rattle.sc_calm_orders_law.specs.Parts.{works}
-use Rattle.sc_calm_orders_law.specs.Scenes.{Asking, Bound, Here, Scene, Turn, Unbound}
-use Rattle.sc_calm_orders_law.specs.Stages.{Asks, Closes, ClosesBoth, IsAt, Leg, Ordered, Recorded, Replied, SentOn, Stage, Still, Weighs, closing}
-use Rattle.sc_calm_orders_law.proofs.Lists.{cases-draw}
-use Rattle.sc_calm_orders_law.proofs.Ordering.{tables-order}
-use Rattle.sc_calm_rows_law.specs.Groups.{view_at}
-use Rattle.sc_calm_rows_law.specs.Turns.{with_event}
-use Rattle.sc_calm_rows_law.proofs.Viewing.{view_is, view_others}
-use Rattle.sc_calm_scenes_law.specs.Found.{ByAnother, ByLeader, FindsQuiet}
-use Rattle.sc_calm_scenes_law.specs.Fresh.{IsToldInQuiet}
-use Rattle.sc_calm_scenes_law.specs.Kept.{StageAfter}
-use Rattle.sc_calm_scenes_law.specs.Scenes.{scene_at}
-use Rattle.sc_calm_scenes_law.specs.Turns.{IsOfGroup, IsTablesRow, LeavesOrMakes}
-use Rattle.sc_calm_scenes_law.proofs.Found.{found_step}
-use Rattle.sc_calm_scenes_law.proofs.Taking.{now_is, rows_taken, was_is}
-use Rattle.sc_calm_answers_law.specs.Goers.{GoersBegin, HasBegun, IsGoingSince, WasGone}
-use Rattle.sc_calm_answers_law.specs.Journal.{IsCalmJournal, IsFront}
-use Rattle.sc_calm_answers_law.specs.KnownFronts.{FrontsAreFound}
-use Rattle.sc_calm_answers_law.specs.Led.{EndsAreLogged}
-use Rattle.sc_calm_answers_law.specs.New.{tx_of}
-use Rattle.sc_calm_answers_law.specs.Resting.{RestsAt}
-use Rattle.sc_calm_answers_law.specs.TrueUnder.{AreSeen}
+use Rattle.sc_sound.specs.Definitions.{Player, as_nodes, births, player_table}
+use Rattle.sc_calm_law.specs.Definitions.{Rows}
+use Rattle.sc_calm_logs_law.specs.Definitions.{IsGroupOf}
+use Rattle.sc_calm_logs_law.proofs.Lemmas.{views_are_replicas}
+use Rattle.sc_calm_orders_law.specs.Definitions.{works, Asking, Bound, Here, Scene, Turn, Unbound, Asks, Closes, ClosesBoth, IsAt, Leg, Ordered, Recorded, Replied, SentOn, Stage, Still, Weighs, closing}
+use Rattle.sc_calm_orders_law.proofs.Lemmas.{cases-draw, tables-order}
+use Rattle.sc_calm_rows_law.specs.Definitions.{view_at, with_event}
+use Rattle.sc_calm_rows_law.proofs.Lemmas.{view_is, view_others}
+use Rattle.sc_calm_scenes_law.specs.Definitions.{ByAnother, ByLeader, FindsQuiet, IsToldInQuiet, StageAfter, scene_at, IsOfGroup, IsTablesRow, LeavesOrMakes}
+use Rattle.sc_calm_scenes_law.proofs.Lemmas.{found_step, now_is, rows_taken, was_is}
+use Rattle.sc_calm_answers_law.specs.Definitions.{GoersBegin, HasBegun, IsGoingSince, WasGone, IsCalmJournal, IsFront, FrontsAreFound, EndsAreLogged, tx_of, RestsAt, AreSeen}
 use Rattle.sc_calm_answers_law.proofs.OrderedKnown.{named_there}
 use Rattle.sc_calm_answers_law.proofs.Took.{rests_idle}
 use Rattle.sc_calm_answers_law.proofs.TrueBeginning.{begun_so, ordered_unbound, still_unbound, closing_bond}

@@ -1,53 +1,24 @@
 -- Which groups go is known after one more delivery while an order is under way.
 use Rattle.std.proofs.Common.{◌≡◌, ◌⊎◌, ℕ, true, false, true≢false, List, [], ◌∷◌, ◌++◌, Option, Some, None, is_some, inl, inr, refl, sym, ◌∙◌, ap, subst, arith, append_assoc}
 use Rattle.std.proofs.lemmas.Option.{none-some, same_Some}
-use Rattle.sc_base.specs.Among.{Among, Each}
-use Rattle.sc_base.specs.declared.names.Draw.{Draw}
-use Rattle.sc_actor.specs.declared.actors.Seat.{Seat}
-use Rattle.sc_actor.specs.declared.rows.Event.TheVariants.{Deliver}
-use Rattle.sc_actor.specs.System.{row_of}
-use Rattle.sc_cmd.specs.declared.commands.Command.{Command}
-use Rattle.sc_cmd.specs.declared.commands.Command.TheVariants.{Noop, Call, Join, Leave, Split, Begin, Prepared, RecordVote, GiveUp, Finish, Watched, RecordWatch}
-use Rattle.sc_cmd.specs.declared.cores.Base.{Base}
-use Rattle.sc_cmd.specs.declared.links.Route.{Route}
-use Rattle.sc_machine_table.specs.Group.{Group}
-use Rattle.sc_node_table.specs.Replica.{Place, ReplicaState, born_replica, listed, next}
-use Rattle.sc_node_table.specs.Slots.{slots_ahead}
-use Rattle.sc_paxos_words.specs.declared.flights.Flight.{Flight}
-use Rattle.sc_paxos_words.proofs.ListLemmas.{Each-among}
+use Rattle.sc_base.specs.Definitions.{Among, Each}
+use Rattle.sc_node_table.specs.Values.{Draw, Seat, Deliver, Command, Noop, Call, Join, Leave, Split, Begin, Prepared, RecordVote, GiveUp, Finish, Watched, RecordWatch, Base, Route, Flight}
+use Rattle.sc_actor.specs.Definitions.{row_of}
+use Rattle.sc_machine_table.specs.Definitions.{Group}
+use Rattle.sc_node_table.specs.Definitions.{Place, ReplicaState, born_replica, listed, next, slots_ahead}
+use Rattle.sc_paxos_words.proofs.Lemmas.{Each-among}
 use Rattle.sc_scenario.specs.declared.scenarios.Scenario.{Scenario}
-use Rattle.sc_sound.specs.GroupsOf.{groups_at}
-use Rattle.sc_sound.specs.Players.{Player, as_nodes, births, player_table}
-use Rattle.sc_following_law.specs.Following.{Course}
-use Rattle.sc_calm_law.specs.Quiet.{StandsQuiet}
-use Rattle.sc_calm_law.specs.Totals.{Rows}
-use Rattle.sc_calm_groups_law.specs.Kinds.{RowElects, RowLeads, RowMakes, RowPasses, RowRests, RowTakes}
-use Rattle.sc_calm_logs_law.specs.Logged.{IsGroupOf, logged_sets}
-use Rattle.sc_calm_logs_law.proofs.Views.{views_are_replicas}
-use Rattle.sc_calm_orders_law.specs.Follows.{OfQuestion, OfVote, OfOutcome, LastTakes, OneTakes, TwoTakes, LastFreed, OneFreed, TwoFreed, IsStepOf, BeginsDeal, ByRest, ByOrder, ByChange, ByDeal, ByPassing, ByAsking, ByTaking, ByVote, ByNo, ByHearing, ByDeciding, ByEnd}
-use Rattle.sc_calm_orders_law.specs.Parts.{work_by, works}
-use Rattle.sc_calm_orders_law.specs.Scenes.{Turn, First, Lone, Next, Answers, Asking, Bond, Bound, Elsewhere, Ends, Errand, Here, Opens, Question, Records, Reply, Scene, Unbound, Work, is_watch}
-use Rattle.sc_calm_orders_law.specs.Stages.{Asks, Closes, ClosesBoth, Deal, Filed, IsAt, Leg, Mailed, Ordered, Recorded, Replied, SentOn, Stage, Still, Weighs, asked_one, bound_by, closing, coordinator, heard, parties_of, party_of}
-use Rattle.sc_calm_rows_law.specs.Groups.{view_at}
-use Rattle.sc_calm_rows_law.specs.Turns.{IsReplicasRow, with_event}
-use Rattle.sc_calm_scenes_law.specs.Fresh.{IsNowhere}
-use Rattle.sc_calm_scenes_law.specs.Kept.{GoesBy}
-use Rattle.sc_calm_scenes_law.specs.Scenes.{scene_at}
-use Rattle.sc_budget_law.specs.AskingQuiet.{replicas_after}
-use Rattle.sc_calm_answers_law.specs.Deeds.{Executed, HasDone, HasStepped, Rested, doer, doers_of}
-use Rattle.sc_calm_answers_law.specs.Goers.{GoersGoOn, HasBegun, HasMerged, IsGoingSince, NoneGone, OwnerStood, WasGone}
-use Rattle.sc_calm_answers_law.specs.Guided.{IsReachedSo}
-use Rattle.sc_calm_answers_law.specs.Journal.{AreSent}
-use Rattle.sc_calm_answers_law.specs.JournalUnder.{IsYoungAt}
-use Rattle.sc_calm_answers_law.specs.KnownFronts.{FrontsAreFound}
-use Rattle.sc_calm_answers_law.specs.Led.{EndsAreLogged, GroupsBeginStanding, over_at}
-use Rattle.sc_calm_answers_law.specs.New.{tx_of}
-use Rattle.sc_calm_answers_law.specs.SentJournals.{IsSentStep}
-use Rattle.sc_calm_answers_law.specs.States.{ReplicasRunLogs, state_at}
-use Rattle.sc_calm_answers_law.specs.Tellers.{tellers_at}
-use Rattle.sc_calm_answers_law.specs.Told.{IsAllowedBy, ReplicasTell, sources_of}
-use Rattle.sc_calm_answers_law.specs.TrueEntries.{LeadsSince}
-use Rattle.sc_calm_answers_law.specs.TrueGoing.{GoesOnSince}
+use Rattle.sc_sound.specs.Definitions.{groups_at, Player, as_nodes, births, player_table}
+use Rattle.sc_following_law.specs.Definitions.{Course}
+use Rattle.sc_calm_law.specs.Definitions.{StandsQuiet, Rows}
+use Rattle.sc_calm_groups_law.specs.Definitions.{RowElects, RowLeads, RowMakes, RowPasses, RowRests, RowTakes}
+use Rattle.sc_calm_logs_law.specs.Definitions.{IsGroupOf, logged_sets}
+use Rattle.sc_calm_logs_law.proofs.Lemmas.{views_are_replicas}
+use Rattle.sc_calm_orders_law.specs.Definitions.{OfQuestion, OfVote, OfOutcome, LastTakes, OneTakes, TwoTakes, LastFreed, OneFreed, TwoFreed, IsStepOf, BeginsDeal, ByRest, ByOrder, ByChange, ByDeal, ByPassing, ByAsking, ByTaking, ByVote, ByNo, ByHearing, ByDeciding, ByEnd, work_by, works, Turn, First, Lone, Next, Answers, Asking, Bond, Bound, Elsewhere, Ends, Errand, Here, Opens, Question, Records, Reply, Scene, Unbound, Work, is_watch, Asks, Closes, ClosesBoth, Deal, Filed, IsAt, Leg, Mailed, Ordered, Recorded, Replied, SentOn, Stage, Still, Weighs, asked_one, bound_by, closing, coordinator, heard, parties_of, party_of}
+use Rattle.sc_calm_rows_law.specs.Definitions.{view_at, IsReplicasRow, with_event}
+use Rattle.sc_calm_scenes_law.specs.Definitions.{IsNowhere, GoesBy, scene_at}
+use Rattle.sc_budget_law.specs.Definitions.{replicas_after}
+use Rattle.sc_calm_answers_law.specs.Definitions.{Executed, HasDone, HasStepped, Rested, doer, doers_of, GoersGoOn, HasBegun, HasMerged, IsGoingSince, NoneGone, OwnerStood, WasGone, IsReachedSo, AreSent, IsYoungAt, FrontsAreFound, EndsAreLogged, GroupsBeginStanding, over_at, tx_of, IsSentStep, ReplicasRunLogs, state_at, tellers_at, IsAllowedBy, ReplicasTell, sources_of, LeadsSince, GoesOnSince}
 use Rattle.sc_calm_answers_law.proofs.Delivering.{there_or}
 use Rattle.sc_calm_answers_law.proofs.Doers.{lead_runs_so, lead_works, one_not_none, same_one}
 use Rattle.sc_calm_answers_law.proofs.Leads.{IsWorkAt, OfOrder, OfOutcome, OfQuestion, OfVote, at_stage, was_there}

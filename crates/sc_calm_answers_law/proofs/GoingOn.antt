@@ -1,38 +1,21 @@
 -- Groups go one after another from one quiet front to a later one.
 use Rattle.std.proofs.Common.{◌≡◌, ℕ, ◌-◌, ◌≤◌, zero, suc, List, [], ◌∷◌, ◌++◌, take, Option, Some, None, refl, sym, ◌∙◌, ap, arith, append_assoc, append-nil}
 use Rattle.std.proofs.lemmas.Option.{none-some}
-use Rattle.sc_base.specs.Among.{Among}
-use Rattle.sc_base.specs.declared.names.Draw.{Draw}
-use Rattle.sc_cmd.specs.declared.commands.Command.{Command}
-use Rattle.sc_cmd.specs.declared.cores.Base.{Base}
-use Rattle.sc_cmd.specs.declared.links.Route.{Route}
-use Rattle.sc_machine_table.specs.Group.{Group, group_of}
-use Rattle.sc_machine_table.specs.Logs.{state_after}
-use Rattle.sc_machine_table.specs.Machine.{applied}
-use Rattle.sc_scenario.specs.Groups.{base_at}
-use Rattle.sc_scenario.specs.Valid.{ValidScenariosAreBounded}
+use Rattle.sc_base.specs.Definitions.{Among}
+use Rattle.sc_node_table.specs.Values.{Draw, Command, Base, Route}
+use Rattle.sc_machine_table.specs.Definitions.{Group, group_of, state_after, applied}
+use Rattle.sc_scenario.specs.Definitions.{base_at, ValidScenariosAreBounded}
 use Rattle.sc_scenario.specs.declared.scenarios.Scenario.{Scenario}
-use Rattle.sc_node_table.specs.Replica.{ReplicaState, next}
-use Rattle.sc_sound.specs.GroupsOf.{groups_at}
-use Rattle.sc_sound.specs.Logs.{decided_log}
-use Rattle.sc_sound.specs.Players.{births, as_nodes}
-use Rattle.sc_log_law.specs.Descent.{Rows}
-use Rattle.sc_budget_law.specs.AskingQuiet.{replicas_after}
-use Rattle.sc_calm_rows_law.specs.Groups.{view_at}
-use Rattle.sc_calm_mail_law.specs.Lasting.{ReplicasLast}
-use Rattle.sc_calm_mail_law.specs.Over.{IsOver, EntriesLeaveOver}
-use Rattle.sc_calm_logs_law.specs.Logged.{IsGroupOf, ViewsAreReplicas}
-use Rattle.sc_calm_answers_law.specs.States.{state_at, ReplicasRunLogs}
-use Rattle.sc_calm_charts_law.specs.Charting.{all_replicas, names_at, went_in}
-use Rattle.sc_calm_charts_law.specs.Ends.{GoInTurn}
-use Rattle.sc_calm_charts_law.specs.Following.{LedStandOnce}
-use Rattle.sc_calm_charts_law.proofs.Names.{names_grow}
-use Rattle.sc_calm_answers_law.specs.Starts.{LawfulReplicasAreNamedOnce}
-use Rattle.sc_calm_answers_law.specs.SettingCounting.{GoneAgree}
-use Rattle.sc_calm_answers_law.specs.KnownFronts.{IsQuietFront, FrontsAreFound, QuietLogsAreExecuted}
-use Rattle.sc_calm_answers_law.specs.Known.{FrontsGoneAgree}
-use Rattle.sc_calm_answers_law.specs.Links.{AreAllFree}
-use Rattle.sc_calm_answers_law.specs.KnownTurns.{GoesOnce, GoesAlone, TurnsGoOn, FrontsGoInTurn, FrontsStayInTurn}
+use Rattle.sc_node_table.specs.Definitions.{ReplicaState, next}
+use Rattle.sc_sound.specs.Definitions.{groups_at, decided_log, births, as_nodes}
+use Rattle.sc_log_law.specs.Definitions.{Rows}
+use Rattle.sc_budget_law.specs.Definitions.{replicas_after}
+use Rattle.sc_calm_rows_law.specs.Definitions.{view_at}
+use Rattle.sc_calm_mail_law.specs.Definitions.{ReplicasLast, IsOver, EntriesLeaveOver}
+use Rattle.sc_calm_logs_law.specs.Definitions.{IsGroupOf, ViewsAreReplicas}
+use Rattle.sc_calm_answers_law.specs.Definitions.{state_at, ReplicasRunLogs, LawfulReplicasAreNamedOnce, GoneAgree, IsQuietFront, FrontsAreFound, QuietLogsAreExecuted, FrontsGoneAgree, AreAllFree, GoesOnce, GoesAlone, TurnsGoOn, FrontsGoInTurn, FrontsStayInTurn}
+use Rattle.sc_calm_charts_law.specs.Definitions.{all_replicas, names_at, went_in, GoInTurn, LedStandOnce}
+use Rattle.sc_calm_charts_law.proofs.Lemmas.{names_grow}
 use Rattle.sc_calm_answers_law.proofs.KnownGroups.{front_timely}
 use Rattle.sc_calm_answers_law.proofs.Known.{found, seen, shown, gone_last, last_state}
 use Rattle.sc_calm_answers_law.proofs.KnownGoing.{gone_seen, seen_gone, seen_none, gone_named}

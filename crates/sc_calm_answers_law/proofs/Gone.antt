@@ -1,41 +1,14 @@
 -- A group that is gone stays so, whatever it executes.
 use Rattle.std.proofs.Common.{◌≡◌, ℕ, Bool, true, false, cond, ◌&&◌, not, nat_le, ◌≤◌, zero, suc, length, take, is_some, List, [], ◌∷◌, Option, Some, None, refl, ◌∙◌, ap, arith}
-use Rattle.sc_cmd.specs.Cores.{is_alone}
-use Rattle.sc_cmd.specs.declared.cores.Lock.{Lock}
-use Rattle.sc_cmd.specs.declared.cores.Lock.TheVariants.{Free, Coordinating, Promised, Watching}
-use Rattle.sc_cmd.specs.declared.commands.Command.{Command}
-use Rattle.sc_cmd.specs.declared.commands.Command.TheVariants.{Noop, Call, Join, Leave, Split, Begin, Prepared, RecordVote, GiveUp, Finish, Watched, RecordWatch}
-use Rattle.sc_cmd.specs.declared.cores.Core.{Core}
-use Rattle.sc_cmd.specs.declared.orders.OrderRefusal.{OrderRefusal}
-use Rattle.sc_base.specs.declared.names.Draw.{Draw}
-use Rattle.sc_base.specs.Arc.{holds}
-use Rattle.sc_base.specs.Same.{same_draw}
-use Rattle.sc_base.specs.Union.{united}
-use Rattle.sc_cmd.specs.declared.bodies.Body.{Body}
+use Rattle.sc_cmd.specs.Definitions.{is_alone}
+use Rattle.sc_node_table.specs.Values.{Lock, Free, Coordinating, Promised, Watching, Command, Noop, Call, Join, Leave, Split, Begin, Prepared, RecordVote, GiveUp, Finish, Watched, RecordWatch, Core, OrderRefusal, Draw, Body, Offer, Frozen, Gift, Heard, No, Outcome, Abort, Merged, Moved, Migrated, Divided, Past, Vote, NoEffect, Changed, Decided}
+use Rattle.sc_base.specs.Definitions.{holds, same_draw, united}
 use Rattle.sc_cmd.specs.declared.bodies.Body.TheVariants as Does
-use Rattle.sc_cmd.specs.declared.bodies.Offer.{Offer}
-use Rattle.sc_cmd.specs.declared.votes.Frozen.{Frozen}
-use Rattle.sc_cmd.specs.declared.votes.Gift.{Gift}
-use Rattle.sc_cmd.specs.declared.votes.Heard.{Heard}
-use Rattle.sc_cmd.specs.declared.votes.No.{No}
-use Rattle.sc_cmd.specs.declared.votes.Outcome.{Outcome}
-use Rattle.sc_cmd.specs.declared.votes.Outcome.TheVariants.{Abort, Merged, Moved, Migrated, Divided}
-use Rattle.sc_cmd.specs.declared.votes.Past.{Past}
 use Rattle.sc_cmd.specs.declared.votes.Past.TheVariants as Cast
-use Rattle.sc_cmd.specs.declared.votes.Vote.{Vote}
 use Rattle.sc_cmd.specs.declared.votes.Vote.TheVariants as Says
-use Rattle.sc_cmd.specs.declared.effects.Effect.TheVariants.{NoEffect, Changed, Decided}
-use Rattle.sc_machine_table.specs.Group.{Group}
-use Rattle.sc_machine_table.specs.Finishes.{can_gain, gained_group, lost_group, moved, welcomed_group, participant_after, watcher_after, party_freed, settled_in, finished}
-use Rattle.sc_machine_table.specs.Machine.{applied, ordered_by, split_group}
-use Rattle.sc_machine_table.specs.Orders.{refusal_of, ordered, with_node, without_node}
-use Rattle.sc_machine_table.specs.Plans.{Plan, can_cut, has_key_of, can_split, split_plan, may_merge, merged_group, merge_plan, closing_group, closing_plan, can_repart, taken, giving_group, taking_group, giving_plan, taking_plan, repart_plan, can_migrate, migrated_group, migrate_plan}
-use Rattle.sc_machine_table.specs.Splits.{has_named, left_group}
-use Rattle.sc_machine_table.specs.Transactions.{begun_group, aborted, committed, heard_group, granted, participant_answered, asks_watcher, vote_recorded, released, watch_answered, watch_recorded, is_coordinating}
-use Rattle.sc_machine_table.specs.Votes.{has_voted, vote_of, watch_vote_of, voted_on}
-use Rattle.sc_machine_table.specs.Logs.{state_after}
+use Rattle.sc_machine_table.specs.Definitions.{Group, can_gain, gained_group, lost_group, moved, welcomed_group, participant_after, watcher_after, party_freed, settled_in, finished, applied, ordered_by, split_group, refusal_of, ordered, with_node, without_node, Plan, can_cut, has_key_of, can_split, split_plan, may_merge, merged_group, merge_plan, closing_group, closing_plan, can_repart, taken, giving_group, taking_group, giving_plan, taking_plan, repart_plan, can_migrate, migrated_group, migrate_plan, has_named, left_group, begun_group, aborted, committed, heard_group, granted, participant_answered, asks_watcher, vote_recorded, released, watch_answered, watch_recorded, is_coordinating, has_voted, vote_of, watch_vote_of, voted_on, state_after}
 use Rattle.sc_calm_answers_law.proofs.Cores.{cond_either, called_core}
-use Rattle.sc_hist_law.proofs.Logs.{ordered_either}
+use Rattle.sc_hist_law.proofs.Lemmas.{ordered_either}
 
 -- ---- the core of the group stays
 

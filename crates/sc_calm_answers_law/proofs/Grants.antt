@@ -2,32 +2,15 @@
 use Rattle.std.proofs.Common.{◌≡◌, ℕ, Bool, true, false, true≢false, Option, Some, None, ◌⊎◌, inl, inr, refl, sym, ◌∙◌, ap, subst}
 use Rattle.std.specs.Prelude.{◌&&◌, not, cond}
 use Rattle.std.proofs.lemmas.Bool.{cases_Bool, cond-true, cond-false}
-use Rattle.sc_base.specs.Arc.{holds}
-use Rattle.sc_base.specs.Same.{same_draw}
-use Rattle.sc_base.specs.declared.names.Draw.{Draw}
-use Rattle.sc_base.proofs.NameLemmas.{same_name}
-use Rattle.sc_cmd.specs.Effects.{decided_in, is_changed}
-use Rattle.sc_cmd.specs.declared.bodies.Body.{Body}
+use Rattle.sc_base.specs.Definitions.{holds, same_draw, is_member}
+use Rattle.sc_node_table.specs.Values.{Draw, Body, Command, RecordVote, RecordWatch, Coordinating, Effect, Changed, NoEffect, Frozen, Heard, Outcome, Divided, Merged, Migrated, Moved, Past}
+use Rattle.sc_base.proofs.Lemmas.{same_name}
+use Rattle.sc_cmd.specs.Definitions.{decided_in, is_changed}
 use Rattle.sc_cmd.specs.declared.bodies.Body.TheVariants as At
-use Rattle.sc_cmd.specs.declared.commands.Command.{Command}
-use Rattle.sc_cmd.specs.declared.commands.Command.TheVariants.{RecordVote, RecordWatch}
-use Rattle.sc_cmd.specs.declared.cores.Lock.TheVariants.{Coordinating}
-use Rattle.sc_cmd.specs.declared.effects.Effect.{Effect}
-use Rattle.sc_cmd.specs.declared.effects.Effect.TheVariants.{Changed, NoEffect}
-use Rattle.sc_cmd.specs.declared.votes.Frozen.{Frozen}
-use Rattle.sc_cmd.specs.declared.votes.Heard.{Heard}
-use Rattle.sc_cmd.specs.declared.votes.Outcome.{Outcome}
-use Rattle.sc_cmd.specs.declared.votes.Outcome.TheVariants.{Divided, Merged, Migrated, Moved}
-use Rattle.sc_cmd.specs.declared.votes.Past.{Past}
 use Rattle.sc_cmd.specs.declared.votes.Past.TheVariants as Cast
 use Rattle.sc_cmd.specs.declared.votes.Vote.TheVariants as Vows
-use Rattle.sc_machine_table.specs.Group.{Group}
-use Rattle.sc_machine_table.specs.Machine.{applied}
-use Rattle.sc_machine_table.specs.Plans.{can_migrate, can_repart, can_split, closing_group, closing_plan, giving_group, giving_plan, has_key_of, may_merge, merged_group, merged_route, migrated_group, part_gift, taken, taking_group, taking_plan}
-use Rattle.sc_machine_table.specs.Splits.{left_group}
-use Rattle.sc_machine_table.specs.Transactions.{committed, granted, heard_group, watch_answered, vote_recorded, watch_recorded}
-use Rattle.sc_base.specs.Roster.{is_member}
-use Rattle.sc_calm_scenes_law.specs.Counted.{StaysIn}
+use Rattle.sc_machine_table.specs.Definitions.{Group, applied, can_migrate, can_repart, can_split, closing_group, closing_plan, giving_group, giving_plan, has_key_of, may_merge, merged_group, merged_route, migrated_group, part_gift, taken, taking_group, taking_plan, left_group, committed, granted, heard_group, watch_answered, vote_recorded, watch_recorded}
+use Rattle.sc_calm_scenes_law.specs.Definitions.{StaysIn}
 
 -- it decides
 abbrev pub Decides : Group × Effect → Type 0

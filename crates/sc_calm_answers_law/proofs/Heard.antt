@@ -2,46 +2,19 @@
 use Rattle.std.proofs.Common.{◌≡◌, ℕ, ◌-◌, ◌<◌, Bool, false, List, [], ◌∷◌, length, map, take, drop, Some, ◌⊎◌, inl, inr, refl, sym, ◌∙◌, ap, subst, arith, take-append-drop}
 use Rattle.std.specs.Prelude.{slice_get}
 use Rattle.std.proofs.lemmas.Option.{slice_get_within}
-use Rattle.sc_base.specs.Among.{Among}
-use Rattle.sc_base.specs.Arc.{Arc}
-use Rattle.sc_base.specs.Limits.{client_actor}
-use Rattle.sc_base.specs.Operation.{key_of}
-use Rattle.sc_base.specs.Text.{pos_of}
-use Rattle.sc_base.specs.declared.names.Draw.{Draw}
-use Rattle.sc_base.specs.declared.ops.Op.{Op}
-use Rattle.sc_base.specs.declared.ops.Reply.{Reply}
-use Rattle.sc_ideal.specs.IdealStore.{holds_key}
-use Rattle.sc_cmd.specs.declared.links.Link.{Link}
-use Rattle.sc_cmd.specs.declared.links.Route.{Route}
-use Rattle.sc_lookup.specs.Known.{KnownGroups, way_to, chosen, target_in}
+use Rattle.sc_base.specs.Definitions.{Among, Arc, client_actor, key_of, pos_of}
+use Rattle.sc_node_table.specs.Values.{Draw, Op, Reply, Link, Route, AnswerBody, Value, NotLeader, NotMine, Gone, Stale, Mail, MailBody, Answer}
+use Rattle.sc_ideal.specs.Definitions.{holds_key}
+use Rattle.sc_lookup.specs.Definitions.{KnownGroups, way_to, chosen, target_in}
 use Rattle.sc_lookup.specs.declared.ways.Way.{Way}
-use Rattle.sc_mail.specs.declared.bodies.AnswerBody.{AnswerBody}
-use Rattle.sc_mail.specs.declared.bodies.AnswerBody.TheVariants.{Value, NotLeader, NotMine, Gone, Stale}
-use Rattle.sc_mail.specs.declared.bodies.Mail.{Mail}
-use Rattle.sc_mail.specs.declared.bodies.MailBody.{MailBody}
-use Rattle.sc_mail.specs.declared.bodies.MailBody.TheVariants.{Answer}
-use Rattle.sc_paxos_law.proofs.Among.{from_map, Among-left}
-use Rattle.sc_client_table.specs.Client.{Client as ClientState}
+use Rattle.sc_paxos_law.proofs.Lemmas.{from_map, Among-left}
+use Rattle.sc_client_table.specs.Definitions.{Client as ClientState}
 use Rattle.sc_scenario.specs.declared.scenarios.Asks.{Asks}
-use Rattle.sc_calm_law.specs.Charts.{Chart}
-use Rattle.sc_calm_law.specs.Clients.{AsksWithin, IsInTurn}
-use Rattle.sc_calm_law.specs.Reach.{LearnsOf, LeavesFor, MayHear, HearsCalmly}
-use Rattle.sc_budget_law.specs.CalmAsking.{IsLinkedSetting, Knows, IsCalmClient}
-use Rattle.sc_budget_law.specs.CalmClient.{FollowedBy, AreRoundRing, KnowsFirst}
-use Rattle.sc_budget_law.specs.CalmNode.{Setting, HasGoneTo, IsSetting, IsAsideBody, IsCalmMail}
-use Rattle.sc_budget_law.specs.Frames.{Frame}
-use Rattle.sc_budget_law.specs.PlainClient.{IsWaiting, IsBegun}
-use Rattle.sc_budget_law.specs.PlainMail.{Requests, IsPlainBody}
-use Rattle.sc_budget_law.proofs.CalmClients.{unasked}
-use Rattle.sc_budget_law.proofs.CalmKnowing.{name_in, id_of, learn_in_turn}
-use Rattle.sc_budget_law.proofs.Knowing.{chosen_is}
-use Rattle.sc_budget_law.proofs.Lists.{some_is, map_among}
-use Rattle.sc_calm_answers_law.specs.RequestsFinding.{CountsAs}
-use Rattle.sc_calm_answers_law.specs.Hearing.{IsLedAt, AreReached, AsksLeaders, AnswersAreHeardCalmly, ClientsGoCalmly}
-
--- the chosen group is known
-pub chosen_known : (p : ℕ) (known : KnownGroups) (group : Draw) → chosen p known ≡ Some group → Among group (map name_in known)
-chosen_known p known group e = (let c = chosen_is p known group e in subst (λ d. Among d (map name_in known)) c.name (map_among name_in known c.entry c.stands))
+use Rattle.sc_calm_law.specs.Definitions.{Chart, AsksWithin, IsInTurn, LearnsOf, LeavesFor, MayHear, HearsCalmly}
+use Rattle.sc_budget_law.specs.Definitions.{IsLinkedSetting, Knows, IsCalmClient, FollowedBy, AreRoundRing, KnowsFirst, Setting, HasGoneTo, IsSetting, IsAsideBody, IsCalmMail, Frame, IsWaiting, IsBegun, Requests, IsPlainBody}
+use Rattle.sc_budget_law.proofs.Lemmas.{unasked, name_in, id_of, learn_in_turn, chosen_is, some_is}
+use Rattle.sc_calm_answers_law.specs.Definitions.{CountsAs, IsLedAt, AreReached, AsksLeaders, AnswersAreHeardCalmly, ClientsGoCalmly}
+pub use Rattle.sc_budget_law.proofs.CalmClients.{chosen_among as chosen_known}
 
 -- the group behind one that stands, round the ring
 pub record Behind (set : Setting) (frame : Frame) : Type 0 where
@@ -187,9 +160,11 @@ module _ (begun : Requests) (set : Setting) (is : IsSetting set) (linked : IsLin
         pub hears : (answer : AnswerBody) → mail.body ≡ Answer w.group w.seq answer → HearsCalmly chart.ways chart.reach mail.from mail.body client
         hears answer e = record { group = w.group; seq = w.seq; answer = answer; body_is = e; may = may answer (says_of (Answer w.group w.seq answer) e) }
 
+-- A client that asks leaders finds what it needs in the answer that it waits for.
 pub answers_heard : AnswersAreHeardCalmly
 answers_heard scenario rows set chart elsewhere asks gone client mail is linked reached counts k m to asked_right leads a =
     hears (IsBegun scenario rows) set is linked asks gone client k a.waits mail m to asked_right a.from_is chart counts reached leads a.answer a.body_is
 
+-- One that was not told to go may go, where it is not sent on more often than any.
 pub clients_go : ClientsGoCalmly
 clients_go set chart asks client k near = (let none = unasked set asks client k.state in record { idle = none.0; none = none.1; near = near })

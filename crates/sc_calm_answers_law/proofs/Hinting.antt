@@ -1,38 +1,21 @@
 -- A question goes to a node that has a replica of its group: to the least member by a link, or whom a replica of the group names that does not lead.
 use Rattle.std.proofs.Common.{◌≡◌, ℕ, Bool, true, false, true≢false, cond, List, [], ◌∷◌, ◌++◌, Option, Some, None, inl, inr, refl, sym, ◌∙◌, ap, subst}
-use Rattle.std.proofs.lemmas.Bool.{cases_Bool, cases_eq, cond-false}
-use Rattle.sc_base.specs.Among.{Among, Each}
-use Rattle.sc_base.specs.Same.{same_draw}
-use Rattle.sc_base.specs.declared.names.Draw.{Draw}
-use Rattle.sc_base.proofs.NameLemmas.{draw_is}
-use Rattle.sc_cmd.specs.Cores.{is_alone}
-use Rattle.sc_cmd.specs.Effects.{is_changed}
-use Rattle.sc_cmd.specs.declared.commands.Command.{Command}
-use Rattle.sc_cmd.specs.declared.commands.Command.TheVariants.{Noop, Call, Join, Leave, Split, Begin, Prepared, RecordVote, GiveUp, Finish, Watched, RecordWatch}
-use Rattle.sc_cmd.specs.declared.cores.Lock.TheVariants.{Free}
-use Rattle.sc_cmd.specs.declared.votes.Frozen.{Frozen}
+use Rattle.std.proofs.lemmas.Bool.{cases_Bool}
+use Rattle.sc_base.specs.Definitions.{Among, Each, same_draw, least_of}
+use Rattle.sc_node_table.specs.Values.{Draw, Command, Noop, Call, Join, Leave, Split, Begin, Prepared, RecordVote, GiveUp, Finish, Watched, RecordWatch, Free, Frozen, Mail, MailBody, Accept, Accepted, Answer, Ask, Install, Learn, Nack, Prepare, Promise, Request, TxElsewhere, TxOutcome, TxPrepare, TxVote, TxWatch, TxWatched, Told as ToldMail}
+use Rattle.sc_base.proofs.Lemmas.{draw_is}
+use Rattle.sc_cmd.specs.Definitions.{is_alone, is_changed}
 use Rattle.sc_cmd.specs.declared.votes.Vote.TheVariants as Says
-use Rattle.sc_machine_table.specs.Machine.{applied}
-use Rattle.sc_mail.specs.declared.bodies.Mail.{Mail}
-use Rattle.sc_mail.specs.declared.bodies.MailBody.{MailBody}
-use Rattle.sc_mail.specs.declared.bodies.MailBody.TheVariants.{Accept, Accepted, Answer, Ask, Install, Learn, Nack, Prepare, Promise, Request, TxElsewhere, TxOutcome, TxPrepare, TxVote, TxWatch, TxWatched, Told as ToldMail}
-use Rattle.sc_base.specs.Roster.{least_of}
-use Rattle.sc_node_table.specs.Node.{group_of_mail}
-use Rattle.sc_node_table.specs.Replica.{ReplicaState}
-use Rattle.sc_node_table.specs.Spoken.{before_of, went_on}
-use Rattle.sc_calm_answers_law.specs.Votes.{IsTrueEntry}
-use Rattle.sc_calm_orders_law.specs.Entries.{EntryLeaves}
-use Rattle.sc_calm_orders_law.specs.Parts.{bond_of, errand_by, errand_for, errands_for, work_by}
-use Rattle.sc_calm_orders_law.specs.Rows.{results}
-use Rattle.sc_calm_orders_law.specs.Scenes.{Asking, Bond, Elsewhere, Errand, First, IsOnly, Opens, Question, Reply, Result}
-use Rattle.sc_calm_orders_law.proofs.Entries.{orders-leave}
-use Rattle.sc_calm_orders_law.proofs.Records.{records-leave}
-use Rattle.sc_calm_orders_law.proofs.Lists.{among-left, among-right, cases-draw}
-use Rattle.sc_calm_scenes_law.specs.Found.{BesideFinds}
-use Rattle.sc_calm_scenes_law.proofs.Found.{IsQuestion}
+use Rattle.sc_machine_table.specs.Definitions.{applied}
+use Rattle.sc_node_table.specs.Definitions.{group_of_mail, ReplicaState, before_of, went_on}
+use Rattle.sc_calm_answers_law.specs.Definitions.{IsTrueEntry}
+use Rattle.sc_calm_orders_law.specs.Definitions.{EntryLeaves, bond_of, errand_by, errand_for, errands_for, work_by, results, Asking, Bond, Elsewhere, Errand, First, IsOnly, Opens, Question, Reply, Result}
+use Rattle.sc_calm_orders_law.proofs.Lemmas.{orders-leave, records-leave, among-left, among-right, cases-draw}
+use Rattle.sc_calm_scenes_law.specs.Definitions.{BesideFinds}
+use Rattle.sc_calm_scenes_law.proofs.Lemmas.{IsQuestion}
 use Rattle.std.proofs.lemmas.Option.{same_Some}
 use Rattle.sc_calm_answers_law.proofs.TrueSending.{IsOther, IsTo, only_each}
-use Rattle.sc_paxos_law.proofs.Among.{Among-either}
+use Rattle.sc_paxos_law.proofs.Lemmas.{Among-either}
 
 -- ---- lists
 

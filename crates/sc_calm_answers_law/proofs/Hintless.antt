@@ -1,29 +1,24 @@
 -- An order that is told in a quiet front asks nobody yet; and one that is to ask elsewhere is told whom.
 use Rattle.std.proofs.Common.{◌≡◌, ◌∷◌, Some, inl, inr, refl, sym, ◌∙◌, ap, subst}
-use Rattle.sc_base.specs.Among.{Among}
-use Rattle.sc_base.specs.declared.names.Draw.{Draw}
-use Rattle.sc_actor.specs.declared.rows.Event.TheVariants.{Deliver, Told}
-use Rattle.sc_actor.specs.System.{row_of}
-use Rattle.sc_mail.specs.declared.bodies.Mail.{Mail}
-use Rattle.sc_orderly_law.proofs.InTime.{last_in_time}
-use Rattle.sc_sound.specs.Players.{as_nodes, births, player_table}
-use Rattle.sc_calm_law.specs.Charts.{players}
-use Rattle.sc_calm_orders_law.specs.Parts.{errand_by}
-use Rattle.sc_calm_orders_law.specs.Scenes.{Elsewhere, Here, Unbound}
-use Rattle.sc_calm_orders_law.specs.Stages.{Asks, Closes, ClosesBoth, IsAt, Ordered, Recorded, Replied, SentOn, Stage, Still, Weighs}
-use Rattle.sc_calm_orders_law.proofs.Lists.{among-right}
-use Rattle.sc_calm_rows_law.specs.Turns.{with_event}
-use Rattle.sc_calm_scenes_law.specs.Kept.{StageAfter}
-use Rattle.sc_calm_scenes_law.specs.Scenes.{left_after, scene_at}
-use Rattle.sc_calm_scenes_law.proofs.Found.{found_step}
-use Rattle.sc_calm_scenes_law.proofs.Left.{takes_one}
-use Rattle.sc_calm_scenes_law.proofs.Turning.{calm_is}
-use Rattle.sc_calm_answers_law.specs.TrueHinted.{CoordinatorsAreHinted, HintedOrdersBegin, IsHinted}
+use Rattle.sc_base.specs.Definitions.{Among}
+use Rattle.sc_node_table.specs.Values.{Draw, Deliver, Mail}
+use Rattle.sc_actor.specs.declared.rows.Event.TheVariants.{Told}
+use Rattle.sc_actor.specs.Definitions.{row_of}
+use Rattle.sc_orderly_law.proofs.Lemmas.{last_in_time}
+use Rattle.sc_sound.specs.Definitions.{as_nodes, births, player_table}
+use Rattle.sc_calm_law.specs.Definitions.{players}
+use Rattle.sc_calm_orders_law.specs.Definitions.{errand_by, Elsewhere, Here, Unbound, Asks, Closes, ClosesBoth, IsAt, Ordered, Recorded, Replied, SentOn, Stage, Still, Weighs}
+use Rattle.sc_calm_orders_law.proofs.Lemmas.{among-right}
+use Rattle.sc_calm_rows_law.specs.Definitions.{with_event}
+use Rattle.sc_calm_scenes_law.specs.Definitions.{StageAfter, left_after, scene_at}
+use Rattle.sc_calm_scenes_law.proofs.Lemmas.{found_step, takes_one, calm_is}
+use Rattle.sc_calm_answers_law.specs.Definitions.{CoordinatorsAreHinted, HintedOrdersBegin, IsHinted}
 use Rattle.sc_calm_answers_law.proofs.TrueBeginning.{begun_so, ordered_unbound, still_unbound}
 use Rattle.sc_calm_answers_law.proofs.Hinting.{errand_there}
 use Rattle.sc_calm_answers_law.proofs.Pending.{elsewhere_at}
 use Rattle.sc_calm_answers_law.proofs.Opened.{no_asking}
 
+-- Since a quiet journal each question of an order goes to a node that has a replica of its group, and one that sends it on names such a node: an order that is told asks nobody yet.
 pub hinted_begin : HintedOrdersBegin
 hinted_begin words scenario quiet seat line stage t stands = by stage stands
   where
@@ -53,6 +48,7 @@ hinted_begin words scenario quiet seat line stage t stands = by stage stands
 some_mail : (one other : Mail) → Some one ≡ Some other → one ≡ other
 some_mail one other e = cc
 
+-- So a coordinator that is to ask elsewhere is told whom.
 pub coordinators_hinted : CoordinatorsAreHinted
 coordinators_hinted words scenario first journal quiet rows seat number mail group node r stage tx coord hint t hinted body =
     let all = births as_nodes scenario in

@@ -1,43 +1,27 @@
 -- Whom a question goes to has a replica, and whom a replica of its group names that does not lead.
 use Rattle.std.proofs.Common.{◌≡◌, ℕ, Bool, true, List, [], ◌∷◌, ◌++◌, Option, Some, inl, inr, refl, sym, ◌∙◌, ap, subst, append_assoc}
 use Rattle.std.proofs.lemmas.Bool.{cases_eq}
-use Rattle.sc_base.specs.Among.{Among}
-use Rattle.sc_base.specs.declared.names.Draw.{Draw}
-use Rattle.sc_actor.specs.declared.actors.Seat.{Seat}
-use Rattle.sc_actor.specs.declared.rows.Event.TheVariants.{Deliver}
-use Rattle.sc_actor.specs.System.{row_of}
-use Rattle.sc_cmd.specs.declared.commands.Command.{Command}
-use Rattle.sc_cmd.specs.declared.cores.Base.{Base}
-use Rattle.sc_machine_table.specs.Group.{Group}
-use Rattle.sc_machine_table.specs.Logs.{state_after}
-use Rattle.sc_mail.specs.declared.bodies.MailBody.{MailBody}
-use Rattle.sc_mail.specs.declared.bodies.MailBody.TheVariants.{Accepted, TxElsewhere}
-use Rattle.sc_base.specs.Roster.{least_of}
-use Rattle.sc_node_table.specs.Node.{group_of_mail}
-use Rattle.sc_node_table.specs.Replica.{ReplicaState}
-use Rattle.sc_paxos_words.specs.declared.flights.Flight.{Flight}
+use Rattle.sc_base.specs.Definitions.{Among, least_of}
+use Rattle.sc_node_table.specs.Values.{Draw, Seat, Deliver, Command, Base, MailBody, Accepted, TxElsewhere, Flight}
+use Rattle.sc_actor.specs.Definitions.{row_of}
+use Rattle.sc_machine_table.specs.Definitions.{Group, state_after}
+use Rattle.sc_node_table.specs.Definitions.{group_of_mail, ReplicaState}
 use Rattle.sc_scenario.specs.declared.scenarios.Scenario.{Scenario}
-use Rattle.sc_sound.specs.Players.{Player, as_nodes, births, player_table}
-use Rattle.sc_budget_law.specs.AskingQuiet.{replicas_after}
-use Rattle.sc_calm_law.specs.Quiet.{HasReplica}
-use Rattle.sc_calm_law.specs.Totals.{Rows}
-use Rattle.sc_calm_orders_law.specs.Parts.{errands_for, work_by, works}
-use Rattle.sc_calm_orders_law.specs.Scenes.{Errand, Here, Question, Work, is_watch}
-use Rattle.sc_calm_orders_law.specs.Stages.{Asks, Deal, IsAt, Stage}
-use Rattle.sc_calm_rows_law.specs.Groups.{view_at}
-use Rattle.sc_calm_rows_law.specs.Turns.{with_event}
-use Rattle.sc_calm_rows_law.proofs.Viewing.{view_others}
-use Rattle.sc_calm_scenes_law.specs.Scenes.{left_after, scene_at}
-use Rattle.sc_calm_answers_law.specs.Deeds.{AreDeeds, Doer, HasDone}
-use Rattle.sc_calm_answers_law.specs.TrueGoing.{GoesOnSince}
-use Rattle.sc_calm_answers_law.specs.Told.{ReplicasTell}
+use Rattle.sc_sound.specs.Definitions.{Player, as_nodes, births, player_table}
+use Rattle.sc_budget_law.specs.Definitions.{replicas_after}
+use Rattle.sc_calm_law.specs.Definitions.{HasReplica, Rows}
+use Rattle.sc_calm_orders_law.specs.Definitions.{errands_for, work_by, works, Errand, Here, Question, Work, is_watch, Asks, Deal, IsAt, Stage}
+use Rattle.sc_calm_rows_law.specs.Definitions.{view_at, with_event}
+use Rattle.sc_calm_rows_law.proofs.Lemmas.{view_others}
+use Rattle.sc_calm_scenes_law.specs.Definitions.{left_after, scene_at}
+use Rattle.sc_calm_answers_law.specs.Definitions.{AreDeeds, Doer, HasDone, GoesOnSince, ReplicasTell}
 use Rattle.sc_calm_answers_law.proofs.TrueAsking.{Nothing, Sending, Sends, errand_was, errands_are, leader_row, one}
 use Rattle.sc_calm_answers_law.proofs.Doers.{lead_works, one_not_none}
 use Rattle.sc_calm_answers_law.proofs.Pending.{question_at}
 use Rattle.sc_calm_answers_law.proofs.TrueQuiet.{link_least}
 use Rattle.sc_calm_answers_law.proofs.TrueSending.{AsksOn, Enters, IsSending, Mute}
 use Rattle.sc_calm_answers_law.proofs.Since.{led_first}
-use Rattle.sc_paxos_law.proofs.Among.{Among-either}
+use Rattle.sc_paxos_law.proofs.Lemmas.{Among-either}
 
 pub no_deeds : (entries : List Command) (group made : Group) → AreDeeds [] entries → made ≡ state_after group entries → made ≡ group
 no_deeds [] group made are e = e

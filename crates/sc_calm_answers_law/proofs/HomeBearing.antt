@@ -3,51 +3,30 @@ use Rattle.std.proofs.Common.{◌≡◌, ℕ, ◌<◌, ◌≤◌, ◌&&◌, Bool
 use Rattle.std.specs.FinMap.{entries}
 use Rattle.std.specs.Option.{option_map}
 use Rattle.std.proofs.lemmas.Bool.{cond_both}
-use Rattle.sc_base.specs.Among.{Among, Each}
-use Rattle.sc_base.specs.Same.{same_draw}
-use Rattle.sc_base.specs.declared.names.Draw.{Draw}
-use Rattle.sc_cmd.specs.Cores.{is_alone}
-use Rattle.sc_cmd.specs.declared.bodies.Body.{Body}
+use Rattle.sc_base.specs.Definitions.{Among, Each, same_draw}
+use Rattle.sc_node_table.specs.Values.{Draw, Body, Command, Split, RecordWatch, Base, Lock, Free, Coordinating, Promised, Watching, Route, Order, OrderLine, OrderRefusal, Past}
+use Rattle.sc_cmd.specs.Definitions.{is_alone}
 use Rattle.sc_cmd.specs.declared.bodies.Body.TheVariants as By
-use Rattle.sc_cmd.specs.declared.commands.Command.{Command}
-use Rattle.sc_cmd.specs.declared.commands.Command.TheVariants.{Split, RecordWatch}
-use Rattle.sc_cmd.specs.declared.cores.Base.{Base}
-use Rattle.sc_cmd.specs.declared.cores.Lock.{Lock}
-use Rattle.sc_cmd.specs.declared.cores.Lock.TheVariants.{Free, Coordinating, Promised, Watching}
-use Rattle.sc_cmd.specs.declared.links.Route.{Route}
-use Rattle.sc_cmd.specs.declared.orders.Order.{Order}
 use Rattle.sc_cmd.specs.declared.orders.Order.TheVariants as An
-use Rattle.sc_cmd.specs.declared.orders.OrderLine.{OrderLine}
-use Rattle.sc_cmd.specs.declared.orders.OrderRefusal.{OrderRefusal}
-use Rattle.sc_cmd.specs.declared.votes.Past.{Past}
 use Rattle.sc_cmd.specs.declared.votes.Past.TheVariants as Cast
-use Rattle.sc_machine_table.specs.Children.{ordered_child, released_child, answered_child, watched_child, child_by}
-use Rattle.sc_machine_table.specs.Group.{Group}
-use Rattle.sc_machine_table.specs.Machine.{applied}
-use Rattle.sc_machine_table.specs.Orders.{refusal_of}
-use Rattle.sc_machine_table.specs.Plans.{can_split}
-use Rattle.sc_machine_table.specs.Splits.{staying, child_of, has_named}
-use Rattle.sc_log_entries.specs.Births.{birth_of}
-use Rattle.sc_log_entries.proofs.Children.{births_are_children}
-use Rattle.sc_node_table.specs.Ordering.{ordered_command}
-use Rattle.sc_node_table.specs.Policy.{is_at_rest, policy_line, wished_line}
-use Rattle.sc_node_table.specs.Replica.{ReplicaState}
+use Rattle.sc_machine_table.specs.Definitions.{ordered_child, released_child, answered_child, watched_child, child_by, Group, applied, refusal_of, can_split, staying, child_of, has_named}
+use Rattle.sc_log_entries.specs.Definitions.{birth_of}
+use Rattle.sc_log_entries.proofs.Lemmas.{births_are_children}
+use Rattle.sc_node_table.specs.Definitions.{ordered_command, is_at_rest, policy_line, wished_line, ReplicaState}
 use Rattle.sc_policy.specs.declared.bodies.Body0.{Body0}
 use Rattle.sc_policy.specs.declared.bodies.Body0.TheVariants as Wants
-use Rattle.sc_policy.specs.Wishes.{wished, order_of, wished_order}
-use Rattle.sc_paxos_words.proofs.ListLemmas.{Each-from_All}
-use Rattle.sc_paxos_law.proofs.Among.{Among-either}
-use Rattle.sc_scenario.specs.Groups.{group_at, base_at, bases_up_to}
-use Rattle.sc_scenario.specs.Valid.{IsUpTo, IsBounded, IsBoundedGroup, IsBoundedLine, IsBoundedOrder}
+use Rattle.sc_policy.specs.Definitions.{wished, order_of, wished_order}
+use Rattle.sc_paxos_words.proofs.Lemmas.{Each-from_All}
+use Rattle.sc_paxos_law.proofs.Lemmas.{Among-either}
+use Rattle.sc_scenario.specs.Definitions.{group_at, base_at, bases_up_to, IsUpTo, IsBounded, IsBoundedGroup, IsBoundedLine, IsBoundedOrder}
 use Rattle.sc_scenario.specs.declared.drafts.GroupLine.{GroupLine}
 use Rattle.sc_scenario.specs.declared.scenarios.Asks.{Asks}
 use Rattle.sc_scenario.specs.declared.scenarios.Scenario.{Scenario}
 use Rattle.sc_scenario.specs.declared.scenarios.SchedLine.{SchedLine}
 use Rattle.sc_scenario.specs.declared.scenarios.SchedLine.TheVariants as scheduled
-use Rattle.sc_sound.specs.GroupsOf.{children_of}
-use Rattle.sc_sound.specs.Players.{line_of}
-use Rattle.sc_names_law.proofs.Lists.{Each-drop}
-use Rattle.sc_group_law.proofs.Orders.{TellsSo}
+use Rattle.sc_sound.specs.Definitions.{children_of, line_of}
+use Rattle.sc_names_law.proofs.Lemmas.{Each-drop}
+use Rattle.sc_group_law.proofs.Lemmas.{TellsSo}
 use Rattle.sc_calm_answers_law.proofs.HomeNodes.{BringsNodes, HasNodes, nodes_stay_nodes}
 
 module _ (scenario : Scenario) where

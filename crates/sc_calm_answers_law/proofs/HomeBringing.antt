@@ -1,54 +1,27 @@
 -- Each entry of a group's log brings nodes of the scenario, row by row of a lawful journal of a valid scenario.
 use Rattle.std.proofs.Common.{◌≡◌, ℕ, Bool, List, [], ◌∷◌, ◌++◌, length, drop, inl, inr, refl, sym, ◌∙◌, ap, subst, append_assoc, append-nil}
-use Rattle.sc_base.specs.Among.{Among, Each}
-use Rattle.sc_base.specs.Drawing.{Drawer, next_name}
-use Rattle.sc_cmd.specs.declared.commands.Command.{Command}
-use Rattle.sc_cmd.specs.declared.cores.Base.{Base}
-use Rattle.sc_cmd.specs.declared.links.Route.{Route}
-use Rattle.sc_cmd.specs.declared.orders.OrderLine.{OrderLine}
-use Rattle.sc_mail.specs.declared.bodies.Mail.{Mail}
-use Rattle.sc_mail.specs.declared.bodies.MailBody.{MailBody}
-use Rattle.sc_actor.specs.declared.rows.Event.{Event}
-use Rattle.sc_actor.specs.declared.rows.Event.TheVariants.{Deliver, Tick, Go, Told, Crash, Drop, Again}
-use Rattle.sc_actor.specs.declared.rows.Row.{Row}
-use Rattle.sc_actor.specs.Steps.{IsStep}
-use Rattle.sc_actor.proofs.Induction.{lawful-induction}
-use Rattle.sc_machine_table.specs.Group.{group_of}
-use Rattle.sc_machine_table.specs.Logs.{state_after}
-use Rattle.sc_log_entries.proofs.Children.{births_are_children}
-use Rattle.sc_node_table.specs.Policy.{names_after_tick}
-use Rattle.sc_node_table.specs.Reminders.{waited_in}
-use Rattle.sc_node_table.specs.Replica.{ReplicaState}
-use Rattle.sc_paxos_words.proofs.ListLemmas.{Each-among, Each-append, Each-from_All}
-use Rattle.sc_paxos_law.proofs.Among.{Among-right}
-use Rattle.sc_scenario.specs.Valid.{IsBounded, IsBoundedLine, IsUpTo}
+use Rattle.sc_base.specs.Definitions.{Among, Each, Drawer, next_name}
+use Rattle.sc_node_table.specs.Values.{Command, Base, Route, OrderLine, Mail, MailBody, Event, Deliver, Tick, Go, Crash, Drop, Again, Row}
+use Rattle.sc_actor.specs.declared.rows.Event.TheVariants.{Told}
+use Rattle.sc_actor.specs.Definitions.{IsStep}
+use Rattle.sc_actor.proofs.Lemmas.{lawful-induction}
+use Rattle.sc_machine_table.specs.Definitions.{group_of, state_after}
+use Rattle.sc_log_entries.proofs.Lemmas.{births_are_children}
+use Rattle.sc_node_table.specs.Definitions.{names_after_tick, waited_in, ReplicaState}
+use Rattle.sc_paxos_words.proofs.Lemmas.{Each-among, Each-append, Each-from_All}
+use Rattle.sc_paxos_law.proofs.Lemmas.{Among-right}
+use Rattle.sc_scenario.specs.Definitions.{IsBounded, IsBoundedLine, IsUpTo}
 use Rattle.sc_scenario.specs.declared.scenarios.Scenario.{Scenario}
-use Rattle.sc_sound.specs.GroupsOf.{groups_at, birth_at}
-use Rattle.sc_sound.specs.Logs.{decided_log, decided_state}
-use Rattle.sc_sound.specs.Players.{Ahead, Lawful, schedule, system_of}
-use Rattle.sc_ring_law.specs.Allowed.{Sources}
-use Rattle.sc_ring_law.proofs.Finds.{some_none}
-use Rattle.sc_log_law.specs.Descent.{Rows, added_by}
-use Rattle.sc_log_law.specs.Findings.{AreFound, IsNewborn}
-use Rattle.sc_log_law.specs.InTurn.{DecidesInTurn}
-use Rattle.sc_log_law.proofs.Findings.{groups_are_found, groups_are_old_or_new}
-use Rattle.sc_log_law.proofs.Histories.{told_rows_stay}
-use Rattle.sc_log_law.proofs.Parts.{in_turn_parts}
-use Rattle.sc_names_law.proofs.Lists.{Each-drop}
-use Rattle.sc_group_law.proofs.Births.{at_start, first_of}
-use Rattle.sc_group_law.proofs.Families.{h_of, Kept, IsLater, Moved, push, decided_made, entry_offered}
-use Rattle.sc_group_law.proofs.Lists.{each_got}
-use Rattle.sc_group_law.proofs.Orders.{IsToldSo, told_induction}
-use Rattle.sc_group_law.proofs.Stepping.{HasPlayers, MayTell, KnowsOffspring, moved}
-use Rattle.sc_group_law.proofs.Ticks.{MayTick}
-use Rattle.sc_whole_law.specs.Begins.{BeginsWell}
-use Rattle.sc_whole_law.specs.Orders.{OrdersAreAllowed}
-use Rattle.sc_whole_law.proofs.Apart.{IsNew, IsOldOrNew}
-use Rattle.sc_whole_law.proofs.Fronts.{goes_on_from}
-use Rattle.sc_whole_law.proofs.Growing.{grown}
-use Rattle.sc_whole_law.proofs.Members.{members_stay_rosters}
-use Rattle.sc_whole_law.proofs.Turning.{Holds}
-use Rattle.sc_calm_logs_law.proofs.Journals.{front}
+use Rattle.sc_sound.specs.Definitions.{groups_at, birth_at, decided_log, decided_state, Ahead, Lawful, schedule, system_of}
+use Rattle.sc_ring_law.specs.Definitions.{Sources}
+use Rattle.sc_ring_law.proofs.Lemmas.{some_none}
+use Rattle.sc_log_law.specs.Definitions.{Rows, added_by, AreFound, IsNewborn, DecidesInTurn}
+use Rattle.sc_log_law.proofs.Lemmas.{groups_are_found, groups_are_old_or_new, told_rows_stay, in_turn_parts}
+use Rattle.sc_names_law.proofs.Lemmas.{Each-drop}
+use Rattle.sc_group_law.proofs.Lemmas.{at_start, first_of, h_of, Kept, IsLater, Moved, push, decided_made, entry_offered, each_got, IsToldSo, told_induction, HasPlayers, MayTell, KnowsOffspring, moved, MayTick}
+use Rattle.sc_whole_law.specs.Definitions.{BeginsWell, OrdersAreAllowed}
+use Rattle.sc_whole_law.proofs.Lemmas.{IsNew, IsOldOrNew, goes_on_from, grown, members_stay_rosters, Holds}
+use Rattle.sc_calm_logs_law.proofs.Lemmas.{front}
 use Rattle.sc_calm_answers_law.proofs.HomeNodes.{BringsNodes, HasNodes, SaysNodes, log_nodes}
 use Rattle.sc_calm_answers_law.proofs.HomeNaming.{says_nodes}
 use Rattle.sc_calm_answers_law.proofs.HomeBearing.{first_nodes, OrdersNodes, lines_nodes, wishes_nodes, children_nodes}

@@ -1,59 +1,22 @@
 -- The members of a group stay such nodes, whatever it executes that brings such nodes.
 use Rattle.std.proofs.Common.{◌≡◌, ℕ, ◌-◌, ◌&&◌, not, nat_lt, nat_le, eqb, true, List, [], ◌∷◌, filter, take, zero, suc, length, Option, Some, None, refl, sym, subst}
 use Rattle.std.proofs.lemmas.Bool.{cond_both, and_parts}
-use Rattle.sc_base.specs.Among.{Each}
-use Rattle.sc_base.specs.Same.{same_draw}
-use Rattle.sc_base.specs.declared.names.Draw.{Draw}
-use Rattle.sc_base.specs.Arc.{holds}
-use Rattle.sc_base.specs.declared.ops.Noted.{Noted}
-use Rattle.sc_base.specs.declared.ops.Op.{Op}
-use Rattle.sc_ideal.specs.IdealStore.{key_of, holds_key}
+use Rattle.sc_base.specs.Definitions.{Each, same_draw, holds, is_member, with_member, with_any, united}
+use Rattle.sc_node_table.specs.Values.{Draw, Noted, Op, Body, Offer, Command, Noop, Call, Join, Leave, Split, Begin, Prepared, RecordVote, GiveUp, Finish, Watched, RecordWatch, Lock, Free, Coordinating, Promised, Watching, Effect, Route, OrderRefusal, Frozen, Gift, Heard, No, Outcome, Abort, Merged, Moved, Migrated, Divided, Past, Vote, Core, MailBody, TxVote, TxOutcome, Base}
+use Rattle.sc_ideal.specs.Definitions.{key_of, holds_key}
 use Rattle.std.specs.FinMap.{get}
-use Rattle.sc_cmd.specs.declared.bodies.Body.{Body}
 use Rattle.sc_cmd.specs.declared.bodies.Body.TheVariants as At
-use Rattle.sc_cmd.specs.declared.bodies.Offer.{Offer}
-use Rattle.sc_cmd.specs.declared.commands.Command.{Command}
-use Rattle.sc_cmd.specs.declared.commands.Command.TheVariants.{Noop, Call, Join, Leave, Split, Begin, Prepared, RecordVote, GiveUp, Finish, Watched, RecordWatch}
-use Rattle.sc_cmd.specs.declared.cores.Lock.{Lock}
-use Rattle.sc_cmd.specs.declared.cores.Lock.TheVariants.{Free, Coordinating, Promised, Watching}
-use Rattle.sc_cmd.specs.declared.effects.Effect.{Effect}
 use Rattle.sc_cmd.specs.declared.effects.Effect.TheVariants as Was
-use Rattle.sc_cmd.specs.declared.links.Route.{Route}
-use Rattle.sc_cmd.specs.declared.orders.OrderRefusal.{OrderRefusal}
-use Rattle.sc_cmd.specs.declared.votes.Frozen.{Frozen}
-use Rattle.sc_cmd.specs.declared.votes.Gift.{Gift}
-use Rattle.sc_cmd.specs.declared.votes.Heard.{Heard}
-use Rattle.sc_cmd.specs.declared.votes.No.{No}
-use Rattle.sc_cmd.specs.declared.votes.Outcome.{Outcome}
-use Rattle.sc_cmd.specs.declared.votes.Outcome.TheVariants.{Abort, Merged, Moved, Migrated, Divided}
-use Rattle.sc_cmd.specs.declared.votes.Past.{Past}
 use Rattle.sc_cmd.specs.declared.votes.Past.TheVariants as Cast
-use Rattle.sc_cmd.specs.declared.votes.Vote.{Vote}
 use Rattle.sc_cmd.specs.declared.votes.Vote.TheVariants as Says
-use Rattle.sc_cmd.specs.Cores.{is_alone}
-use Rattle.sc_cmd.specs.Effects.{decided_in}
-use Rattle.sc_machine_table.specs.Logs.{state_after}
-use Rattle.sc_base.specs.Roster.{is_member, with_member}
-use Rattle.sc_base.specs.Union.{with_any, united}
-use Rattle.sc_machine_table.specs.Group.{Group, group_of}
-use Rattle.sc_machine_table.specs.Machine.{served_by_note, served, called, ordered_by, split_group, applied}
-use Rattle.sc_machine_table.specs.Orders.{refusal_of, with_node, without_node}
-use Rattle.sc_machine_table.specs.Splits.{has_named, left_group, staying}
-use Rattle.sc_machine_table.specs.Plans.{Plan, can_cut, has_key_of, taken, taking_group, can_split, split_plan, may_merge, merge_plan, closing_plan, can_repart, giving_plan, taking_plan, repart_plan, can_migrate, migrate_plan}
-use Rattle.sc_machine_table.specs.Transactions.{begun_group, decided, committed, granted, participant_answered, asks_watcher, vote_recorded, released, watch_answered, watch_recorded, is_coordinating}
-use Rattle.sc_machine_table.specs.Votes.{has_voted, bound_by, voted_on}
-use Rattle.sc_machine_table.specs.Finishes.{can_gain, gained_group, lost_group, welcomed_group, moved, participant_after, settled_in, finished}
-use Rattle.sc_paxos_words.proofs.ListLemmas.{Each-among, Each-append, Each-filter}
-use Rattle.sc_paxos_law.proofs.Among.{member-among}
-use Rattle.sc_sound.specs.Logs.{decided_log}
-use Rattle.sc_group_law.proofs.Rosters.{ordered_if}
-use Rattle.sc_cmd.specs.declared.cores.Core.{Core}
-use Rattle.sc_mail.specs.declared.bodies.MailBody.{MailBody}
-use Rattle.sc_mail.specs.declared.bodies.MailBody.TheVariants.{TxVote, TxOutcome}
-use Rattle.sc_cmd.specs.declared.cores.Base.{Base}
-use Rattle.sc_sound.specs.Players.{Ahead}
-use Rattle.sc_log_law.specs.Descent.{Rows}
-use Rattle.sc_calm_logs_law.specs.Logged.{logged_sets}
+use Rattle.sc_cmd.specs.Definitions.{is_alone, decided_in}
+use Rattle.sc_machine_table.specs.Definitions.{state_after, Group, group_of, served_by_note, served, called, ordered_by, split_group, applied, refusal_of, with_node, without_node, has_named, left_group, staying, Plan, can_cut, has_key_of, taken, taking_group, can_split, split_plan, may_merge, merge_plan, closing_plan, can_repart, giving_plan, taking_plan, repart_plan, can_migrate, migrate_plan, begun_group, decided, committed, granted, participant_answered, asks_watcher, vote_recorded, released, watch_answered, watch_recorded, is_coordinating, has_voted, bound_by, voted_on, can_gain, gained_group, lost_group, welcomed_group, moved, participant_after, settled_in, finished}
+use Rattle.sc_paxos_words.proofs.Lemmas.{Each-among, Each-append, Each-filter}
+use Rattle.sc_paxos_law.proofs.Lemmas.{member-among}
+use Rattle.sc_sound.specs.Definitions.{decided_log, Ahead}
+use Rattle.sc_group_law.proofs.Lemmas.{ordered_if}
+use Rattle.sc_log_law.specs.Definitions.{Rows}
+use Rattle.sc_calm_logs_law.specs.Definitions.{logged_sets}
 
 module _ (Home : ℕ → Type 0) where
   -- each of these is a node

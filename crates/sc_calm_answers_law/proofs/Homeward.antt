@@ -1,41 +1,25 @@
 -- Refusals go to nodes, which alone ask to promise or to accept; and errands that go to nodes go to players.
 use Rattle.std.proofs.Common.{◌≡◌, ℕ, eqb, List, [], ◌∷◌, ◌++◌, map, find, Option, Some, None, inl, inr, refl, sym, subst, arith}
 use Rattle.std.specs.Option.{option_map}
-use Rattle.sc_base.specs.Among.{Each}
-use Rattle.sc_base.specs.declared.names.Ballot.{Ballot}
-use Rattle.sc_base.specs.declared.names.Draw.{Draw}
-use Rattle.sc_cmd.specs.declared.commands.Command.{Command}
-use Rattle.sc_cmd.specs.declared.orders.OrderLine.{OrderLine}
-use Rattle.sc_mail.specs.declared.bodies.Mail.{Mail}
-use Rattle.sc_mail.specs.declared.bodies.MailBody.{MailBody}
-use Rattle.sc_mail.specs.declared.bodies.MailBody.TheVariants.{Request}
-use Rattle.sc_mail.specs.declared.roles.Role.TheVariants.{Node, Client}
-use Rattle.sc_actor.specs.declared.actors.Seat.{Seat}
-use Rattle.sc_actor.specs.declared.rows.Event.{Event}
-use Rattle.sc_actor.specs.declared.rows.Event.TheVariants.{Deliver, Tick as TickEvent, Go, Told, Crash, Drop, Again}
-use Rattle.sc_actor.specs.declared.rows.Input.TheVariants.{Got, Go as GoInput, Told as ToldInput}
-use Rattle.sc_actor.specs.declared.rows.Row.{Row}
-use Rattle.sc_actor.specs.Mail.{mails, numbered}
-use Rattle.sc_actor.specs.Replay.{value, acted}
-use Rattle.sc_actor.specs.System.{row_of}
-use Rattle.sc_actor.proofs.ReplayLemmas.{mails-snoc}
-use Rattle.sc_group_law.proofs.RowSteps.{number_among}
-use Rattle.sc_orderly_law.specs.Orderly.{IsCalmEvent}
-use Rattle.sc_orderly_law.specs.Timely.{AreInTime}
-use Rattle.sc_orderly_law.proofs.InTime.{by_time, in_time_before, last_in_time}
-use Rattle.sc_orderly_law.proofs.Resting.{is_born-from}
-use Rattle.sc_paxos_law.proofs.Among.{Among-either}
-use Rattle.sc_paxos_words.specs.Acceptors.{AcceptorState}
-use Rattle.sc_paxos_words.proofs.ListLemmas.{Each-among, Each-append, Each-weaker, find_found}
+use Rattle.sc_base.specs.Definitions.{Each}
+use Rattle.sc_node_table.specs.Values.{Ballot, Draw, Command, OrderLine, Mail, MailBody, Request, Node, Client, Seat, Event, Deliver, Tick as TickEvent, Go, Crash, Drop, Again, Got, Row}
+use Rattle.sc_actor.specs.declared.rows.Event.TheVariants.{Told}
+use Rattle.sc_actor.specs.declared.rows.Input.TheVariants.{Go as GoInput, Told as ToldInput}
+use Rattle.sc_actor.specs.Definitions.{mails, numbered, value, acted, row_of}
+use Rattle.sc_actor.proofs.Lemmas.{mails-snoc}
+use Rattle.sc_group_law.proofs.Lemmas.{number_among}
+use Rattle.sc_orderly_law.specs.Definitions.{IsCalmEvent, AreInTime}
+use Rattle.sc_orderly_law.proofs.Lemmas.{by_time, in_time_before, last_in_time, is_born-from}
+use Rattle.sc_paxos_law.proofs.Lemmas.{Among-either}
+use Rattle.sc_paxos_words.specs.Definitions.{AcceptorState}
+use Rattle.sc_paxos_words.proofs.Lemmas.{Each-among, Each-append, Each-weaker, find_found}
 use Rattle.sc_scenario.specs.declared.scenarios.Scenario.{Scenario}
-use Rattle.sc_node_table.specs.Node.{NodeState}
-use Rattle.sc_node_table.specs.Slots.{numbers_from}
-use Rattle.sc_sound.specs.Players.{Player, player_table, node_seat, client_seats, births, as_nodes}
-use Rattle.sc_calm_law.specs.Charts.{players}
-use Rattle.sc_calm_law.specs.Totals.{Rows}
-use Rattle.sc_calm_rows_law.specs.Turns.{IsSeat}
-use Rattle.sc_calm_mail_law.specs.Posted.{IsClientsBody, IsPlayers, IsPosted, MailIsPosted}
-use Rattle.sc_calm_answers_law.specs.Homeward.{IsNodeOf, GoesHome, RefusesHome, RefusalsGoHome, HomewardGoesToActors}
+use Rattle.sc_node_table.specs.Definitions.{NodeState, numbers_from}
+use Rattle.sc_sound.specs.Definitions.{Player, player_table, node_seat, client_seats, births, as_nodes}
+use Rattle.sc_calm_law.specs.Definitions.{players, Rows}
+use Rattle.sc_calm_rows_law.specs.Definitions.{IsSeat}
+use Rattle.sc_calm_mail_law.specs.Definitions.{IsClientsBody, IsPlayers, IsPosted, MailIsPosted}
+use Rattle.sc_calm_answers_law.specs.Definitions.{IsNodeOf, GoesHome, RefusesHome, RefusalsGoHome, HomewardGoesToActors}
 use Rattle.sc_calm_answers_law.proofs.KnownFronts.{IsClient, client_among, node_among, seat_in}
 use Rattle.sc_calm_answers_law.proofs.Said.{IsRefusal, AreSaid}
 use Rattle.sc_calm_answers_law.proofs.SaidNodes.{input_said}
@@ -120,6 +104,7 @@ module _ (scenario : Scenario) where
 pub refusals_home : MailIsPosted → RefusalsGoHome
 refusals_home post_law words scenario rows timely = all_home scenario post_law words rows timely
 
+-- Errands that go to nodes go to players.
 pub homeward_actors : HomewardGoesToActors
 homeward_actors words scenario sent home =
     Each-weaker (GoesHome scenario) _ (λ mail goes entry errand. is_born-from (players words (births as_nodes scenario)) mail.to (node_seat as_nodes scenario.groups scenario.policy mail.to) (node_seated scenario mail.to (goes (entry, errand)))) sent home

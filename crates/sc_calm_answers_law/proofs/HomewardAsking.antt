@@ -1,51 +1,26 @@
 -- While clients ask alone no errand is sent, to whomever.
 use Rattle.std.proofs.Common.{◌≡◌, ℕ, ◌≤◌, eqb, List, [], ◌∷◌, ◌++◌, find, Option, Some, None, inl, inr, refl, sym, ◌∙◌, ap, subst, append_assoc}
-use Rattle.sc_base.specs.Among.{Each}
-use Rattle.sc_base.specs.declared.names.Draw.{Draw}
-use Rattle.sc_cmd.specs.declared.cores.Base.{Base}
-use Rattle.sc_cmd.specs.declared.orders.OrderLine.{OrderLine}
-use Rattle.sc_mail.specs.declared.bodies.Mail.{Mail}
-use Rattle.sc_mail.specs.declared.bodies.MailBody.{MailBody}
-use Rattle.sc_mail.specs.declared.bodies.MailBody.TheVariants.{Request, Answer, Accept, Accepted, Learn}
-use Rattle.sc_mail.specs.declared.roles.Role.TheVariants.{Client}
-use Rattle.sc_actor.specs.declared.actors.Seat.{Seat}
-use Rattle.sc_actor.specs.declared.rows.Event.{Event}
-use Rattle.sc_actor.specs.declared.rows.Event.TheVariants.{Deliver, Tick, Go, Told, Crash, Drop, Again}
-use Rattle.sc_actor.specs.declared.rows.Input.{Input}
-use Rattle.sc_actor.specs.declared.rows.Input.TheVariants.{Got, Go as GoInput}
-use Rattle.sc_actor.specs.declared.rows.Row.{Row}
-use Rattle.sc_actor.specs.Mail.{mails}
-use Rattle.sc_actor.specs.Replay.{acted, input_of}
-use Rattle.sc_actor.specs.System.{row_of}
-use Rattle.sc_actor.proofs.ReplayLemmas.{mails-snoc}
-use Rattle.sc_client_table.specs.Client.{Client as ClientState}
-use Rattle.sc_client_table.specs.Table.{table}
-use Rattle.sc_node_table.specs.Node.{node_table}
-use Rattle.sc_orderly_law.specs.Orderly.{IsInOrder, IsOrderly, IsTidy}
-use Rattle.sc_paxos_words.proofs.ListLemmas.{Each-append, Each-weaker}
-use Rattle.sc_scenario.specs.Valid.{ValidScenariosAreBounded}
+use Rattle.sc_base.specs.Definitions.{Each}
+use Rattle.sc_node_table.specs.Values.{Draw, Base, OrderLine, Mail, MailBody, Request, Answer, Accept, Accepted, Learn, Client, Seat, Event, Deliver, Tick, Go, Crash, Drop, Again, Input, Got, Row}
+use Rattle.sc_actor.specs.declared.rows.Event.TheVariants.{Told}
+use Rattle.sc_actor.specs.declared.rows.Input.TheVariants.{Go as GoInput}
+use Rattle.sc_actor.specs.Definitions.{mails, acted, input_of, row_of}
+use Rattle.sc_actor.proofs.Lemmas.{mails-snoc}
+use Rattle.sc_client_table.specs.Definitions.{Client as ClientState, table}
+use Rattle.sc_node_table.specs.Definitions.{node_table}
+use Rattle.sc_orderly_law.specs.Definitions.{IsInOrder, IsOrderly, IsTidy}
+use Rattle.sc_paxos_words.proofs.Lemmas.{Each-append, Each-weaker}
+use Rattle.sc_scenario.specs.Definitions.{ValidScenariosAreBounded}
 use Rattle.sc_scenario.specs.declared.scenarios.Asks.{Asks}
 use Rattle.sc_scenario.specs.declared.scenarios.Scenario.{Scenario}
-use Rattle.sc_sound.specs.Players.{Player, player_table, births, node_seat, client_seat, route_of, system_of, as_nodes}
-use Rattle.sc_calm_law.specs.Totals.{Rows}
-use Rattle.sc_calm_orders_law.specs.Parts.{errand_by}
-use Rattle.sc_calm_orders_law.specs.Scenes.{Errand}
-use Rattle.sc_calm_mail_law.proofs.Clients.{IsRequestOf, clients_ask}
-use Rattle.sc_budget_law.specs.Asking.{IsAsking, AreFarFromLast}
-use Rattle.sc_budget_law.specs.AskingQuiet.{QuietJournalsAsk}
-use Rattle.sc_budget_law.specs.CalmNode.{Setting, IsSetting, IsAsideBody, IsCalmMail, NodesStayCalm}
-use Rattle.sc_budget_law.specs.Frames.{Frame}
-use Rattle.sc_budget_law.specs.PlainClient.{IsBegun}
-use Rattle.sc_budget_law.specs.PlainMail.{Requests, IsPlainBody}
+use Rattle.sc_sound.specs.Definitions.{Player, player_table, births, node_seat, client_seat, route_of, system_of, as_nodes}
+use Rattle.sc_calm_law.specs.Definitions.{Rows}
+use Rattle.sc_calm_orders_law.specs.Definitions.{errand_by, Errand}
+use Rattle.sc_calm_mail_law.proofs.Lemmas.{IsRequestOf, clients_ask}
+use Rattle.sc_budget_law.specs.Definitions.{IsAsking, AreFarFromLast, QuietJournalsAsk, Setting, IsSetting, IsAsideBody, IsCalmMail, NodesStayCalm, Frame, IsBegun, Requests, IsPlainBody}
 use Rattle.sc_budget_law.proofs.AskingTurns as turns_of
-use Rattle.sc_budget_law.proofs.BetweenStage.{IsStage, stage}
-use Rattle.sc_budget_law.proofs.BetweenWhole.{of_player}
-use Rattle.sc_calm_answers_law.specs.Cuts.{QuietGroupsHaveCuts}
-use Rattle.sc_calm_answers_law.specs.Homeward.{GoesHome, RequestsSendNoErrands}
-use Rattle.sc_calm_answers_law.specs.KeptRising.{ChartHintsRise}
-use Rattle.sc_calm_answers_law.specs.Requested.{setting_of}
-use Rattle.sc_calm_answers_law.specs.Round.{StandingGroupsAreRound}
-use Rattle.sc_calm_answers_law.specs.Settings.{QuietJournalsHaveFrames, QuietSettingsAreLinked}
+use Rattle.sc_budget_law.proofs.Lemmas.{IsStage, stage, of_player}
+use Rattle.sc_calm_answers_law.specs.Definitions.{QuietGroupsHaveCuts, GoesHome, RequestsSendNoErrands, ChartHintsRise, setting_of, StandingGroupsAreRound, QuietJournalsHaveFrames, QuietSettingsAreLinked}
 use Rattle.sc_calm_answers_law.proofs.Setting as quiet_of
 
 -- ---- mail

@@ -1,32 +1,19 @@
 -- Errands go to nodes after one row more, where an order is at a stage after it: one that it sends is under way then, and so for the node that is asked, or for one that leads.
 use Rattle.std.proofs.Common.{◌≡◌, ℕ, List, [], ◌∷◌, ◌++◌, ◌⊎◌, Some, None, inl, inr, refl, sym, ◌∙◌, ap, subst}
-use Rattle.sc_base.specs.Among.{Among, Each}
-use Rattle.sc_base.specs.declared.names.Draw.{Draw}
-use Rattle.sc_cmd.specs.declared.orders.OrderLine.{OrderLine}
-use Rattle.sc_mail.specs.declared.bodies.Mail.{Mail}
-use Rattle.sc_mail.specs.declared.bodies.MailBody.{MailBody}
-use Rattle.sc_mail.specs.declared.bodies.MailBody.TheVariants.{Request, Answer, Prepare, Promise, Accept, Accepted, Nack, Learn, Ask, Install, TxPrepare, TxVote, TxOutcome, TxElsewhere, TxWatch, TxWatched, Told}
-use Rattle.sc_actor.specs.declared.actors.Seat.{Seat}
-use Rattle.sc_actor.specs.declared.rows.Row.{Row}
-use Rattle.sc_actor.specs.Mail.{mails}
-use Rattle.sc_actor.specs.System.{numbers_of}
-use Rattle.sc_actor.proofs.ReplayLemmas.{mails-snoc}
-use Rattle.sc_paxos_words.proofs.ListLemmas.{Each-among, Each-append, Each-from, find_found}
+use Rattle.sc_base.specs.Definitions.{Among, Each}
+use Rattle.sc_node_table.specs.Values.{Draw, OrderLine, Mail, MailBody, Request, Answer, Prepare, Promise, Accept, Accepted, Nack, Learn, Ask, Install, TxPrepare, TxVote, TxOutcome, TxElsewhere, TxWatch, TxWatched, Told, Seat, Row}
+use Rattle.sc_actor.specs.Definitions.{mails, numbers_of}
+use Rattle.sc_actor.proofs.Lemmas.{mails-snoc}
+use Rattle.sc_paxos_words.proofs.Lemmas.{Each-among, Each-append, Each-from, find_found}
 use Rattle.sc_scenario.specs.declared.scenarios.Scenario.{Scenario}
-use Rattle.sc_sound.specs.Players.{Player, births, as_nodes}
-use Rattle.sc_calm_law.specs.Totals.{Rows}
-use Rattle.sc_calm_orders_law.specs.Parts.{errand_by}
-use Rattle.sc_calm_orders_law.specs.Scenes.{Errand, Question, Elsewhere, Reply, Result, Scene}
-use Rattle.sc_calm_orders_law.specs.Stages.{Deal, Stage, Still, Ordered, Asks, SentOn, Weighs, Replied, Recorded, Closes, ClosesBoth, closing, parties_of, leads_of, IsAt}
-use Rattle.sc_calm_orders_law.proofs.Lists.{among-right, found, tagged, tokens}
-use Rattle.sc_calm_orders_law.proofs.Moves.{closing-errand, errands_of, no-errand}
-use Rattle.sc_calm_rows_law.specs.Groups.{view_at}
-use Rattle.sc_calm_scenes_law.specs.Scenes.{is_running, left_after, scene_at}
-use Rattle.sc_calm_scenes_law.proofs.Left.{left_by, left_row}
-use Rattle.sc_calm_answers_law.specs.Homeward.{IsNodeOf, GoesHome, OrderedErrandsGoHome}
-use Rattle.sc_calm_answers_law.specs.Journal.{IsCalmJournal, IsFront}
-use Rattle.sc_calm_answers_law.specs.KnownFronts.{FrontsAreFound}
-use Rattle.sc_calm_answers_law.specs.TrueHinted.{IsHinted}
+use Rattle.sc_sound.specs.Definitions.{Player, births, as_nodes}
+use Rattle.sc_calm_law.specs.Definitions.{Rows}
+use Rattle.sc_calm_orders_law.specs.Definitions.{errand_by, Errand, Question, Elsewhere, Reply, Result, Scene, Deal, Stage, Still, Ordered, Asks, SentOn, Weighs, Replied, Recorded, Closes, ClosesBoth, closing, parties_of, leads_of, IsAt}
+use Rattle.sc_calm_orders_law.proofs.Lemmas.{among-right, found, tagged, tokens, closing-errand, errands_of, no-errand}
+use Rattle.sc_calm_rows_law.specs.Definitions.{view_at}
+use Rattle.sc_calm_scenes_law.specs.Definitions.{is_running, left_after, scene_at}
+use Rattle.sc_calm_scenes_law.proofs.Lemmas.{left_by, left_row}
+use Rattle.sc_calm_answers_law.specs.Definitions.{IsNodeOf, GoesHome, OrderedErrandsGoHome, IsCalmJournal, IsFront, FrontsAreFound, IsHinted}
 use Rattle.sc_calm_answers_law.proofs.Delivering.{runs_there}
 use Rattle.sc_calm_answers_law.proofs.Hinting.{errand_there}
 

@@ -2,62 +2,28 @@
 use Rattle.std.proofs.Common.{◌≡◌, ◌⊎◌, ℕ, suc, ◌+◌, ◌<◌, length, eqb, nat_lt, Bool, true, false, true≢false, List, [], ◌++◌, take, Option, Some, None, inl, inr, refl, sym, ◌∙◌, ap, subst, arith}
 use Rattle.std.specs.List.{list_any}
 use Rattle.std.proofs.lemmas.Bool.{cases_Bool, cond-false, eq-eqb, eqb-true}
-use Rattle.sc_base.specs.Among.{Among}
-use Rattle.sc_base.specs.Same.{same_ballot, same_draw}
-use Rattle.sc_base.specs.declared.names.Ballot.{Ballot}
-use Rattle.sc_base.specs.declared.names.Draw.{Draw}
-use Rattle.sc_cmd.specs.declared.commands.Command.{Command}
-use Rattle.sc_cmd.specs.declared.cores.Base.{Base}
-use Rattle.sc_cmd.specs.declared.orders.OrderLine.{OrderLine}
-use Rattle.sc_mail.specs.declared.bodies.Mail.{Mail}
-use Rattle.sc_mail.specs.declared.bodies.MailBody.{MailBody}
-use Rattle.sc_mail.specs.declared.bodies.MailBody.TheVariants.{Request, Answer, Prepare, Promise, Accept, Accepted, Nack, Learn, Ask, Install, TxPrepare, TxVote, TxOutcome, TxElsewhere, TxWatch, TxWatched, Told as ToldMail}
-use Rattle.sc_base.specs.Roster.{is_member}
-use Rattle.sc_actor.specs.Mail.{mails, numbered}
-use Rattle.sc_actor.specs.System.{row_of}
-use Rattle.sc_actor.specs.declared.actors.Seat.{Seat}
-use Rattle.sc_actor.specs.declared.rows.Event.TheVariants.{Deliver}
-use Rattle.sc_mail.specs.declared.roles.Role.TheVariants.{Node}
-use Rattle.sc_orderly_law.proofs.Resting.{is_born-from}
-use Rattle.sc_machine_table.specs.Children.{child_by}
-use Rattle.sc_machine_table.specs.Group.{Group, group_of}
-use Rattle.sc_machine_table.specs.Logs.{state_after}
-use Rattle.sc_machine_table.specs.Machine.{applied}
-use Rattle.sc_machine_table.specs.Splits.{right_members}
+use Rattle.sc_base.specs.Definitions.{Among, same_ballot, same_draw, is_member}
+use Rattle.sc_node_table.specs.Values.{Ballot, Draw, Command, Base, OrderLine, Mail, MailBody, Request, Answer, Prepare, Promise, Accept, Accepted, Nack, Learn, Ask, Install, TxPrepare, TxVote, TxOutcome, TxElsewhere, TxWatch, TxWatched, Told as ToldMail, Seat, Deliver, Node, NotYet}
+use Rattle.sc_actor.specs.Definitions.{mails, numbered, row_of}
+use Rattle.sc_orderly_law.proofs.Lemmas.{is_born-from}
+use Rattle.sc_machine_table.specs.Definitions.{child_by, Group, group_of, state_after, applied, right_members}
 use Rattle.sc_scenario.specs.declared.scenarios.Scenario.{Scenario}
-use Rattle.sc_node_table.specs.Execute.{child_at}
-use Rattle.sc_node_table.specs.Node.{group_of_mail}
-use Rattle.sc_node_table.specs.Replica.{ReplicaState, Executed, born_replica, next, last_slot, set_at, childless}
-use Rattle.sc_node_table.specs.Rows.{learn_row, mailed}
-use Rattle.sc_node_table.specs.Slots.{slots_ahead}
-use Rattle.sc_node_table.specs.Voting.{leads, vote_tallied, voted, accepted_row}
-use Rattle.sc_paxos_words.specs.Leaders.{flight_at}
-use Rattle.sc_paxos_words.specs.Votes.{counted, vote_at}
-use Rattle.sc_paxos_words.specs.declared.answers.Counted.TheVariants.{NotYet}
-use Rattle.sc_paxos_words.proofs.ListLemmas.{Each-among}
-use Rattle.sc_law_lemmas.proofs.Ways.{either_way}
-use Rattle.sc_sound.specs.GroupsOf.{groups_at}
-use Rattle.sc_sound.specs.Logs.{decided_log}
-use Rattle.sc_sound.specs.Players.{Player, player_table, births, as_nodes}
-use Rattle.sc_calm_law.specs.Charts.{players}
-use Rattle.sc_calm_law.specs.Quiet.{HasReplica}
-use Rattle.sc_calm_law.specs.Totals.{Rows}
-use Rattle.sc_calm_orders_law.proofs.Lists.{cases-draw}
-use Rattle.sc_calm_rows_law.specs.Groups.{view_at}
-use Rattle.sc_calm_rows_law.specs.Turns.{with_event}
-use Rattle.sc_calm_rows_law.specs.WellKept.{IsWellKept}
-use Rattle.sc_calm_rows_law.proofs.Viewing.{view_others}
-use Rattle.sc_calm_rows_law.proofs.WellNodes.{Plays, Found, found_well, replay_well}
-use Rattle.sc_calm_groups_law.specs.Through.{ScenariosAreWellBorn}
-use Rattle.sc_calm_scenes_law.specs.Found.{LeaderFinds, BesideFinds, FindsReplica, AtLeader, AtAnother, FindsFlight, Late, Leaves, Changed, Opened, Voted, Aborted, Decided, Heard, Ended}
-use Rattle.sc_calm_scenes_law.specs.Fresh.{IsThere, IsNowhere}
-use Rattle.sc_calm_scenes_law.proofs.Taking.{OneOf}
-use Rattle.sc_calm_answers_law.specs.Tasks.{Task, Bears, SaysWork, IsOff}
-use Rattle.sc_calm_answers_law.specs.Works.{DeliveriesKeepWork}
+use Rattle.sc_node_table.specs.Definitions.{child_at, group_of_mail, ReplicaState, Executed, born_replica, next, last_slot, set_at, childless, learn_row, mailed, slots_ahead, leads, vote_tallied, voted, accepted_row}
+use Rattle.sc_paxos_words.specs.Definitions.{flight_at, counted, vote_at}
+use Rattle.sc_paxos_words.proofs.Lemmas.{Each-among}
+use Rattle.sc_law_lemmas.proofs.Lemmas.{either_way}
+use Rattle.sc_sound.specs.Definitions.{groups_at, decided_log, Player, player_table, births, as_nodes}
+use Rattle.sc_calm_law.specs.Definitions.{players, HasReplica, Rows}
+use Rattle.sc_calm_orders_law.proofs.Lemmas.{cases-draw}
+use Rattle.sc_calm_rows_law.specs.Definitions.{view_at, with_event, IsWellKept}
+use Rattle.sc_calm_rows_law.proofs.Lemmas.{view_others, Plays, Found, found_well, replay_well, none_some}
+use Rattle.sc_calm_groups_law.specs.Definitions.{ScenariosAreWellBorn}
+use Rattle.sc_calm_scenes_law.specs.Definitions.{LeaderFinds, BesideFinds, FindsReplica, AtLeader, AtAnother, FindsFlight, Late, Leaves, Changed, Opened, Voted, Aborted, Decided, Heard, Ended, IsThere, IsNowhere}
+use Rattle.sc_calm_scenes_law.proofs.Lemmas.{OneOf}
+use Rattle.sc_calm_answers_law.specs.Definitions.{Task, Bears, SaysWork, IsOff, DeliveriesKeepWork, Knows, AreBorneSo, IsWorkingRow}
 use Rattle.sc_calm_answers_law.proofs.WorkBirths.{HasBorn, kid_members, new_born}
 use Rattle.sc_calm_answers_law.proofs.WorkFronts.{takes_one, taken_mail}
 use Rattle.sc_calm_answers_law.proofs.Staying.{node_number}
-use Rattle.sc_calm_answers_law.specs.Borne.{Knows, AreBorneSo, IsWorkingRow}
 use Rattle.sc_calm_answers_law.proofs.Borne.{IsBorne, borne, knows_made, knows_still}
 use Rattle.sc_calm_answers_law.proofs.Lineage.{child_made}
 use Rattle.sc_calm_answers_law.proofs.Logs.{IsStateless, IsShort, GoesOn, IsRest, kids_of, mailed_goes, rest_leaves}
@@ -65,7 +31,6 @@ use Rattle.sc_calm_answers_law.proofs.YoungPassing.{RowKind, Takes, Makes, row_k
 use Rattle.sc_calm_answers_law.proofs.YoungStands.{OfJournals, all_found, borne_by, state_of}
 use Rattle.std.proofs.lemmas.Option.{same_Some}
 use Rattle.sc_calm_answers_law.proofs.Playing.{plays_of}
-use Rattle.sc_calm_rows_law.proofs.Beginning.{none_some}
 
 -- ---- where nothing is ready, or a group stays
 

@@ -2,29 +2,18 @@
 use Rattle.std.proofs.Common.{◌≡◌, ℕ, ◌&&◌, cond, true, false, true≢false, Bool, List, [], ◌∷◌, ◌++◌, Option, Some, None, inl, inr, refl, sym, ◌∙◌, ap, subst}
 use Rattle.std.specs.Prelude.{is_some}
 use Rattle.std.proofs.lemmas.Bool.{cases_Bool, and_parts}
-use Rattle.sc_base.proofs.NameLemmas.{draw_is, same_name}
-use Rattle.sc_base.specs.Among.{Among}
-use Rattle.sc_base.specs.Same.{same_draw}
-use Rattle.sc_base.specs.declared.names.Draw.{Draw}
-use Rattle.sc_cmd.specs.declared.cores.Core.{Core}
-use Rattle.sc_cmd.specs.declared.cores.Lock.{Lock}
-use Rattle.sc_cmd.specs.declared.cores.Lock.TheVariants.{Free, Coordinating, Promised, Watching}
-use Rattle.sc_cmd.specs.declared.bodies.Body.{Body}
+use Rattle.sc_base.proofs.Lemmas.{draw_is, same_name}
+use Rattle.sc_base.specs.Definitions.{Among, same_draw}
+use Rattle.sc_node_table.specs.Values.{Draw, Core, Lock, Free, Coordinating, Promised, Watching, Body, Heard, Seat}
 use Rattle.sc_cmd.specs.declared.bodies.Body.TheVariants as At
-use Rattle.sc_cmd.specs.declared.votes.Heard.{Heard}
-use Rattle.sc_actor.specs.declared.actors.Seat.{Seat}
-use Rattle.sc_node_table.specs.Questions.{asked_link, watcher_link}
-use Rattle.sc_node_table.specs.Replica.{ReplicaState, name_of}
-use Rattle.sc_sound.specs.Players.{Player}
-use Rattle.sc_calm_law.specs.Totals.{Rows}
-use Rattle.sc_calm_charts_law.specs.Charting.{all_replicas, asked_by, asked_in}
-use Rattle.sc_calm_orders_law.specs.Scenes.{Turn, First, Lone, Next, is_watch, Bond, Unbound, Asking, Bound, Here, Scene}
-use Rattle.sc_calm_orders_law.specs.Parts.{turn_of, bond_in, bond_of}
-use Rattle.sc_calm_orders_law.specs.Stages.{Leg, Mailed, Filed, closing, heard, bound_by, parties_of, Stage, Still, Ordered, Asks, SentOn, Weighs, Replied, Recorded, Closes, ClosesBoth, IsAt}
-use Rattle.sc_calm_orders_law.proofs.Lists.{tokens, tagged, found}
-use Rattle.sc_calm_scenes_law.specs.Scenes.{scene_at}
-use Rattle.sc_calm_scenes_law.specs.Turns.{ScenesTell}
-use Rattle.sc_calm_answers_law.specs.KeptAsking.{AllLeadAlone, StagesAsk}
+use Rattle.sc_node_table.specs.Definitions.{asked_link, watcher_link, ReplicaState, name_of}
+use Rattle.sc_sound.specs.Definitions.{Player}
+use Rattle.sc_calm_law.specs.Definitions.{Rows}
+use Rattle.sc_calm_charts_law.specs.Definitions.{all_replicas, asked_by, asked_in}
+use Rattle.sc_calm_orders_law.specs.Definitions.{Turn, First, Lone, Next, is_watch, Bond, Unbound, Asking, Bound, Here, Scene, turn_of, bond_in, bond_of, Leg, Mailed, Filed, closing, heard, bound_by, parties_of, Stage, Still, Ordered, Asks, SentOn, Weighs, Replied, Recorded, Closes, ClosesBoth, IsAt}
+use Rattle.sc_calm_orders_law.proofs.Lemmas.{tokens, tagged, found}
+use Rattle.sc_calm_scenes_law.specs.Definitions.{scene_at, ScenesTell}
+use Rattle.sc_calm_answers_law.specs.Definitions.{AllLeadAlone, StagesAsk}
 
 -- ---- who asks in a stage
 

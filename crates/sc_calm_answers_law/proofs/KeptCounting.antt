@@ -2,42 +2,23 @@
 use Rattle.std.proofs.Common.{◌≡◌, ℕ, ◌+◌, ◌≤◌, ◌&&◌, eqb, cond, true, true≢false, List, [], ◌∷◌, ◌++◌, length, Option, Some, None, inl, inr, refl, sym, ◌∙◌, ap, subst, arith}
 use Rattle.std.specs.Prelude.{is_some, option_map}
 use Rattle.std.proofs.lemmas.Bool.{eqb-true, eq-eqb, and_from, cases_lt, cond-true, lt-ltb}
-use Rattle.sc_base.specs.Among.{Among, Each}
-use Rattle.sc_cmd.specs.declared.cores.Base.{Base}
-use Rattle.sc_cmd.specs.declared.commands.Command.{Command}
-use Rattle.sc_base.specs.Roster.{IsRoster}
-use Rattle.sc_paxos_words.specs.Leaders.{flight_at}
-use Rattle.sc_paxos_words.specs.declared.flights.Flight.{Flight}
-use Rattle.sc_paxos_words.proofs.ListLemmas.{find_found, Each-among}
-use Rattle.sc_actor.specs.declared.actors.Seat.{Seat}
-use Rattle.sc_machine_table.specs.Machine.{applied}
-use Rattle.sc_node_table.specs.Execute.{has_room}
-use Rattle.sc_node_table.specs.Replica.{ReplicaState, next, last_slot, flying, either, listed}
-use Rattle.sc_node_table.specs.Slots.{at_slot, slots_ahead}
-use Rattle.sc_sound.specs.Players.{Player}
-use Rattle.sc_calm_law.specs.Executing.{IsServedCall}
-use Rattle.sc_calm_law.specs.Keeping.{MayCount}
-use Rattle.sc_calm_law.specs.Laws.{MayPump}
-use Rattle.sc_calm_law.specs.Totals.{Rows}
-use Rattle.sc_following_law.specs.Following.{Course, Sets}
-use Rattle.sc_following_law.specs.Hints.{Tellers}
-use Rattle.sc_following_law.specs.Leading.{IsLeadOf}
-use Rattle.sc_calm_rows_law.specs.Groups.{view_at, progress_at}
-use Rattle.sc_calm_groups_law.specs.Led.{Ends, IsWellLed}
-use Rattle.sc_calm_groups_law.specs.Slots.{IsSlotKept}
-use Rattle.sc_calm_orders_law.specs.Scenes.{Work}
-use Rattle.sc_calm_orders_law.specs.Parts.{works, works_in, works_flying, works_ready, work_by}
-use Rattle.sc_calm_orders_law.specs.Running.{FliesLone}
-use Rattle.sc_calm_orders_law.specs.Stages.{IsUnderWay}
-use Rattle.sc_calm_orders_law.proofs.Lists.{among-left, among-right}
-use Rattle.sc_calm_scenes_law.specs.Quiet.{IsWork, WorksFlyLone}
-use Rattle.sc_calm_scenes_law.specs.Scenes.{scene_at}
-use Rattle.sc_calm_scenes_law.specs.Turns.{LeadsAlone, ScenesTell}
+use Rattle.sc_base.specs.Definitions.{Among, Each, IsRoster}
+use Rattle.sc_node_table.specs.Values.{Base, Command, Flight, Seat}
+use Rattle.sc_paxos_words.specs.Definitions.{flight_at}
+use Rattle.sc_paxos_words.proofs.Lemmas.{find_found, Each-among}
+use Rattle.sc_machine_table.specs.Definitions.{applied}
+use Rattle.sc_node_table.specs.Definitions.{has_room, ReplicaState, next, last_slot, flying, either, listed, at_slot, slots_ahead}
+use Rattle.sc_sound.specs.Definitions.{Player}
+use Rattle.sc_calm_law.specs.Definitions.{IsServedCall, MayCount, MayPump, Rows}
+use Rattle.sc_following_law.specs.Definitions.{Course, Sets, Tellers, IsLeadOf}
+use Rattle.sc_calm_rows_law.specs.Definitions.{view_at, progress_at}
+use Rattle.sc_calm_groups_law.specs.Definitions.{Ends, IsWellLed, IsSlotKept}
+use Rattle.sc_calm_orders_law.specs.Definitions.{Work, works, works_in, works_flying, works_ready, work_by, FliesLone, IsUnderWay}
+use Rattle.sc_calm_orders_law.proofs.Lemmas.{among-left, among-right}
+use Rattle.sc_calm_scenes_law.specs.Definitions.{IsWork, WorksFlyLone, scene_at, LeadsAlone, ScenesTell}
 use Rattle.sc_calm_entries_law.specs.Paid.{IsEntry, OrderEntriesCount}
 use Rattle.sc_calm_answers_law.proofs.FindingRows.{nines_at}
-use Rattle.sc_calm_answers_law.specs.Guided.{WellLedLeadAlone}
-use Rattle.sc_calm_answers_law.specs.Leader.{StagesLeaveOneWork}
-use Rattle.sc_calm_answers_law.specs.KeptFinding.{CountsEntries}
+use Rattle.sc_calm_answers_law.specs.Definitions.{WellLedLeadAlone, StagesLeaveOneWork, CountsEntries}
 
 -- ---- lists
 

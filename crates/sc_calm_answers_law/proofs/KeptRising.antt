@@ -2,34 +2,20 @@
 use Rattle.std.proofs.Common.{◌≡◌, ℕ, ◌+◌, ◌-◌, ◌<◌, ◌≤◌, ◌||◌, cond, true, false, Bool, List, [], ◌∷◌, min, max, Option, Some, None, ◌⊎◌, inl, inr, refl, sym, ◌∙◌, ap, arith}
 use Rattle.std.specs.Prelude.{is_some}
 use Rattle.std.proofs.lemmas.Bool.{cond-true, cond-false, cases_Bool, or_left, or_right, or_from}
-use Rattle.sc_base.proofs.NameLemmas.{draw_is, same_name}
-use Rattle.sc_base.specs.Among.{Among}
-use Rattle.sc_base.specs.Same.{same_draw}
-use Rattle.sc_base.specs.declared.names.Draw.{Draw}
-use Rattle.sc_cmd.specs.declared.cores.Base.{Base}
-use Rattle.sc_cmd.specs.declared.links.Route.{Route}
-use Rattle.sc_actor.specs.declared.actors.Seat.{Seat}
-use Rattle.sc_orderly_law.specs.Orderly.{orders}
-use Rattle.sc_scenario.specs.Valid.{IsValid, ValidScenariosAreBounded}
+use Rattle.sc_base.proofs.Lemmas.{draw_is, same_name}
+use Rattle.sc_base.specs.Definitions.{Among, same_draw}
+use Rattle.sc_node_table.specs.Values.{Draw, Base, Route, Seat}
+use Rattle.sc_orderly_law.specs.Definitions.{orders}
+use Rattle.sc_scenario.specs.Definitions.{IsValid, ValidScenariosAreBounded}
 use Rattle.sc_scenario.specs.declared.scenarios.Scenario.{Scenario}
-use Rattle.sc_node_table.specs.Replica.{ReplicaState, name_of}
-use Rattle.sc_sound.specs.Players.{Player, births, as_nodes, Lawful}
-use Rattle.sc_calm_law.specs.Charts.{players}
-use Rattle.sc_calm_law.specs.Owed.{Ways}
-use Rattle.sc_calm_law.specs.Quiet.{StandsQuiet}
-use Rattle.sc_calm_law.specs.Totals.{Rows}
-use Rattle.sc_calm_rows_law.specs.Groups.{view_at}
-use Rattle.sc_calm_charts_law.specs.Charting.{all_replicas, latest_in, way_by, far_at, chart_at}
-use Rattle.sc_calm_charts_law.specs.Fronts.{quiet_front}
-use Rattle.sc_budget_law.specs.AskingQuiet.{replicas_after, setting_at, DoHintsRise, AreFramesOf}
-use Rattle.sc_budget_law.specs.Frames.{Frame}
-use Rattle.sc_budget_law.proofs.Lists.{some_is}
-use Rattle.sc_calm_answers_law.specs.Hearing.{AreReached}
-use Rattle.sc_calm_answers_law.specs.Starts.{LawfulReplicasAreNamedOnce}
-use Rattle.sc_calm_answers_law.specs.Settings.{AreAtNodes}
-use Rattle.sc_calm_answers_law.specs.Resting.{RestsAt}
-use Rattle.sc_calm_answers_law.specs.KeptRising.{ChartHintsRise}
-use Rattle.sc_calm_answers_law.specs.Viewing.{ViewsAgree}
+use Rattle.sc_node_table.specs.Definitions.{ReplicaState, name_of}
+use Rattle.sc_sound.specs.Definitions.{Player, births, as_nodes, Lawful}
+use Rattle.sc_calm_law.specs.Definitions.{players, Ways, StandsQuiet, Rows}
+use Rattle.sc_calm_rows_law.specs.Definitions.{view_at}
+use Rattle.sc_calm_charts_law.specs.Definitions.{all_replicas, latest_in, way_by, far_at, chart_at, quiet_front}
+use Rattle.sc_budget_law.specs.Definitions.{replicas_after, setting_at, DoHintsRise, AreFramesOf, Frame}
+use Rattle.sc_budget_law.proofs.Lemmas.{some_is}
+use Rattle.sc_calm_answers_law.specs.Definitions.{AreReached, LawfulReplicasAreNamedOnce, AreAtNodes, RestsAt, ChartHintsRise, ViewsAgree}
 use Rattle.sc_calm_answers_law.proofs.KeptSeen.{all_seen, seen_all}
 
 -- ---- ways

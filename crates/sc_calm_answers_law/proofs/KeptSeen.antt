@@ -2,32 +2,19 @@
 use Rattle.std.proofs.Common.{◌≡◌, ℕ, ◌≤◌, cond, true, List, [], ◌∷◌, map, Option, Some, None, inl, inr, refl, sym, ◌∙◌, ap, subst, arith}
 use Rattle.std.proofs.lemmas.Bool.{cases_Bool}
 use Rattle.std.proofs.lemmas.Option.{none-some}
-use Rattle.sc_base.specs.Among.{Among}
-use Rattle.sc_base.specs.Same.{same_draw}
-use Rattle.sc_base.specs.declared.names.Draw.{Draw}
-use Rattle.sc_cmd.specs.declared.cores.Base.{Base}
-use Rattle.sc_cmd.specs.declared.orders.OrderLine.{OrderLine}
-use Rattle.sc_mail.specs.declared.bodies.Mail.{Mail}
-use Rattle.sc_mail.specs.declared.roles.Role.TheVariants.{Client}
-use Rattle.sc_actor.specs.declared.actors.Seat.{Seat}
-use Rattle.sc_actor.specs.declared.rows.Row.{Row}
-use Rattle.sc_actor.specs.Replay.{value}
-use Rattle.sc_node_table.specs.Node.{is_node, replica_of}
-use Rattle.sc_node_table.specs.Replica.{ReplicaState, name_of}
-use Rattle.sc_node_table.specs.Slots.{numbers_from}
-use Rattle.sc_paxos_law.proofs.Among.{Among-left, from_map}
-use Rattle.sc_paxos_words.proofs.ListLemmas.{find_found}
+use Rattle.sc_base.specs.Definitions.{Among, same_draw}
+use Rattle.sc_node_table.specs.Values.{Draw, Base, OrderLine, Mail, Client, Seat, Row}
+use Rattle.sc_actor.specs.Definitions.{value}
+use Rattle.sc_node_table.specs.Definitions.{is_node, replica_of, ReplicaState, name_of, numbers_from}
+use Rattle.sc_paxos_law.proofs.Lemmas.{Among-left, from_map}
+use Rattle.sc_paxos_words.proofs.Lemmas.{find_found}
 use Rattle.sc_scenario.specs.declared.scenarios.Scenario.{Scenario}
-use Rattle.sc_scenario.specs.Valid.{IsValid, ValidScenariosAreBounded}
-use Rattle.sc_sound.specs.Players.{Player, player_table, node_seat, client_seat, client_seats, route_of, as_nodes, births, Lawful}
-use Rattle.sc_calm_charts_law.specs.Charting.{replicas_of as chart_replicas, all_replicas}
-use Rattle.sc_budget_law.specs.AskingQuiet.{replicas_after, IsQuietJournal}
-use Rattle.sc_budget_law.specs.BetweenJournal.{replicas_of}
-use Rattle.sc_budget_law.proofs.BetweenSteps.{in_numbers, to_numbers}
-use Rattle.sc_budget_law.proofs.Lists.{map_among}
-use Rattle.sc_calm_answers_law.specs.Starts.{LawfulReplicasAreNamedOnce}
-use Rattle.sc_calm_answers_law.specs.Settings.{AreAtNodes}
-use Rattle.sc_budget_law.proofs.Knowing.{among_last}
+use Rattle.sc_scenario.specs.Definitions.{IsValid, ValidScenariosAreBounded}
+use Rattle.sc_sound.specs.Definitions.{Player, player_table, node_seat, client_seat, client_seats, route_of, as_nodes, births, Lawful}
+use Rattle.sc_calm_charts_law.specs.Definitions.{replicas_of as chart_replicas, all_replicas}
+use Rattle.sc_budget_law.specs.Definitions.{replicas_after, IsQuietJournal, replicas_of}
+use Rattle.sc_budget_law.proofs.Lemmas.{in_numbers, to_numbers, map_among, among_last}
+use Rattle.sc_calm_answers_law.specs.Definitions.{LawfulReplicasAreNamedOnce, AreAtNodes}
 use Rattle.sc_calm_answers_law.proofs.Following.{split_among}
 use Rattle.sc_calm_answers_law.proofs.Frames.{found_once, nodes_numbered}
 

@@ -3,42 +3,22 @@ use Rattle.std.proofs.Common.{◌≡◌, ℕ, true, false, List, [], ◌++◌, l
 use Rattle.std.specs.Prelude.{is_some, ◌||◌, ◌&&◌, not}
 use Rattle.std.proofs.lemmas.Bool.{cases_Bool, cond-true, or_right}
 use Rattle.std.proofs.lemmas.List.{take_all}
-use Rattle.sc_base.specs.declared.names.Draw.{Draw}
-use Rattle.sc_cmd.specs.declared.cores.Base.{Base}
-use Rattle.sc_cmd.specs.declared.orders.OrderLine.{OrderLine}
-use Rattle.sc_base.specs.Drawing.{Drawer, next_name}
-use Rattle.sc_cmd.specs.declared.orders.OrderRefusal.{OrderRefusal}
+use Rattle.sc_node_table.specs.Values.{Draw, Base, OrderLine, OrderRefusal, Node, Client, Seat}
+use Rattle.sc_base.specs.Definitions.{Drawer, next_name}
 use Rattle.sc_cmd.specs.declared.orders.OrderRefusal.TheVariants.{NotLeader}
-use Rattle.sc_machine_table.specs.Orders.{refusal_of}
-use Rattle.sc_mail.specs.declared.roles.Role.TheVariants.{Node, Client}
-use Rattle.sc_actor.specs.declared.actors.Seat.{Seat}
+use Rattle.sc_machine_table.specs.Definitions.{refusal_of, Group}
 use Rattle.sc_actor.specs.declared.rows.Event.TheVariants.{Told}
-use Rattle.sc_actor.specs.Replay.{value}
-use Rattle.sc_machine_table.specs.Group.{Group}
-use Rattle.sc_node_table.specs.Node.{NodeState, replica_of, group_of_order}
-use Rattle.sc_node_table.specs.Ordering.{first_of_both, named_refused, ordered_command, ordered_row, untaken}
-use Rattle.sc_node_table.specs.Replica.{Place, ReplicaState, first_set, may_offer, settled}
+use Rattle.sc_actor.specs.Definitions.{value}
+use Rattle.sc_node_table.specs.Definitions.{NodeState, replica_of, group_of_order, first_of_both, named_refused, ordered_command, ordered_row, untaken, Place, ReplicaState, first_set, may_offer, settled}
 use Rattle.sc_scenario.specs.declared.scenarios.Scenario.{Scenario}
-use Rattle.sc_scenario.specs.Valid.{ValidScenariosAreBounded}
-use Rattle.sc_sound.specs.Players.{Player, player_table, births, as_nodes}
-use Rattle.sc_calm_law.specs.Charts.{players}
-use Rattle.sc_calm_law.specs.Keeping.{FindsCalm, MayBeTold}
-use Rattle.sc_calm_law.specs.Owed.{idle_owes}
-use Rattle.sc_calm_law.specs.Parties.{StandsOnce, IsCalmOrder}
-use Rattle.sc_calm_law.specs.Quiet.{IsAtRest}
-use Rattle.sc_calm_law.specs.Totals.{Rows, led_elsewhere, is_led}
-use Rattle.sc_calm_rows_law.specs.Groups.{replicas_of, replica_in, view_at}
-use Rattle.sc_calm_rows_law.specs.Turns.{IsSeat}
-use Rattle.sc_calm_charts_law.specs.Charting.{names_at, chart_at}
-use Rattle.sc_calm_charts_law.specs.Following.{LedStandOnce}
-use Rattle.sc_calm_orders_law.specs.Parts.{works, works_in, works_flying, works_ready}
-use Rattle.sc_calm_orders_law.specs.Running.{TablesOrder}
-use Rattle.sc_budget_law.specs.AskingQuiet.{replicas_after}
-use Rattle.sc_calm_answers_law.specs.Settings.{AreAtNodes}
-use Rattle.sc_calm_answers_law.specs.Journal.{IsCalmJournal}
-use Rattle.sc_calm_answers_law.specs.Resting.{RestsAt}
-use Rattle.sc_calm_answers_law.specs.KeptTelling.{ToldOrdersFindCalm}
-use Rattle.sc_calm_answers_law.specs.Viewing.{ViewsAgree}
+use Rattle.sc_scenario.specs.Definitions.{ValidScenariosAreBounded}
+use Rattle.sc_sound.specs.Definitions.{Player, player_table, births, as_nodes}
+use Rattle.sc_calm_law.specs.Definitions.{players, FindsCalm, MayBeTold, idle_owes, StandsOnce, IsCalmOrder, IsAtRest, Rows, led_elsewhere, is_led}
+use Rattle.sc_calm_rows_law.specs.Definitions.{replicas_of, replica_in, view_at, IsSeat}
+use Rattle.sc_calm_charts_law.specs.Definitions.{names_at, chart_at, LedStandOnce}
+use Rattle.sc_calm_orders_law.specs.Definitions.{works, works_in, works_flying, works_ready, TablesOrder}
+use Rattle.sc_budget_law.specs.Definitions.{replicas_after}
+use Rattle.sc_calm_answers_law.specs.Definitions.{AreAtNodes, IsCalmJournal, RestsAt, ToldOrdersFindCalm, ViewsAgree}
 use Rattle.sc_calm_answers_law.proofs.Delivering.{led_there, named_so, gone_leads}
 
 -- one at rest has no work

@@ -3,31 +3,19 @@ use Rattle.std.proofs.Common.{◌≡◌, ℕ, ◌+◌, ◌-◌, ◌≤◌, true,
 use Rattle.std.specs.Prelude.{is_some}
 use Rattle.std.proofs.lemmas.List.{take_all, take-append-le}
 use Rattle.std.proofs.lemmas.Option.{same_Some}
-use Rattle.sc_base.specs.Among.{Among}
-use Rattle.sc_base.specs.declared.names.Draw.{Draw}
-use Rattle.sc_cmd.specs.declared.cores.Base.{Base}
-use Rattle.sc_cmd.specs.declared.links.Route.{Route}
-use Rattle.sc_machine_table.specs.Group.{Group, group_of}
-use Rattle.sc_machine_table.specs.Logs.{state_after}
-use Rattle.sc_base.specs.Roster.{is_member}
+use Rattle.sc_base.specs.Definitions.{Among, is_member}
+use Rattle.sc_node_table.specs.Values.{Draw, Base, Route}
+use Rattle.sc_machine_table.specs.Definitions.{Group, group_of, state_after}
 use Rattle.sc_scenario.specs.declared.scenarios.Scenario.{Scenario}
-use Rattle.sc_node_table.specs.Replica.{ReplicaState, next}
-use Rattle.sc_sound.specs.GroupsOf.{groups_at}
-use Rattle.sc_sound.specs.Logs.{decided_log, decided_state}
-use Rattle.sc_sound.specs.Players.{as_nodes}
-use Rattle.sc_sound.specs.Soundness.{HasRun}
-use Rattle.sc_calm_law.specs.Quiet.{HasReplica}
-use Rattle.sc_log_law.specs.Descent.{Rows}
-use Rattle.sc_following_law.specs.Following.{Course, members_at}
-use Rattle.sc_following_law.specs.Hints.{Tellers}
-use Rattle.sc_calm_logs_law.specs.Logged.{logged_sets}
-use Rattle.sc_calm_answers_law.specs.States.{state_at}
-use Rattle.sc_calm_answers_law.specs.Rests.{replicas_at, IsQuietGroup}
+use Rattle.sc_node_table.specs.Definitions.{ReplicaState, next}
+use Rattle.sc_sound.specs.Definitions.{groups_at, decided_log, decided_state, as_nodes, HasRun}
+use Rattle.sc_calm_law.specs.Definitions.{HasReplica}
+use Rattle.sc_log_law.specs.Definitions.{Rows}
+use Rattle.sc_following_law.specs.Definitions.{Course, members_at, Tellers}
+use Rattle.sc_calm_logs_law.specs.Definitions.{logged_sets}
+use Rattle.sc_calm_answers_law.specs.Definitions.{state_at, replicas_at, IsQuietGroup, GoneAgree, IsQuietFront, IsFoundFront, FrontsAreFound, QuietLogsAreExecuted, FrontsGoneAgree, QuietCoursesEnd}
 use Rattle.sc_calm_answers_law.proofs.Facts.{even, members_have, place, states}
-use Rattle.sc_budget_law.specs.AskingQuiet.{replicas_after}
-use Rattle.sc_calm_answers_law.specs.SettingCounting.{GoneAgree}
-use Rattle.sc_calm_answers_law.specs.KnownFronts.{IsQuietFront, IsFoundFront, FrontsAreFound, QuietLogsAreExecuted}
-use Rattle.sc_calm_answers_law.specs.Known.{FrontsGoneAgree, QuietCoursesEnd}
+use Rattle.sc_budget_law.specs.Definitions.{replicas_after}
 use Rattle.sc_calm_answers_law.proofs.KnownGroups.{newest_there}
 
 module _ (executed : QuietLogsAreExecuted) (finds : FrontsAreFound) (words : ℕ → ℕ → ℕ × ℕ) (scenario : Scenario) (journal front : Rows) (q : IsQuietFront words scenario journal front) where

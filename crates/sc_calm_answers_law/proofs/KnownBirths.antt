@@ -4,21 +4,16 @@ use Rattle.std.specs.Option.{option_map}
 use Rattle.std.proofs.lemmas.Bool.{or_right}
 use Rattle.std.proofs.lemmas.List.{length_push}
 use Rattle.std.proofs.lemmas.Option.{none-some, same_Some}
-use Rattle.sc_base.specs.Among.{Among}
-use Rattle.sc_cmd.specs.declared.commands.Command.{Command}
-use Rattle.sc_cmd.specs.declared.cores.Base.{Base}
-use Rattle.sc_base.specs.Roster.{is_member}
-use Rattle.sc_machine_table.specs.Children.{child_by}
-use Rattle.sc_machine_table.specs.Group.{Group, group_of}
-use Rattle.sc_machine_table.specs.Logs.{state_after}
-use Rattle.sc_machine_table.specs.Machine.{applied}
-use Rattle.sc_machine_table.specs.Splits.{staying, child_of}
-use Rattle.sc_log_entries.specs.Births.{birth_of, division_of}
+use Rattle.sc_base.specs.Definitions.{Among, is_member}
+use Rattle.sc_node_table.specs.Values.{Command, Base}
+use Rattle.sc_machine_table.specs.Definitions.{child_by, Group, group_of, state_after, applied, staying, child_of}
+use Rattle.sc_log_entries.specs.Definitions.{birth_of, division_of}
 use Rattle.sc_log_entries.specs.declared.Division.{Division}
-use Rattle.sc_log_entries.proofs.Children.{births_are_children}
-use Rattle.sc_paxos_law.proofs.Among.{Among-either}
-use Rattle.sc_sound.specs.GroupsOf.{children_of}
-use Rattle.sc_calm_answers_law.specs.Bearing.{IsBirth}
+use Rattle.sc_log_entries.proofs.Lemmas.{births_are_children}
+use Rattle.sc_paxos_law.proofs.Lemmas.{Among-either}
+use Rattle.sc_sound.specs.Definitions.{children_of}
+use Rattle.sc_calm_answers_law.specs.Definitions.{IsBirth}
+use Rattle.sc_whole_law.proofs.Lemmas.{listed as option_is}
 
 -- ---- members
 
@@ -48,11 +43,6 @@ record IsAfter (group : Group) (log : List Command) (child : Base) : Type 0 wher
   rest : List Command
   is : log ≡ front ++ command ∷ rest
   child_is : child_by (state_after group front) command ≡ Some child
-
-option_is : (o : Option Base) (child : Base) → Among child (option_to_list o) → o ≡ Some child
-option_is None child a = absurd a
-option_is (Some b) child (inl e) = ap (λ (x : Base). Some x) e
-option_is (Some b) child (inr n) = absurd n
 
 named_after : (group : Group) (log : List Command) (child : Base) → Among child (children_of group log) → IsAfter group log child
 named_after group [] child a = absurd a

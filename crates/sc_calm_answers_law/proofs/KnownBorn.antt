@@ -2,50 +2,27 @@
 use Rattle.std.proofs.Common.{◌≡◌, ℕ, zero, suc, ◌+◌, ◌-◌, ◌<◌, ◌≤◌, ◌⊎◌, eqb, true, List, [], ◌∷◌, ◌++◌, take, Option, Some, None, inl, inr, refl, sym, ◌∙◌, ap, subst, append_assoc, append-nil, arith}
 use Rattle.std.specs.Prelude.{is_some}
 use Rattle.std.proofs.lemmas.Bool.{cases_eq, cases_lt, cond-true, cond-false, ne_eqb}
-use Rattle.sc_base.specs.Among.{Among}
-use Rattle.sc_base.specs.declared.names.Draw.{Draw}
-use Rattle.sc_cmd.specs.declared.cores.Base.{Base}
-use Rattle.sc_cmd.specs.declared.orders.OrderLine.{OrderLine}
-use Rattle.sc_mail.specs.declared.bodies.Mail.{Mail}
-use Rattle.sc_base.specs.Roster.{is_member}
-use Rattle.sc_machine_table.specs.Group.{group_of}
-use Rattle.sc_machine_table.specs.Logs.{state_after}
-use Rattle.sc_actor.specs.declared.actors.Seat.{Seat}
-use Rattle.sc_actor.specs.declared.rows.Event.{Event}
-use Rattle.sc_actor.specs.declared.rows.Row.{Row}
-use Rattle.sc_actor.specs.Mail.{mails}
-use Rattle.sc_actor.specs.System.{row_of}
-use Rattle.sc_orderly_law.specs.Orderly.{IsCalmEvent}
-use Rattle.sc_orderly_law.specs.Timely.{AreInTime}
-use Rattle.sc_orderly_law.proofs.InTime.{by_time, last_in_time}
-use Rattle.sc_paxos_law.proofs.Among.{Among-left, Among-right, Among-either}
-use Rattle.sc_scenario.specs.Valid.{ValidScenariosAreBounded}
+use Rattle.sc_base.specs.Definitions.{Among, is_member}
+use Rattle.sc_node_table.specs.Values.{Draw, Base, OrderLine, Mail, Seat, Event, Row}
+use Rattle.sc_machine_table.specs.Definitions.{group_of, state_after}
+use Rattle.sc_actor.specs.Definitions.{mails, row_of}
+use Rattle.sc_orderly_law.specs.Definitions.{IsCalmEvent, AreInTime}
+use Rattle.sc_orderly_law.proofs.Lemmas.{by_time, last_in_time}
+use Rattle.sc_paxos_law.proofs.Lemmas.{Among-left, Among-right, Among-either}
+use Rattle.sc_scenario.specs.Definitions.{ValidScenariosAreBounded}
 use Rattle.sc_scenario.specs.declared.scenarios.Scenario.{Scenario}
-use Rattle.sc_node_table.specs.Replica.{ReplicaState, listed}
-use Rattle.sc_sound.specs.Logs.{decided_log}
-use Rattle.sc_sound.specs.Players.{Player, player_table, births, as_nodes}
-use Rattle.sc_calm_law.specs.Charts.{players}
-use Rattle.sc_calm_law.specs.Quiet.{HasReplica}
-use Rattle.sc_log_law.specs.Descent.{Rows}
-use Rattle.sc_following_law.specs.Following.{Mark, Tells, Course, Sets, members_at}
-use Rattle.sc_following_law.specs.Hints.{Tellers}
-use Rattle.sc_following_law.specs.Rows.{IsRow, told_of, told_from}
-use Rattle.sc_following_law.specs.Tables.{marks_for}
-use Rattle.sc_calm_rows_law.specs.Groups.{view_at, progress_at, marks_at, taken_mark, begun_course}
-use Rattle.sc_calm_rows_law.specs.Turns.{IsSeat, with_event}
-use Rattle.sc_calm_rows_law.proofs.Marking.{rows_are}
-use Rattle.sc_calm_mail_law.proofs.Lasting.{replicas_last}
-use Rattle.sc_calm_logs_law.specs.Logged.{logged_sets, IsGroupOf}
-use Rattle.sc_calm_groups_law.specs.Begun.{BeginsSo}
-use Rattle.sc_calm_groups_law.specs.Kinds.{IsGroupRow, RowPasses, RowRests, RowTakes, RowMakes, RowLeads, RowElects}
-use Rattle.sc_calm_groups_law.specs.Led.{IsWellLed}
-use Rattle.sc_calm_groups_law.specs.Through.{ScenariosAreWellBorn, IsRowOf, HasOneLog, IsSentSo}
-use Rattle.sc_calm_groups_law.proofs.Beginning.{scenarios_begin_led, children_begin_led}
-use Rattle.sc_calm_groups_law.proofs.Events.{events_go_on}
-use Rattle.sc_calm_answers_law.specs.Led.{over_at}
-use Rattle.sc_calm_answers_law.specs.Tellers.{GroupsAreBornOrNot}
-use Rattle.sc_calm_answers_law.specs.Bearing.{IsBirth, EntriesBearChildren}
-use Rattle.sc_calm_answers_law.specs.There.{AreBorn, IsBornOn, ChildrenAreMade}
+use Rattle.sc_node_table.specs.Definitions.{ReplicaState, listed}
+use Rattle.sc_sound.specs.Definitions.{decided_log, Player, player_table, births, as_nodes}
+use Rattle.sc_calm_law.specs.Definitions.{players, HasReplica}
+use Rattle.sc_log_law.specs.Definitions.{Rows}
+use Rattle.sc_following_law.specs.Definitions.{Mark, Tells, Course, Sets, members_at, Tellers, IsRow, told_of, told_from, marks_for}
+use Rattle.sc_calm_rows_law.specs.Definitions.{view_at, progress_at, marks_at, taken_mark, begun_course, IsSeat, with_event}
+use Rattle.sc_calm_rows_law.proofs.Lemmas.{rows_are}
+use Rattle.sc_calm_mail_law.proofs.Lemmas.{replicas_last}
+use Rattle.sc_calm_logs_law.specs.Definitions.{logged_sets, IsGroupOf}
+use Rattle.sc_calm_groups_law.specs.Definitions.{BeginsSo, IsGroupRow, RowPasses, RowRests, RowTakes, RowMakes, RowLeads, RowElects, IsWellLed, ScenariosAreWellBorn, IsRowOf, HasOneLog, IsSentSo}
+use Rattle.sc_calm_groups_law.proofs.Lemmas.{scenarios_begin_led, children_begin_led, events_go_on}
+use Rattle.sc_calm_answers_law.specs.Definitions.{over_at, GroupsAreBornOrNot, IsBirth, EntriesBearChildren, AreBorn, IsBornOn, ChildrenAreMade}
 use Rattle.sc_calm_answers_law.proofs.BearingRows.{told_bears, lead_bears}
 use Rattle.sc_calm_answers_law.proofs.KnownBirths.{child_members, no_birth}
 

@@ -3,44 +3,25 @@ use Rattle.std.proofs.Common.{◌≡◌, ℕ, ◌≤◌, ◌+◌, ◌<◌, ◌&&
 use Rattle.std.specs.Prelude.{find}
 use Rattle.std.proofs.lemmas.Bool.{cases_Bool, cond_both, cond-true, eqb-true, eq-eqb, and_from, and_parts, le-leb, leb-true, both_ways}
 use Rattle.std.proofs.lemmas.Option.{none-some}
-use Rattle.sc_base.specs.Among.{Among}
-use Rattle.sc_base.specs.Limits.{most_nodes}
-use Rattle.sc_base.specs.Same.{same_draw}
-use Rattle.sc_base.specs.declared.names.Draw.{Draw}
-use Rattle.sc_base.proofs.NameLemmas.{draw_is}
-use Rattle.sc_cmd.specs.declared.cores.Base.{Base}
-use Rattle.sc_cmd.specs.declared.orders.OrderLine.{OrderLine}
-use Rattle.sc_mail.specs.declared.bodies.Mail.{Mail}
-use Rattle.sc_mail.specs.declared.roles.Role.TheVariants.{Node, Client}
-use Rattle.sc_actor.specs.declared.actors.Seat.{Seat}
-use Rattle.sc_actor.specs.declared.rows.Input.{Input}
-use Rattle.sc_actor.specs.declared.rows.Row.{Row}
-use Rattle.sc_actor.specs.Replay.{input_of, acted, replay, value}
-use Rattle.sc_actor.proofs.WalkLemmas.{lawful-prefix}
-use Rattle.sc_paxos_words.proofs.ListLemmas.{find_found}
-use Rattle.sc_paxos_law.proofs.Among.{Among-either, from_map}
-use Rattle.sc_scenario.specs.Valid.{IsValid, ValidScenariosAreBounded}
+use Rattle.sc_base.specs.Definitions.{Among, most_nodes, same_draw}
+use Rattle.sc_node_table.specs.Values.{Draw, Base, OrderLine, Mail, Node, Client, Seat, Input, Row}
+use Rattle.sc_base.proofs.Lemmas.{draw_is}
+use Rattle.sc_actor.specs.Definitions.{input_of, acted, replay, value}
+use Rattle.sc_actor.proofs.Lemmas.{lawful-prefix}
+use Rattle.sc_paxos_words.proofs.Lemmas.{find_found}
+use Rattle.sc_paxos_law.proofs.Lemmas.{Among-either, from_map}
+use Rattle.sc_scenario.specs.Definitions.{IsValid, ValidScenariosAreBounded}
 use Rattle.sc_scenario.specs.declared.scenarios.Asks.{Asks}
 use Rattle.sc_scenario.specs.declared.scenarios.Scenario.{Scenario}
-use Rattle.sc_node_table.specs.Node.{is_node, replica_of}
-use Rattle.sc_node_table.specs.Replica.{ReplicaState, name_of}
-use Rattle.sc_node_table.specs.Slots.{numbers_from}
-use Rattle.sc_sound.specs.GroupsOf.{groups_at, log_at}
-use Rattle.sc_sound.specs.Logs.{decided_log}
-use Rattle.sc_sound.specs.Players.{Player, player_table, node_seat, client_seat, client_seats, route_of, births, as_nodes, Lawful, system_of, schedule}
-use Rattle.sc_sound.specs.Soundness.{Continues, IsSound}
-use Rattle.sc_log_law.specs.Descent.{Rows}
-use Rattle.sc_log_law.specs.InTurn.{DecideInTurn}
-use Rattle.sc_log_law.proofs.Histories.{told_rows_stay}
-use Rattle.sc_names_law.specs.Laws.{OtherNamesAreFree, TakenOrdersAreAllowed, TakenWishesAreAllowed, WishesAreAtPositions}
-use Rattle.sc_whole_law.specs.StartLaws.{ValidScenariosBeginWell}
-use Rattle.sc_whole_law.specs.Valid.{ValidJournalsAreSound}
-use Rattle.sc_budget_law.specs.AskingQuiet.{replicas_after}
-use Rattle.sc_budget_law.specs.BetweenJournal.{replicas_of}
-use Rattle.sc_calm_rows_law.specs.Groups.{replicas_of as view_replicas, replica_in, view_at}
-use Rattle.sc_calm_answers_law.specs.Settings.{AreAtNodes}
-use Rattle.sc_calm_answers_law.specs.Journal.{IsFront}
-use Rattle.sc_calm_answers_law.specs.KnownFronts.{IsOfGroup, IsFoundFront, FrontsAreFound}
+use Rattle.sc_node_table.specs.Definitions.{is_node, replica_of, ReplicaState, name_of, numbers_from}
+use Rattle.sc_sound.specs.Definitions.{groups_at, log_at, decided_log, Player, player_table, node_seat, client_seat, client_seats, route_of, births, as_nodes, Lawful, system_of, schedule, Continues, IsSound}
+use Rattle.sc_log_law.specs.Definitions.{Rows, DecideInTurn}
+use Rattle.sc_log_law.proofs.Lemmas.{told_rows_stay}
+use Rattle.sc_names_law.specs.Definitions.{OtherNamesAreFree, TakenOrdersAreAllowed, TakenWishesAreAllowed, WishesAreAtPositions}
+use Rattle.sc_whole_law.specs.Definitions.{ValidScenariosBeginWell, ValidJournalsAreSound}
+use Rattle.sc_budget_law.specs.Definitions.{replicas_after, replicas_of}
+use Rattle.sc_calm_rows_law.specs.Definitions.{replicas_of as view_replicas, replica_in, view_at}
+use Rattle.sc_calm_answers_law.specs.Definitions.{AreAtNodes, IsFront, IsOfGroup, IsFoundFront, FrontsAreFound}
 use Rattle.sc_calm_answers_law.proofs.KnownHomes.{at_nodes}
 use Rattle.sc_calm_answers_law.proofs.LinkFronts.{sources, well, turn, found}
 

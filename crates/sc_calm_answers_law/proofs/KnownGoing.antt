@@ -4,35 +4,24 @@ use Rattle.std.specs.Prelude.{is_some}
 use Rattle.std.proofs.lemmas.Bool.{cases_Bool, and_parts, or_right}
 use Rattle.std.proofs.lemmas.List.{take_all}
 use Rattle.std.proofs.lemmas.Option.{none-some}
-use Rattle.sc_base.specs.Among.{Among}
-use Rattle.sc_base.specs.Same.{same_draw}
-use Rattle.sc_base.specs.declared.names.Draw.{Draw}
-use Rattle.sc_base.proofs.NameLemmas.{draw_is, same_name}
-use Rattle.sc_cmd.specs.declared.links.Route.{Route}
-use Rattle.sc_mail.specs.declared.roles.Role.TheVariants.{Node, Client}
-use Rattle.sc_actor.specs.declared.actors.Seat.{Seat}
-use Rattle.sc_actor.specs.Replay.{value}
-use Rattle.sc_paxos_law.proofs.Among.{Among-left, Among-right, Among-either, from_map}
-use Rattle.sc_paxos_words.proofs.ListLemmas.{find_found}
-use Rattle.sc_scenario.specs.Valid.{ValidScenariosAreBounded}
+use Rattle.sc_base.specs.Definitions.{Among, same_draw}
+use Rattle.sc_node_table.specs.Values.{Draw, Route, Node, Client, Seat}
+use Rattle.sc_base.proofs.Lemmas.{draw_is, same_name}
+use Rattle.sc_actor.specs.Definitions.{value}
+use Rattle.sc_paxos_law.proofs.Lemmas.{Among-left, Among-right, Among-either, from_map}
+use Rattle.sc_paxos_words.proofs.Lemmas.{find_found}
+use Rattle.sc_scenario.specs.Definitions.{ValidScenariosAreBounded}
 use Rattle.sc_scenario.specs.declared.scenarios.Scenario.{Scenario}
-use Rattle.sc_node_table.specs.Node.{NodeState, replica_of}
-use Rattle.sc_node_table.specs.Replica.{ReplicaState, name_of}
-use Rattle.sc_node_table.specs.Slots.{numbers_from}
-use Rattle.sc_sound.specs.Players.{Player, player_table, node_seat, client_seats, births, as_nodes}
-use Rattle.sc_calm_law.specs.Parties.{StandsOnce}
-use Rattle.sc_calm_law.specs.Totals.{is_leading, leads, is_led}
-use Rattle.sc_log_law.specs.Descent.{Rows}
-use Rattle.sc_budget_law.specs.AskingQuiet.{replicas_after}
-use Rattle.sc_budget_law.proofs.BetweenSteps.{to_numbers}
-use Rattle.sc_budget_law.proofs.Lists.{map_among}
-use Rattle.sc_calm_rows_law.specs.Groups.{replicas_of as view_replicas, replica_in, view_at}
-use Rattle.sc_calm_charts_law.specs.Charting.{replicas_of, all_replicas, names_at, went_in}
-use Rattle.sc_calm_charts_law.specs.Following.{LedStandOnce}
-use Rattle.sc_calm_charts_law.proofs.Names.{led_by}
-use Rattle.sc_calm_answers_law.specs.Starts.{LawfulReplicasAreNamedOnce}
-use Rattle.sc_calm_answers_law.specs.SettingCounting.{GoneAgree}
-use Rattle.sc_calm_answers_law.specs.KnownFronts.{IsQuietFront, IsFoundFront, FrontsAreFound}
+use Rattle.sc_node_table.specs.Definitions.{NodeState, replica_of, ReplicaState, name_of, numbers_from}
+use Rattle.sc_sound.specs.Definitions.{Player, player_table, node_seat, client_seats, births, as_nodes}
+use Rattle.sc_calm_law.specs.Definitions.{StandsOnce, is_leading, leads, is_led}
+use Rattle.sc_log_law.specs.Definitions.{Rows}
+use Rattle.sc_budget_law.specs.Definitions.{replicas_after}
+use Rattle.sc_budget_law.proofs.Lemmas.{to_numbers, map_among}
+use Rattle.sc_calm_rows_law.specs.Definitions.{replicas_of as view_replicas, replica_in, view_at}
+use Rattle.sc_calm_charts_law.specs.Definitions.{replicas_of, all_replicas, names_at, went_in, LedStandOnce}
+use Rattle.sc_calm_charts_law.proofs.Lemmas.{led_by}
+use Rattle.sc_calm_answers_law.specs.Definitions.{LawfulReplicasAreNamedOnce, GoneAgree, IsQuietFront, IsFoundFront, FrontsAreFound}
 use Rattle.sc_calm_answers_law.proofs.KnownFronts.{IsClient, replayed_client, client_among, seat_in, node_among}
 use Rattle.sc_calm_answers_law.proofs.Frames.{found_once}
 

@@ -1,48 +1,25 @@
 -- The groups that have replicas in a quiet front are quiet groups, and have executed their logs.
-use Rattle.std.proofs.Common.{◌≡◌, ℕ, ◌+◌, ◌≤◌, true, true≢false, List, [], ◌∷◌, ◌++◌, length, Some, None, inl, inr, refl, sym, ◌∙◌, ap, subst, append_assoc, arith, length-append}
+use Rattle.std.proofs.Common.{◌≡◌, ℕ, ◌+◌, ◌≤◌, true, true≢false, [], ◌∷◌, ◌++◌, length, Some, inl, inr, refl, sym, ◌∙◌, ap, subst, append_assoc, arith, length-append}
 use Rattle.std.specs.Prelude.{is_some}
-use Rattle.std.specs.Option.{option_map}
 use Rattle.std.proofs.lemmas.Bool.{cases_Bool, cases_lt}
-use Rattle.sc_base.specs.Among.{Among}
-use Rattle.sc_cmd.specs.declared.commands.Command.{Command}
-use Rattle.sc_cmd.specs.declared.cores.Base.{Base}
-use Rattle.sc_base.specs.Roster.{is_member, least_of}
-use Rattle.sc_paxos_words.specs.declared.flights.Flight.{Flight}
-use Rattle.sc_paxos_words.specs.Leaders.{flight_at}
-use Rattle.sc_orderly_law.specs.Timely.{AreInTime}
+use Rattle.sc_base.specs.Definitions.{Among, is_member, least_of}
+use Rattle.sc_node_table.specs.Values.{Base}
+use Rattle.sc_orderly_law.specs.Definitions.{AreInTime}
 use Rattle.sc_scenario.specs.declared.scenarios.Scenario.{Scenario}
-use Rattle.sc_node_table.specs.Replica.{ReplicaState, next, taken_at, either}
-use Rattle.sc_node_table.specs.Slots.{at_slot}
-use Rattle.sc_sound.specs.GroupsOf.{groups_at}
-use Rattle.sc_sound.specs.Logs.{decided_log}
-use Rattle.sc_sound.specs.Players.{births, as_nodes}
-use Rattle.sc_sound.specs.Soundness.{HasRun}
-use Rattle.sc_calm_law.specs.Charts.{players}
-use Rattle.sc_calm_law.specs.Quiet.{HasReplica}
-use Rattle.sc_log_law.specs.Descent.{Rows}
-use Rattle.sc_following_law.specs.Following.{Course, members_at}
-use Rattle.sc_following_law.specs.Hints.{Tellers}
-use Rattle.sc_following_law.proofs.Leads.{least_in}
-use Rattle.sc_calm_logs_law.specs.Logged.{logged_sets, IsGroupOf}
-use Rattle.sc_calm_rows_law.specs.Groups.{view_at}
-use Rattle.sc_calm_groups_law.specs.Through.{ScenariosAreWellBorn}
-use Rattle.sc_calm_groups_law.proofs.Keeping.{kept_leaders_rest, scenarios_kept_born}
-use Rattle.sc_calm_groups_law.proofs.Resting.{quiet_groups_led}
-use Rattle.sc_calm_answers_law.specs.Led.{over_at}
-use Rattle.sc_calm_answers_law.specs.Taught.{GroupsBeginTaught}
-use Rattle.sc_calm_answers_law.specs.Tellers.{tellers_at}
-use Rattle.sc_calm_answers_law.specs.Rests.{IsQuietGroup}
+use Rattle.sc_node_table.specs.Definitions.{ReplicaState, next}
+use Rattle.sc_sound.specs.Definitions.{groups_at, decided_log, births, as_nodes, HasRun}
+use Rattle.sc_calm_law.specs.Definitions.{players, HasReplica}
+use Rattle.sc_log_law.specs.Definitions.{Rows}
+use Rattle.sc_following_law.specs.Definitions.{Course, members_at, Tellers}
+use Rattle.sc_following_law.proofs.Lemmas.{least_in}
+use Rattle.sc_calm_logs_law.specs.Definitions.{logged_sets, IsGroupOf}
+use Rattle.sc_calm_rows_law.specs.Definitions.{view_at}
+use Rattle.sc_calm_groups_law.specs.Definitions.{ScenariosAreWellBorn}
+use Rattle.sc_calm_groups_law.proofs.Lemmas.{kept_leaders_rest, scenarios_kept_born, quiet_groups_led}
+use Rattle.sc_calm_answers_law.specs.Definitions.{over_at, GroupsBeginTaught, tellers_at, IsQuietGroup, IsQuietFront, IsKnownGroup, IsFoundFront, FrontsAreFound, QuietFrontsHaveGroups, QuietLogsAreExecuted, GroupsAreAskedThrough, NoMailForStrangers, FrontsHaveMembers}
 use Rattle.sc_calm_answers_law.proofs.Facts.{at, over, all, view, members_have, newest_next, place, room}
-use Rattle.sc_calm_answers_law.specs.KnownFronts.{IsQuietFront, IsKnownGroup, IsFoundFront, FrontsAreFound, QuietFrontsHaveGroups, QuietLogsAreExecuted}
-use Rattle.sc_calm_answers_law.specs.Offered.{GroupsAreAskedThrough}
-use Rattle.sc_calm_answers_law.specs.Strangers.{NoMailForStrangers}
-use Rattle.sc_calm_answers_law.specs.There.{FrontsHaveMembers}
 use Rattle.sc_calm_answers_law.proofs.Chosen.{log_short}
-
--- nothing is taken where nothing is in flight or ready
-pub none_taken : (lead : ReplicaState) (slot : ℕ) → lead.leader.flights ≡ [] → lead.ready ≡ [] → taken_at lead slot ≡ None
-none_taken lead slot flights ready =
-    ap (λ (fs : List (Flight Command)). either (option_map (λ flight. flight.value) (flight_at slot fs)) (at_slot lead.ready slot)) flights ∙ ap (λ (es : List (ℕ × Command)). at_slot es slot) ready
+pub use Rattle.sc_pump_law.proofs.Pumping.{none_at as none_taken}
 
 module _ (by : Tellers) (words : ℕ → ℕ → ℕ × ℕ) (scenario : Scenario) (journal front : Rows) (base : Base) (course : Course) (q : IsQuietGroup by words scenario journal front base course) where
   -- some replica has executed as much as the newest state

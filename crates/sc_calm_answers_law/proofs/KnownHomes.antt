@@ -3,35 +3,23 @@ use Rattle.std.proofs.Common.{◌≡◌, ℕ, zero, suc, ◌+◌, ◌<◌, ◌�
 use Rattle.std.specs.Prelude.{find}
 use Rattle.std.proofs.lemmas.Bool.{cases_Bool, cases_lt, cond-true, cond-false, ne_eqb, and_parts, leb-true}
 use Rattle.std.proofs.lemmas.Option.{none-some}
-use Rattle.sc_base.specs.Among.{Among}
-use Rattle.sc_base.specs.Limits.{most_nodes}
-use Rattle.sc_base.specs.Same.{same_draw}
-use Rattle.sc_base.specs.declared.names.Draw.{Draw}
-use Rattle.sc_cmd.specs.declared.cores.Base.{Base}
-use Rattle.sc_cmd.specs.declared.orders.OrderLine.{OrderLine}
-use Rattle.sc_mail.specs.declared.bodies.Mail.{Mail}
-use Rattle.sc_base.specs.Roster.{is_member}
-use Rattle.sc_actor.specs.declared.actors.Seat.{Seat}
-use Rattle.sc_actor.specs.declared.rows.Row.{Row}
-use Rattle.sc_actor.specs.Replay.{value}
-use Rattle.sc_actor.proofs.ReplayLemmas.{value-snoc}
-use Rattle.sc_orderly_law.specs.Timely.{AreInTime}
-use Rattle.sc_orderly_law.proofs.InTime.{by_time, last_in_time}
-use Rattle.sc_paxos_words.proofs.ListLemmas.{Each-among, Each-from_All, find_found, from_filter}
-use Rattle.sc_paxos_law.proofs.Among.{Among-either, from_map, member-among}
-use Rattle.sc_scenario.specs.Groups.{group_at}
-use Rattle.sc_scenario.specs.Valid.{IsBounded, IsBoundedClient, IsUpTo, ValidScenariosAreBounded}
+use Rattle.sc_base.specs.Definitions.{Among, most_nodes, same_draw, is_member}
+use Rattle.sc_node_table.specs.Values.{Draw, Base, OrderLine, Mail, Seat, Row}
+use Rattle.sc_actor.specs.Definitions.{value}
+use Rattle.sc_actor.proofs.Lemmas.{value-snoc}
+use Rattle.sc_orderly_law.specs.Definitions.{AreInTime}
+use Rattle.sc_orderly_law.proofs.Lemmas.{by_time, last_in_time}
+use Rattle.sc_paxos_words.proofs.Lemmas.{Each-among, Each-from_All, find_found, from_filter}
+use Rattle.sc_paxos_law.proofs.Lemmas.{Among-either, from_map, member-among}
+use Rattle.sc_scenario.specs.Definitions.{group_at, IsBounded, IsBoundedClient, IsUpTo, ValidScenariosAreBounded}
 use Rattle.sc_scenario.specs.declared.scenarios.Asks.{Asks}
 use Rattle.sc_scenario.specs.declared.scenarios.Scenario.{Scenario}
-use Rattle.sc_node_table.specs.Node.{is_node, replica_of, born_replicas}
-use Rattle.sc_node_table.specs.Replica.{ReplicaState, name_of, born_replica}
-use Rattle.sc_node_table.specs.Slots.{slots_ahead, numbers_from}
-use Rattle.sc_sound.specs.Players.{Player, player_table, node_seat, client_seat, client_seats, route_of, births, as_nodes}
-use Rattle.sc_calm_law.specs.Charts.{players}
-use Rattle.sc_log_law.specs.Descent.{Rows}
-use Rattle.sc_budget_law.specs.BetweenJournal.{replicas_of}
-use Rattle.sc_calm_answers_law.specs.Settings.{AreAtNodes}
-use Rattle.sc_calm_answers_law.specs.Journal.{IsCalmJournal, IsFront}
+use Rattle.sc_node_table.specs.Definitions.{is_node, replica_of, born_replicas, ReplicaState, name_of, born_replica, slots_ahead, numbers_from}
+use Rattle.sc_sound.specs.Definitions.{Player, player_table, node_seat, client_seat, client_seats, route_of, births, as_nodes}
+use Rattle.sc_calm_law.specs.Definitions.{players}
+use Rattle.sc_log_law.specs.Definitions.{Rows}
+use Rattle.sc_budget_law.specs.Definitions.{replicas_of}
+use Rattle.sc_calm_answers_law.specs.Definitions.{AreAtNodes, IsCalmJournal, IsFront}
 use Rattle.sc_calm_answers_law.proofs.LinkFronts.{of_up_to}
 
 -- a client's seat is behind the nodes

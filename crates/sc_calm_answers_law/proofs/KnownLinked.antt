@@ -3,48 +3,18 @@ use Rattle.std.proofs.Common.{◌≡◌, ℕ, Bool, true, false, cond, ◌&&◌,
 use Rattle.std.specs.Option.{option_map}
 use Rattle.std.proofs.lemmas.Bool.{cond_both}
 use Rattle.std.proofs.lemmas.Option.{none-some, same_Some}
-use Rattle.sc_base.specs.Arc.{holds}
-use Rattle.sc_base.specs.Same.{same_draw}
-use Rattle.sc_base.specs.declared.names.Draw.{Draw}
-use Rattle.sc_base.specs.Union.{united}
-use Rattle.sc_cmd.specs.Cores.{is_alone}
-use Rattle.sc_cmd.specs.declared.bodies.Body.{Body}
+use Rattle.sc_base.specs.Definitions.{holds, same_draw, united}
+use Rattle.sc_node_table.specs.Values.{Draw, Body, Offer, Command, Noop, Call, Join, Leave, Split, Begin, Prepared, RecordVote, GiveUp, Finish, Watched, RecordWatch, Core, Lock, Free, Coordinating, Promised, Watching, Effect, Link, Route, OrderRefusal, Frozen, Gift, Heard, No, Outcome, Abort, Merged, Moved, Migrated, Divided, Past, Vote}
+use Rattle.sc_cmd.specs.Definitions.{is_alone}
 use Rattle.sc_cmd.specs.declared.bodies.Body.TheVariants as At
-use Rattle.sc_cmd.specs.declared.bodies.Offer.{Offer}
-use Rattle.sc_cmd.specs.declared.commands.Command.{Command}
-use Rattle.sc_cmd.specs.declared.commands.Command.TheVariants.{Noop, Call, Join, Leave, Split, Begin, Prepared, RecordVote, GiveUp, Finish, Watched, RecordWatch}
-use Rattle.sc_cmd.specs.declared.cores.Core.{Core}
-use Rattle.sc_cmd.specs.declared.cores.Lock.{Lock}
-use Rattle.sc_cmd.specs.declared.cores.Lock.TheVariants.{Free, Coordinating, Promised, Watching}
-use Rattle.sc_cmd.specs.declared.effects.Effect.{Effect}
 use Rattle.sc_cmd.specs.declared.effects.Effect.TheVariants as Was
-use Rattle.sc_cmd.specs.declared.links.Link.{Link}
-use Rattle.sc_cmd.specs.declared.links.Route.{Route}
-use Rattle.sc_cmd.specs.declared.orders.OrderRefusal.{OrderRefusal}
-use Rattle.sc_cmd.specs.declared.votes.Frozen.{Frozen}
-use Rattle.sc_cmd.specs.declared.votes.Gift.{Gift}
-use Rattle.sc_cmd.specs.declared.votes.Heard.{Heard}
-use Rattle.sc_cmd.specs.declared.votes.No.{No}
-use Rattle.sc_cmd.specs.declared.votes.Outcome.{Outcome}
-use Rattle.sc_cmd.specs.declared.votes.Outcome.TheVariants.{Abort, Merged, Moved, Migrated, Divided}
-use Rattle.sc_cmd.specs.declared.votes.Past.{Past}
 use Rattle.sc_cmd.specs.declared.votes.Past.TheVariants as Cast
-use Rattle.sc_cmd.specs.declared.votes.Vote.{Vote}
 use Rattle.sc_cmd.specs.declared.votes.Vote.TheVariants as Ballot
-use Rattle.sc_machine_table.specs.Group.{Group}
-use Rattle.sc_machine_table.specs.Machine.{applied, split_group}
-use Rattle.sc_machine_table.specs.Orders.{refusal_of, ordered, with_node, without_node}
-use Rattle.sc_machine_table.specs.Splits.{has_named, splits_at_once, left_link, left_members, right_members, right_core, right_succ, left_group}
-use Rattle.sc_machine_table.specs.Plans.{Plan, frozen_of, can_split, split_plan, may_merge, merged_link, merged_succ, merged_route, merged_group, closing_group, merge_plan, closing_plan, can_repart, giving_group, taking_group, part_gift, taken, has_key_of, giving_plan, taking_plan, repart_plan, succ_with, can_migrate, migrated_group, migrate_plan}
-use Rattle.sc_machine_table.specs.Transactions.{begun_group, decided_group, aborted, committed, granted, participant_answered, asks_watcher, vote_recorded, released, watch_answered, watch_recorded, is_coordinating}
-use Rattle.sc_machine_table.specs.Votes.{has_voted, past_of, vote_of, watch_vote_of, voted_on}
-use Rattle.sc_log_entries.specs.Births.{division_in, division_of}
+use Rattle.sc_machine_table.specs.Definitions.{Group, applied, split_group, refusal_of, ordered, with_node, without_node, has_named, splits_at_once, left_link, left_members, right_members, right_core, right_succ, left_group, Plan, frozen_of, can_split, split_plan, may_merge, merged_link, merged_succ, merged_route, merged_group, closing_group, merge_plan, closing_plan, can_repart, giving_group, taking_group, part_gift, taken, has_key_of, giving_plan, taking_plan, repart_plan, succ_with, can_migrate, migrated_group, migrate_plan, begun_group, decided_group, aborted, committed, granted, participant_answered, asks_watcher, vote_recorded, released, watch_answered, watch_recorded, is_coordinating, has_voted, past_of, vote_of, watch_vote_of, voted_on}
+use Rattle.sc_log_entries.specs.Definitions.{division_in, division_of}
 use Rattle.sc_log_entries.specs.declared.Division.{Division}
-use Rattle.sc_ring_law.specs.Allowed.{Sources, IsVoteCast, IsAllowed}
-use Rattle.sc_ring_law.specs.Invariant.{Groups, IsCoordinating, Facts}
-use Rattle.sc_ring_law.specs.Stories.{Story, Stories, put, retold, unsigned, offer_for, new_story, vote_by, with_vote, with_watch_vote, with_decision, with_asked, stories_after}
-use Rattle.sc_ring_law.proofs.Cover.{from_at}
-use Rattle.sc_ring_law.proofs.Ends.{own_story, same_lock}
+use Rattle.sc_ring_law.specs.Definitions.{Sources, IsVoteCast, IsAllowed, Groups, IsCoordinating, Facts, Story, Stories, put, retold, unsigned, offer_for, new_story, vote_by, with_vote, with_watch_vote, with_decision, with_asked, stories_after}
+use Rattle.sc_ring_law.proofs.Lemmas.{from_at, own_story, same_lock}
 use Rattle.sc_calm_answers_law.proofs.LinkEnds.{Good, IsLinkedSo, IsToldSo, good_come, more_good, kept_links, finished_ends}
 use Rattle.sc_calm_answers_law.proofs.Cores.{called_core}
 

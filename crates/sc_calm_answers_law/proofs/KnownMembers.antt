@@ -1,25 +1,19 @@
 -- Members of groups are nodes of their scenario.
 use Rattle.std.proofs.Common.{◌≡◌, ℕ, ◌≤◌, true}
-use Rattle.sc_base.specs.Among.{Each}
-use Rattle.sc_cmd.specs.declared.cores.Base.{Base}
-use Rattle.sc_cmd.specs.declared.links.Route.{Route}
-use Rattle.sc_base.specs.Roster.{is_member}
-use Rattle.sc_paxos_words.proofs.ListLemmas.{Each-among}
-use Rattle.sc_paxos_law.proofs.Among.{member-among}
-use Rattle.sc_scenario.specs.Valid.{IsUpTo, ValidScenariosAreBounded}
+use Rattle.sc_base.specs.Definitions.{Each, is_member}
+use Rattle.sc_node_table.specs.Values.{Base, Route}
+use Rattle.sc_paxos_words.proofs.Lemmas.{Each-among}
+use Rattle.sc_paxos_law.proofs.Lemmas.{member-among}
+use Rattle.sc_scenario.specs.Definitions.{IsUpTo, ValidScenariosAreBounded}
 use Rattle.sc_scenario.specs.declared.scenarios.Scenario.{Scenario}
-use Rattle.sc_sound.specs.Logs.{decided_log}
-use Rattle.sc_sound.specs.Players.{Ahead, route_of}
-use Rattle.sc_log_law.specs.Descent.{Rows}
-use Rattle.sc_ring_law.specs.Allowed.{Sources}
-use Rattle.sc_names_law.specs.Laws.{OtherNamesAreFree, TakenOrdersAreAllowed, TakenWishesAreAllowed, WishesAreAtPositions}
-use Rattle.sc_names_law.specs.Owners.{owner_in}
-use Rattle.sc_whole_law.specs.Begins.{BeginsWell, section_op}
-use Rattle.sc_whole_law.specs.Orders.{OrdersAreAllowed}
-use Rattle.sc_whole_law.specs.StartLaws.{ValidScenariosBeginWell}
-use Rattle.sc_whole_law.proofs.Scheduled.{orders_allowed}
-use Rattle.sc_calm_logs_law.specs.Logged.{logged_sets, IsGroupOf}
-use Rattle.sc_calm_answers_law.specs.KnownMembers.{MembersAreHome}
+use Rattle.sc_sound.specs.Definitions.{decided_log, Ahead, route_of}
+use Rattle.sc_log_law.specs.Definitions.{Rows}
+use Rattle.sc_ring_law.specs.Definitions.{Sources}
+use Rattle.sc_names_law.specs.Definitions.{OtherNamesAreFree, TakenOrdersAreAllowed, TakenWishesAreAllowed, WishesAreAtPositions, owner_in}
+use Rattle.sc_whole_law.specs.Definitions.{BeginsWell, section_op, OrdersAreAllowed, ValidScenariosBeginWell}
+use Rattle.sc_whole_law.proofs.Lemmas.{orders_allowed}
+use Rattle.sc_calm_logs_law.specs.Definitions.{logged_sets, IsGroupOf}
+use Rattle.sc_calm_answers_law.specs.Definitions.{MembersAreHome}
 use Rattle.sc_calm_answers_law.proofs.HomeNodes.{BringsNodes, HasNodes, slots_have_nodes}
 use Rattle.sc_calm_answers_law.proofs.HomeBringing.{begins_nodes, brings_nodes}
 

@@ -1,32 +1,17 @@
 -- The groups of a quiet front are known, and links and routes name nodes that have replicas.
 use Rattle.std.proofs.Common.{◌≡◌, ℕ, ◌+◌, ◌≤◌, true, length, take, Option, Some, None, refl, sym, ◌∙◌, ap, subst, arith}
 use Rattle.std.proofs.lemmas.Option.{none-some}
-use Rattle.sc_base.specs.Among.{Among}
-use Rattle.sc_base.specs.declared.names.Draw.{Draw}
-use Rattle.sc_cmd.specs.declared.cores.Base.{Base}
-use Rattle.sc_cmd.specs.declared.links.Route.{Route}
-use Rattle.sc_machine_table.specs.Group.{Group, group_of}
-use Rattle.sc_machine_table.specs.Logs.{state_after}
-use Rattle.sc_base.specs.Roster.{is_member}
+use Rattle.sc_base.specs.Definitions.{Among, is_member}
+use Rattle.sc_node_table.specs.Values.{Draw, Base, Route}
+use Rattle.sc_machine_table.specs.Definitions.{Group, group_of, state_after}
 use Rattle.sc_scenario.specs.declared.scenarios.Scenario.{Scenario}
-use Rattle.sc_node_table.specs.Replica.{ReplicaState, next}
-use Rattle.sc_sound.specs.GroupsOf.{groups_at}
-use Rattle.sc_sound.specs.Logs.{decided_log, decided_state}
-use Rattle.sc_sound.specs.Players.{as_nodes}
-use Rattle.sc_calm_law.specs.Quiet.{HasReplica, IsNewest, StandsQuiet}
-use Rattle.sc_log_law.specs.Descent.{Rows}
-use Rattle.sc_following_law.specs.Following.{Course}
-use Rattle.sc_following_law.specs.Hints.{Tellers}
-use Rattle.sc_calm_answers_law.specs.States.{state_at}
-use Rattle.sc_calm_answers_law.specs.Rests.{replicas_at, IsQuietGroup, IsTakenIn}
-use Rattle.sc_budget_law.specs.AskingQuiet.{replicas_after}
-use Rattle.sc_calm_answers_law.specs.Cuts.{AreKnown}
-use Rattle.sc_calm_answers_law.specs.Settings.{AreReachable}
-use Rattle.sc_calm_answers_law.specs.Arcs.{FreeGroupsHaveArcs}
-use Rattle.sc_calm_answers_law.specs.KnownFronts.{IsQuietFront, IsKnownGroup, IsOfGroup, FrontsAreFound, QuietLogsAreExecuted}
-use Rattle.sc_calm_answers_law.specs.Known.{AreAllThere, FrontsAreKnown, FrontsAreReachable, FrontsAreTakenIn}
-use Rattle.sc_calm_answers_law.specs.Links.{WasMember, WereMembers, AreAllFree, LinksWereMembers}
-use Rattle.sc_calm_answers_law.specs.There.{FrontsAreThere}
+use Rattle.sc_node_table.specs.Definitions.{ReplicaState, next}
+use Rattle.sc_sound.specs.Definitions.{groups_at, decided_log, decided_state, as_nodes}
+use Rattle.sc_calm_law.specs.Definitions.{HasReplica, IsNewest, StandsQuiet}
+use Rattle.sc_log_law.specs.Definitions.{Rows}
+use Rattle.sc_following_law.specs.Definitions.{Course, Tellers}
+use Rattle.sc_calm_answers_law.specs.Definitions.{state_at, replicas_at, IsQuietGroup, IsTakenIn, AreKnown, AreReachable, FreeGroupsHaveArcs, IsQuietFront, IsKnownGroup, IsOfGroup, FrontsAreFound, QuietLogsAreExecuted, AreAllThere, FrontsAreKnown, FrontsAreReachable, FrontsAreTakenIn, WasMember, WereMembers, AreAllFree, LinksWereMembers, FrontsAreThere}
+use Rattle.sc_budget_law.specs.Definitions.{replicas_after}
 use Rattle.sc_calm_answers_law.proofs.KnownGroups.{newest_there}
 use Rattle.sc_calm_answers_law.proofs.Known.{see, found, seen, shown, most, last_state, ends, gone_last, was_there, newest_state}
 

@@ -3,15 +3,12 @@ use Rattle.std.proofs.Common.{◌≡◌, ℕ, ◌+◌, ◌<◌, ◌≤◌, ◌&&
 use Rattle.std.specs.Prelude.{is_some}
 use Rattle.std.proofs.lemmas.Bool.{cases_Bool, cond-true, cond-false, cond_both, lt-ltb, ltb-true, and_from, and_parts, and_right}
 use Rattle.std.proofs.lemmas.Option.{same_Some}
-use Rattle.sc_base.specs.Among.{Among}
-use Rattle.sc_base.specs.Same.{same_draw}
-use Rattle.sc_base.specs.declared.names.Draw.{Draw}
-use Rattle.sc_base.proofs.NameLemmas.{draw_is, same_name}
-use Rattle.sc_cmd.specs.declared.links.Route.{Route}
-use Rattle.sc_node_table.specs.Replica.{ReplicaState}
-use Rattle.sc_calm_charts_law.specs.Charting.{went_in}
-use Rattle.sc_calm_charts_law.specs.Ends.{GoInTurn}
-use Rattle.sc_calm_answers_law.specs.KnownTurns.{GoesOnce, TurnsGoOn}
+use Rattle.sc_base.specs.Definitions.{Among, same_draw}
+use Rattle.sc_node_table.specs.Values.{Draw, Route}
+use Rattle.sc_base.proofs.Lemmas.{draw_is, same_name}
+use Rattle.sc_node_table.specs.Definitions.{ReplicaState}
+use Rattle.sc_calm_charts_law.specs.Definitions.{went_in, GoInTurn}
+use Rattle.sc_calm_answers_law.specs.Definitions.{GoesOnce, TurnsGoOn}
 
 -- ---- how many of some names pass
 
@@ -189,5 +186,6 @@ module _ (names later_names : List Draw) (replicas later : List ReplicaState) (g
   turned : (after : Draw → ℕ) × GoInTurn later_names later after
   turned = (after, in_turn)
 
+-- Groups go one after another still, where at most one more is gone, which went into one that stands.
 pub turns_go_on : TurnsGoOn
 turns_go_on = turned

@@ -1,29 +1,14 @@
 -- What is answered from what a replica has, and what comes too late, leaves the replica.
 use Rattle.std.proofs.Common.{◌≡◌, ℕ, zero, suc, ◌+◌, ◌-◌, ◌<◌, ◌||◌, not, nat_lt, eqb, length, Bool, true, false, cond, List, [], Option, Some, None, refl, sym, ◌∙◌, ap, subst, arith}
 use Rattle.std.proofs.lemmas.Bool.{eqb-true, lt-ltb, le-ltb}
-use Rattle.sc_base.specs.declared.names.Ballot.{Ballot}
-use Rattle.sc_base.specs.declared.names.Draw.{Draw}
-use Rattle.sc_base.specs.Same.{same_ballot}
-use Rattle.sc_cmd.specs.declared.commands.Command.{Command}
-use Rattle.sc_cmd.specs.declared.cores.Base.{Base}
-use Rattle.sc_law_lemmas.proofs.Ways.{either_way}
-use Rattle.sc_mail.specs.declared.bodies.Mail.{Mail}
-use Rattle.sc_mail.specs.declared.bodies.MailBody.TheVariants.{Ask, Accepted, Learn, Install}
-use Rattle.sc_machine_table.specs.Group.{base_of}
-use Rattle.sc_node_table.specs.Execute.{executed}
-use Rattle.sc_node_table.specs.Install.{install_to}
-use Rattle.sc_node_table.specs.Mails.{sent}
-use Rattle.sc_node_table.specs.Replica.{ReplicaState, Place, Executed, childless, name_of, next, set_at, last_slot}
-use Rattle.sc_node_table.specs.Rows.{mailed, ask_row, ask_answered, taught, most_taught, learn_row, install_row, took_over}
-use Rattle.sc_node_table.specs.Voting.{accepted_row, leads, voted, vote_tallied}
-use Rattle.sc_paxos_words.specs.declared.answers.Counted.{Counted}
-use Rattle.sc_paxos_words.specs.declared.answers.Counted.TheVariants.{NotYet}
-use Rattle.sc_paxos_words.specs.Leaders.{LeaderState, flight_at}
-use Rattle.sc_paxos_words.specs.Logs.{entry_at}
-use Rattle.sc_paxos_words.specs.Votes.{counted, vote_at}
-use Rattle.sc_calm_orders_law.specs.Parts.{works, errands_for}
-use Rattle.sc_calm_orders_law.specs.Tables.{Works}
-use Rattle.sc_calm_orders_law.proofs.Errands.{errands-none}
+use Rattle.sc_node_table.specs.Values.{Ballot, Draw, Command, Base, Mail, Ask, Accepted, Learn, Install, Counted, NotYet}
+use Rattle.sc_base.specs.Definitions.{same_ballot}
+use Rattle.sc_law_lemmas.proofs.Lemmas.{either_way}
+use Rattle.sc_machine_table.specs.Definitions.{base_of}
+use Rattle.sc_node_table.specs.Definitions.{executed, install_to, sent, ReplicaState, Place, Executed, childless, name_of, next, set_at, last_slot, mailed, ask_row, ask_answered, taught, most_taught, learn_row, install_row, took_over, accepted_row, leads, voted, vote_tallied}
+use Rattle.sc_paxos_words.specs.Definitions.{LeaderState, flight_at, entry_at, counted, vote_at}
+use Rattle.sc_calm_orders_law.specs.Definitions.{works, errands_for, Works}
+use Rattle.sc_calm_orders_law.proofs.Lemmas.{errands-none}
 
 -- a row leaves the replica, and sends no errand
 module _ (r : ReplicaState) where

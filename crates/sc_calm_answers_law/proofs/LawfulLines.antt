@@ -1,17 +1,12 @@
 -- A line of requests in a lawful journal leaves it quiet.
 use Rattle.std.proofs.Common.{◌≡◌, ◌∷◌, ◌++◌, sym, ◌∙◌, subst}
-use Rattle.sc_cmd.specs.declared.cores.Base.{Base}
-use Rattle.sc_actor.proofs.WalkLemmas.{lawful-prefix}
-use Rattle.sc_sound.specs.Players.{schedule}
-use Rattle.sc_scenario.specs.Valid.{ValidScenariosAreBounded}
-use Rattle.sc_sound.specs.Players.{system_of, as_nodes}
-use Rattle.sc_budget_law.specs.Asking.{IsAsking}
-use Rattle.sc_budget_law.specs.AskingQuiet.{replicas_after, setting_at, IsQuietJournal}
-use Rattle.sc_budget_law.specs.CalmNode.{Setting}
-use Rattle.sc_budget_law.proofs.AskingBegins.{quiet_ask}
-use Rattle.sc_budget_law.proofs.BetweenStage.{stage}
-use Rattle.sc_calm_answers_law.specs.OneLog.{LawfulJournalsHaveOneLog, LawfulLinesLeaveQuiet}
-use Rattle.sc_calm_answers_law.specs.QuietLines.{HaveOneLog, LinesLeaveReplicasQuiet, LinesLeaveQuiet}
+use Rattle.sc_node_table.specs.Values.{Base}
+use Rattle.sc_actor.proofs.Lemmas.{lawful-prefix}
+use Rattle.sc_sound.specs.Definitions.{schedule, system_of, as_nodes}
+use Rattle.sc_scenario.specs.Definitions.{ValidScenariosAreBounded}
+use Rattle.sc_budget_law.specs.Definitions.{IsAsking, replicas_after, setting_at, IsQuietJournal, Setting}
+use Rattle.sc_budget_law.proofs.Lemmas.{quiet_ask, stage}
+use Rattle.sc_calm_answers_law.specs.Definitions.{LawfulJournalsHaveOneLog, LawfulLinesLeaveQuiet, HaveOneLog, LinesLeaveReplicasQuiet, LinesLeaveQuiet}
 use Rattle.sc_calm_answers_law.proofs.LinesEnd.{line_ends}
 
 pub lawful_leave : ValidScenariosAreBounded → LawfulJournalsHaveOneLog → LinesLeaveReplicasQuiet → LinesLeaveQuiet → LawfulLinesLeaveQuiet

@@ -1,45 +1,24 @@
 -- What a mail finds at the leader of a well led group.
 use Rattle.std.proofs.Common.{List, None, Option, Some, [], ap, append-nil, arith, false, inl, inr, refl, subst, suc, sym, true, ℕ, ◌∙◌, ◌∷◌, ◌≡◌, ◌≤◌}
-use Rattle.sc_actor.specs.declared.actors.Seat.{Seat}
-use Rattle.sc_actor.specs.declared.rows.Event.TheVariants.{Deliver}
-use Rattle.sc_base.specs.Among.{Each}
-use Rattle.sc_base.specs.declared.names.Ballot.{Ballot}
-use Rattle.sc_base.specs.declared.names.Draw.{Draw}
-use Rattle.sc_base.specs.declared.ops.Op.{Op}
+use Rattle.sc_node_table.specs.Values.{Seat, Deliver, Ballot, Draw, Op, Base, Mail, MailBody, Accept, Accepted, Answer, Ask, Install, Learn, Nack, Prepare, Promise, Request, TxElsewhere, TxOutcome, TxPrepare, TxVote, TxWatch, TxWatched, Told as ToldMail}
+use Rattle.sc_base.specs.Definitions.{Each}
 use Rattle.sc_calm_answers_law.proofs.Beside.{view_here}
 use Rattle.sc_calm_answers_law.proofs.Leading.{alone, gives, unbound}
-use Rattle.sc_calm_answers_law.specs.Beside.{IsHere, IsUnsettled}
-use Rattle.sc_calm_answers_law.specs.Guided.{IsGuided}
-use Rattle.sc_calm_answers_law.specs.Leader.{LeadersAreFound, StagesLeaveOneWork}
-use Rattle.sc_calm_groups_law.specs.Through.{Delivers}
-use Rattle.sc_calm_law.specs.Totals.{Rows}
-use Rattle.sc_calm_orders_law.proofs.Lists.{cases-draw}
-use Rattle.sc_calm_orders_law.specs.Parts.{works}
-use Rattle.sc_calm_orders_law.specs.Scenes.{Answers, Ends, First, Here, IsNone, Lone, Next, Records, Scene, Turn, Work, free, is_watch}
-use Rattle.sc_calm_orders_law.specs.Stages.{Closes, ClosesBoth, Filed, IsUnderWay, Leg, Mailed, Ordered, Recorded, Replied, SentOn, Stage, Still, Weighs, closing, heard, parties_of}
-use Rattle.sc_calm_orders_law.specs.Tables.{IsUnbound}
-use Rattle.sc_calm_rows_law.proofs.Scenes.{all_fit, goes_on, known, no_lead}
-use Rattle.sc_calm_rows_law.specs.Groups.{progress_at, view_at}
-use Rattle.sc_calm_rows_law.specs.Mailed.{IsScene, TakesMail}
-use Rattle.sc_calm_rows_law.specs.Turns.{with_event}
-use Rattle.sc_calm_scenes_law.proofs.Viewing.{tell}
-use Rattle.sc_calm_scenes_law.specs.Found.{FindsFlight, LeaderFinds}
-use Rattle.sc_calm_scenes_law.specs.Scenes.{scene_at}
-use Rattle.sc_calm_scenes_law.specs.Turns.{LeadsAlone}
-use Rattle.sc_cmd.specs.declared.cores.Base.{Base}
-use Rattle.sc_following_law.proofs.Nodes.{same_mark}
-use Rattle.sc_following_law.specs.Following.{Asks, Installs, IsFit, Mark, Prepares, Tells, mark_of, next_by}
-use Rattle.sc_following_law.specs.Leading.{IsLeadOf}
-use Rattle.sc_law_lemmas.specs.Steps.{GoesOn}
-use Rattle.sc_mail.specs.declared.bodies.Mail.{Mail}
-use Rattle.sc_mail.specs.declared.bodies.MailBody.{MailBody}
-use Rattle.sc_mail.specs.declared.bodies.MailBody.TheVariants.{Accept, Accepted, Answer, Ask, Install, Learn, Nack, Prepare, Promise, Request, TxElsewhere, TxOutcome, TxPrepare, TxVote, TxWatch, TxWatched}
-use Rattle.sc_node_table.specs.Node.{NodeState, group_of_mail}
-use Rattle.sc_node_table.specs.Replica.{ReplicaState, listed}
-use Rattle.sc_paxos_words.specs.Ballots.{below}
-use Rattle.sc_sound.specs.Players.{Player}
-use Rattle.sc_calm_orders_law.specs.Stages.{Asks as AsksStage}
-use Rattle.sc_mail.specs.declared.bodies.MailBody.TheVariants.{Told as ToldMail}
+use Rattle.sc_calm_answers_law.specs.Definitions.{IsHere, IsUnsettled, IsGuided, LeadersAreFound, StagesLeaveOneWork}
+use Rattle.sc_calm_groups_law.specs.Definitions.{Delivers}
+use Rattle.sc_calm_law.specs.Definitions.{Rows}
+use Rattle.sc_calm_orders_law.proofs.Lemmas.{cases-draw}
+use Rattle.sc_calm_orders_law.specs.Definitions.{works, Answers, Ends, First, Here, IsNone, Lone, Next, Records, Scene, Turn, Work, free, is_watch, Closes, ClosesBoth, Filed, IsUnderWay, Leg, Mailed, Ordered, Recorded, Replied, SentOn, Stage, Still, Weighs, closing, heard, parties_of, IsUnbound, Asks as AsksStage}
+use Rattle.sc_calm_rows_law.proofs.Lemmas.{all_fit, goes_on, known, no_lead}
+use Rattle.sc_calm_rows_law.specs.Definitions.{progress_at, view_at, IsScene, TakesMail, with_event}
+use Rattle.sc_calm_scenes_law.proofs.Lemmas.{tell}
+use Rattle.sc_calm_scenes_law.specs.Definitions.{FindsFlight, LeaderFinds, scene_at, LeadsAlone}
+use Rattle.sc_following_law.proofs.Lemmas.{same_mark}
+use Rattle.sc_following_law.specs.Definitions.{Asks, Installs, IsFit, Mark, Prepares, Tells, mark_of, next_by, IsLeadOf}
+use Rattle.sc_law_lemmas.specs.Definitions.{GoesOn}
+use Rattle.sc_node_table.specs.Definitions.{NodeState, group_of_mail, ReplicaState, listed}
+use Rattle.sc_paxos_words.specs.Definitions.{below}
+use Rattle.sc_sound.specs.Definitions.{Player}
 use Rattle.std.proofs.lemmas.Option.{same_Some}
 
 -- ---- the work
@@ -76,6 +55,7 @@ parties_one now group (party ∷ named) are ones none = elim (cases-draw group p
   | inr apart ↦ parties_one now group named are.1 ones.1 (λ more. none (apart, more))
 ]
 
+-- The stages leave each leader one work, or none.
 pub stages_leave_one : StagesLeaveOneWork
 stages_leave_one now group under = parties_one now group (parties_of under.0) under.1.parties.0 (stage_one under.0) (under.1.parties.1 group)
 
@@ -172,6 +152,7 @@ module _ (words : ℕ → ℕ → ℕ × ℕ) (births : List (Seat Player)) (row
   finds (Answer named seq answer) e under u none votes = tt
   finds (ToldMail order result) e under u none votes = tt
 
+-- A mail to the leader of a well led group finds what an order needs, but that what a vote finds is asked.
 pub leaders_found : LeadersAreFound
 leaders_found words births rows seat number mail base node r h runs under u none votes =
     (leads_alone words births rows seat number mail base node r h runs, finds words births rows seat number mail base node r h runs mail.body refl under u none votes)

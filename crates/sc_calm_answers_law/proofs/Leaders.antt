@@ -1,47 +1,26 @@
 -- A group of a journal whose rows come in time has leaders, and is well led after each of them.
 use Rattle.std.proofs.Common.{◌≡◌, ℕ, ◌+◌, ◌≤◌, true, false, List, [], ◌∷◌, ◌++◌, Option, Some, None, inl, inr, refl, sym, ◌∙◌, ap, subst, arith, append_assoc, append-nil}
 use Rattle.std.proofs.lemmas.Bool.{lt-ltb, le-ltb}
-use Rattle.sc_base.specs.Among.{Among, Each}
-use Rattle.sc_base.specs.declared.names.Draw.{Draw}
-use Rattle.sc_cmd.specs.declared.cores.Base.{Base}
-use Rattle.sc_cmd.specs.declared.orders.OrderLine.{OrderLine}
-use Rattle.sc_mail.specs.declared.bodies.Mail.{Mail}
-use Rattle.sc_mail.specs.declared.bodies.MailBody.TheVariants.{Install}
-use Rattle.sc_actor.specs.declared.actors.Seat.{Seat}
-use Rattle.sc_actor.specs.declared.rows.Event.{Event}
-use Rattle.sc_actor.specs.declared.rows.Row.{Row}
-use Rattle.sc_actor.specs.Mail.{mails}
-use Rattle.sc_actor.specs.System.{row_of}
-use Rattle.sc_actor.proofs.ReplayLemmas.{mails-append, mails-snoc}
-use Rattle.sc_orderly_law.specs.Orderly.{IsCalmEvent}
-use Rattle.sc_orderly_law.specs.Timely.{AreInTime}
-use Rattle.sc_orderly_law.proofs.InTime.{by_time, last_in_time}
-use Rattle.sc_paxos_words.proofs.ListLemmas.{Each-among, Each-append}
+use Rattle.sc_base.specs.Definitions.{Among, Each}
+use Rattle.sc_node_table.specs.Values.{Draw, Base, OrderLine, Mail, Install, Seat, Event, Row}
+use Rattle.sc_actor.specs.Definitions.{mails, row_of}
+use Rattle.sc_actor.proofs.Lemmas.{mails-append, mails-snoc}
+use Rattle.sc_orderly_law.specs.Definitions.{IsCalmEvent, AreInTime}
+use Rattle.sc_orderly_law.proofs.Lemmas.{by_time, last_in_time}
+use Rattle.sc_paxos_words.proofs.Lemmas.{Each-among, Each-append}
 use Rattle.sc_scenario.specs.declared.scenarios.Scenario.{Scenario}
-use Rattle.sc_node_table.specs.Replica.{ReplicaState, next, last_slot}
-use Rattle.sc_sound.specs.Players.{Player, player_table, births, as_nodes}
-use Rattle.sc_calm_law.specs.Charts.{players}
-use Rattle.sc_log_law.specs.Descent.{Rows}
-use Rattle.sc_group_law.proofs.RowSteps.{number_among}
-use Rattle.sc_following_law.specs.Following.{Mark, Installs, Prepares, mark_of, Course, Sets, members_at}
-use Rattle.sc_following_law.specs.Hints.{Tellers}
-use Rattle.sc_following_law.specs.Tables.{marks_for}
-use Rattle.sc_following_law.proofs.Leads.{least_in}
-use Rattle.sc_following_law.proofs.Marks.{among-either, reached-least}
-use Rattle.sc_following_law.proofs.Nodes.{same_mark}
-use Rattle.sc_calm_rows_law.specs.Groups.{next_in, view_at, marks_at, progress_at}
-use Rattle.sc_calm_rows_law.specs.Steps.{led_course}
-use Rattle.sc_calm_rows_law.specs.Turns.{IsSeat, with_event}
-use Rattle.sc_calm_logs_law.specs.Logged.{logged_sets, IsGroupOf, SlotsHaveRosters}
-use Rattle.sc_calm_groups_law.specs.Kept.{ReplicasAreKept, ScenariosAreKeptBorn}
-use Rattle.sc_calm_groups_law.specs.Kinds.{IsGroupRow, RowPasses, RowRests, RowTakes, RowMakes, RowLeads, RowElects, IsLedStep}
-use Rattle.sc_calm_groups_law.specs.Led.{Ends, IsWellLed, IsLedOn}
-use Rattle.sc_calm_groups_law.specs.Logged.{CountsAsMember}
-use Rattle.sc_calm_groups_law.specs.Rows.{IsStateFrom}
-use Rattle.sc_calm_groups_law.specs.Through.{IsRowOf, Delivers, HasOneLog, IsSentSo, ScenariosAreWellBorn, EventsGoOn}
-use Rattle.sc_calm_groups_law.proofs.Sending.{each_among, among_marks}
-use Rattle.sc_calm_answers_law.specs.Led.{over_at, HasLeaders, LedLogsAreOne}
-use Rattle.sc_calm_answers_law.specs.Tellers.{has_executed, first_to, tellers_at, AreFew, GroupsBeginLed, GroupsAreLed, LedRowsGoOn}
+use Rattle.sc_node_table.specs.Definitions.{ReplicaState, next, last_slot}
+use Rattle.sc_sound.specs.Definitions.{Player, player_table, births, as_nodes}
+use Rattle.sc_calm_law.specs.Definitions.{players}
+use Rattle.sc_log_law.specs.Definitions.{Rows}
+use Rattle.sc_group_law.proofs.Lemmas.{number_among}
+use Rattle.sc_following_law.specs.Definitions.{Mark, Installs, Prepares, mark_of, Course, Sets, members_at, Tellers, marks_for}
+use Rattle.sc_following_law.proofs.Lemmas.{least_in, among-either, reached-least, same_mark}
+use Rattle.sc_calm_rows_law.specs.Definitions.{next_in, view_at, marks_at, progress_at, led_course, IsSeat, with_event}
+use Rattle.sc_calm_logs_law.specs.Definitions.{logged_sets, IsGroupOf, SlotsHaveRosters}
+use Rattle.sc_calm_groups_law.specs.Definitions.{ReplicasAreKept, ScenariosAreKeptBorn, IsGroupRow, RowPasses, RowRests, RowTakes, RowMakes, RowLeads, RowElects, IsLedStep, Ends, IsWellLed, IsLedOn, CountsAsMember, IsStateFrom, IsRowOf, Delivers, HasOneLog, IsSentSo, ScenariosAreWellBorn, EventsGoOn}
+use Rattle.sc_calm_groups_law.proofs.Lemmas.{each_among, among_marks}
+use Rattle.sc_calm_answers_law.specs.Definitions.{over_at, HasLeaders, LedLogsAreOne, has_executed, first_to, tellers_at, AreFew, GroupsBeginLed, GroupsAreLed, LedRowsGoOn}
 use Rattle.sc_calm_answers_law.proofs.Telling.{last_parts, first_hit, none_hit, teller_member, teller_first, answers_none, offers_none, tells_within}
 
 none_behind : (before : Rows) (row : Row Mail OrderLine) (more : Rows) → [] ≡ (before ++ row ∷ []) ++ more → ⊥

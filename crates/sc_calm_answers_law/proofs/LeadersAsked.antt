@@ -5,41 +5,18 @@ use Rattle.std.specs.Option.{option_map}
 use Rattle.std.specs.Map.{set_value, remove_entry}
 use Rattle.std.proofs.lemmas.Bool.{cond_both, cond-true, cond-false, cases_Bool, cases_lt, both_ways, ltb-false}
 use Rattle.std.proofs.lemmas.List.{length-map, length-take-le}
-use Rattle.sc_base.specs.Among.{Among}
-use Rattle.sc_base.specs.Arc.{Arc, end_of, holds}
-use Rattle.sc_base.specs.Limits.{client_actor}
-use Rattle.sc_base.specs.Operation.{key_of}
-use Rattle.sc_base.specs.Same.{same_draw}
-use Rattle.sc_base.specs.Text.{pos_of}
-use Rattle.sc_base.specs.declared.names.Draw.{Draw}
-use Rattle.sc_base.specs.declared.ops.Op.{Op}
-use Rattle.sc_base.specs.declared.ops.Reply.{Reply}
-use Rattle.sc_base.proofs.NameLemmas.{draw_is, same_name}
-use Rattle.sc_cmd.specs.declared.links.Link.{Link}
-use Rattle.sc_cmd.specs.declared.links.Route.{Route}
-use Rattle.sc_lookup.specs.Known.{KnownGroups, way_to, chosen, target_in, changed, preferring, starting, group_learnt, told_not_mine, told_gone}
-use Rattle.sc_lookup.specs.Ways.{far, new_way, target_of}
+use Rattle.sc_base.specs.Definitions.{Among, Arc, end_of, holds, client_actor, key_of, same_draw, pos_of}
+use Rattle.sc_node_table.specs.Values.{Draw, Op, Reply, Link, Route, AnswerBody, Value, NotLeader, NotMine, Gone, Stale, Mail, MailBody, Answer}
+use Rattle.sc_base.proofs.Lemmas.{draw_is, same_name}
+use Rattle.sc_lookup.specs.Definitions.{KnownGroups, way_to, chosen, target_in, changed, preferring, starting, group_learnt, told_not_mine, told_gone, far, new_way, target_of}
 use Rattle.sc_lookup.specs.declared.ways.Way.{Way}
-use Rattle.sc_mail.specs.declared.bodies.AnswerBody.{AnswerBody}
-use Rattle.sc_mail.specs.declared.bodies.AnswerBody.TheVariants.{Value, NotLeader, NotMine, Gone, Stale}
-use Rattle.sc_mail.specs.declared.bodies.Mail.{Mail}
-use Rattle.sc_mail.specs.declared.bodies.MailBody.{MailBody}
-use Rattle.sc_mail.specs.declared.bodies.MailBody.TheVariants.{Answer}
-use Rattle.sc_paxos_law.proofs.Among.{from_map, Among-left, Among-right, Among-either}
-use Rattle.sc_paxos_words.proofs.ListLemmas.{Each-among}
-use Rattle.sc_client_table.specs.Client.{Client as ClientState, waiting_request}
-use Rattle.sc_client_table.specs.Table.{ClientStep, asked_of, sent_to, sent_where, chosen_for, request_sent, started, waits_for, was_asked, redirected, answer_taken, got}
+use Rattle.sc_paxos_law.proofs.Lemmas.{from_map, Among-left, Among-right, Among-either}
+use Rattle.sc_paxos_words.proofs.Lemmas.{Each-among}
+use Rattle.sc_client_table.specs.Definitions.{Client as ClientState, waiting_request, ClientStep, asked_of, sent_to, sent_where, chosen_for, request_sent, started, waits_for, was_asked, redirected, answer_taken, got}
 use Rattle.sc_scenario.specs.declared.scenarios.Asks.{Asks}
-use Rattle.sc_budget_law.specs.CalmAsking.{IsLinkedSetting, IsCalmClient}
-use Rattle.sc_budget_law.specs.CalmClient.{start_of, start_known}
-use Rattle.sc_budget_law.specs.CalmNode.{Setting, IsSetting, IsCalmMail}
-use Rattle.sc_budget_law.specs.Frames.{Frame}
-use Rattle.sc_budget_law.specs.PlainClient.{IsWaiting, IsBegun}
-use Rattle.sc_budget_law.specs.PlainMail.{Requests}
-use Rattle.sc_budget_law.proofs.CalmKnowing.{name_in, id_of, gap, learn_in_turn}
-use Rattle.sc_budget_law.proofs.Knowing.{chosen_is}
-use Rattle.sc_budget_law.proofs.Lists.{some_is, map_among}
-use Rattle.sc_calm_answers_law.specs.Hearing.{IsLedAt, AsksLeaders, ClientsAskLeaders}
+use Rattle.sc_budget_law.specs.Definitions.{IsLinkedSetting, IsCalmClient, start_of, start_known, Setting, IsSetting, IsCalmMail, Frame, IsWaiting, IsBegun, Requests}
+use Rattle.sc_budget_law.proofs.Lemmas.{name_in, id_of, gap, learn_in_turn, chosen_is, some_is, map_among, near_behind}
+use Rattle.sc_calm_answers_law.specs.Definitions.{IsLedAt, AsksLeaders, ClientsAskLeaders}
 use Rattle.sc_calm_answers_law.proofs.Heard.{chosen_known, RingKnown, ring_known, alone, Says, says_of, all_led, lacks}
 
 -- ---- what is asked of groups, after changes
@@ -178,9 +155,6 @@ same_of_one (z ∷ []) x y few (inl e) (inl f) = sym e ∙ f
 same_of_one (z ∷ []) x y few (inl e) (inr b) = absurd b
 same_of_one (z ∷ []) x y few (inr a) b = absurd a
 same_of_one (z ∷ w ∷ xs) x y few a b = absurd (omega (arith, few))
-
-near_behind : (p lo len : ℕ) → lo < 2 ^ 32 → 1 ≤ len → len ≤ 2 ^ 32 → len ≤ ((p + 2 ^ 32) - lo) % 2 ^ 32 → ((p + 2 ^ 32) - (lo + len) % 2 ^ 32) % 2 ^ 32 < ((p + 2 ^ 32) - lo) % 2 ^ 32
-near_behind p lo len low some most lacks = omega arith
 
 module _ (set : Setting) (is : IsSetting set) (frame : Frame) (a : Among frame set.frames) (known : KnownGroups) (r : RingKnown set frame known) (p : ℕ) (c : chosen p known ≡ Some frame.core.id) (out : holds frame.core.arc p ≡ false) where
   front_ring : (n : ℕ) (other : Frame) → Among other (take n r.ring) → Among other r.ring
@@ -344,6 +318,7 @@ module _ (begun : Requests) (set : Setting) (is : IsSetting set) (linked : IsLin
       subst (λ (b : MailBody). Leads (got mail.from b client)) (sym e)
       (cond_both (waits_for client.waiting w.seq) (answer_taken mail.from w.group w.seq answer client) (client, []) Leads (λ _. taken answer (says_of begun set is linked asks gone client k w mail m to asked_right from (Answer w.group w.seq answer) e)) (λ _. leads))
 
+-- Clients go on to ask leaders: of each group that one knows, but for that which it asked last, it would ask the node that leads, once it goes and by each answer that it waits for.
 pub ask_leaders : ClientsAskLeaders
 ask_leaders = record {
   go = λ set asks client entry k one. started_leads set 1 client entry one;

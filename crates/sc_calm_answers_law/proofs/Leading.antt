@@ -1,22 +1,19 @@
 -- Who leads a well led group, and what it has in flight in a quiet journal.
 use Rattle.std.proofs.Common.{List, None, Option, Some, ap, inl, inr, refl, sym, true, true≢false, ℕ, ◌∙◌, ◌≡◌}
 use Rattle.std.proofs.lemmas.Bool.{cases_Bool}
-use Rattle.sc_actor.specs.declared.actors.Seat.{Seat}
-use Rattle.sc_calm_answers_law.specs.Guided.{LeadsOrNone, QuietLeadersHaveNothing, WellLedLeadAlone}
-use Rattle.sc_calm_groups_law.proofs.Keeping.{kept_leaders_rest}
-use Rattle.sc_calm_groups_law.specs.Led.{Ends, IsWellLed}
-use Rattle.sc_calm_law.proofs.OwedLearn.{unbound_new}
-use Rattle.sc_calm_law.specs.Totals.{Rows}
-use Rattle.sc_calm_orders_law.specs.Tables.{IsUnbound}
-use Rattle.sc_calm_rows_law.proofs.Keeping.{same_some}
-use Rattle.sc_calm_rows_law.specs.Groups.{progress_at, view_at}
-use Rattle.sc_calm_scenes_law.specs.Turns.{LeadsAlone}
-use Rattle.sc_cmd.specs.declared.cores.Base.{Base}
-use Rattle.sc_following_law.specs.Following.{Course, Sets}
-use Rattle.sc_following_law.specs.Hints.{Tellers}
-use Rattle.sc_following_law.specs.Leading.{IsLeadOf}
-use Rattle.sc_node_table.specs.Replica.{ReplicaState}
-use Rattle.sc_sound.specs.Players.{Player}
+use Rattle.sc_node_table.specs.Values.{Seat, Base}
+use Rattle.sc_calm_answers_law.specs.Definitions.{LeadsOrNone, QuietLeadersHaveNothing, WellLedLeadAlone}
+use Rattle.sc_calm_groups_law.proofs.Lemmas.{kept_leaders_rest}
+use Rattle.sc_calm_groups_law.specs.Definitions.{Ends, IsWellLed}
+use Rattle.sc_calm_law.proofs.Lemmas.{unbound_new}
+use Rattle.sc_calm_law.specs.Definitions.{Rows}
+use Rattle.sc_calm_orders_law.specs.Definitions.{IsUnbound}
+use Rattle.sc_calm_rows_law.proofs.Lemmas.{same_some}
+use Rattle.sc_calm_rows_law.specs.Definitions.{progress_at, view_at}
+use Rattle.sc_calm_scenes_law.specs.Definitions.{LeadsAlone}
+use Rattle.sc_following_law.specs.Definitions.{Course, Sets, Tellers, IsLeadOf}
+use Rattle.sc_node_table.specs.Definitions.{ReplicaState}
+use Rattle.sc_sound.specs.Definitions.{Player}
 
 module _ (at : Sets) (over : Ends) (by : Tellers) (words : ℕ → ℕ → ℕ × ℕ) (births : List (Seat Player)) (rows : Rows) (base : Base) (course : Course) (was : IsWellLed at over by words births rows base course) where
   module _ (node : ℕ) (r : ReplicaState) (e : view_at births rows base.core.id node ≡ Some r) (runs : r.running ≡ true) where
@@ -46,12 +43,14 @@ module _ (at : Sets) (over : Ends) (by : Tellers) (words : ℕ → ℕ → ℕ �
   pub one : LeadsOrNone births rows base.core.id
   one = one_by (view_at births rows base.core.id course.ballot.node) refl
 
+-- A well led group has one that leads alone, bound by no report, or none runs; and each replica that runs is that one.
 pub well_led_lead_alone : WellLedLeadAlone
 well_led_lead_alone = record {
   alone = λ at over by words births rows base course node r was e runs. (alone at over by words births rows base course was node r e runs, unbound at over by words births rows base course was node r e runs);
   one = λ at over by words births rows base course was. one at over by words births rows base course was;
 }
 
+-- In a quiet journal each replica of a well led group that runs has nothing in flight.
 pub quiet_leaders_have_nothing : QuietLeadersHaveNothing
 quiet_leaders_have_nothing at over by words births rows base course node r kept rosters timely quiet strangers was e runs room waits =
     let g = gives at over by words births rows base course was node r e runs in

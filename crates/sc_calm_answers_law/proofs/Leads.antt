@@ -1,34 +1,21 @@
 -- A leader is a member of a group that stands, and what it has in flight is the work of a stage.
 use Rattle.std.proofs.Common.{◌≡◌, ℕ, Bool, true, false, true≢false, List, [], ◌∷◌, ◌++◌, Option, Some, None, inl, inr, is_some, refl, sym, ◌∙◌, ap, subst, append_assoc, append-nil}
-use Rattle.sc_base.specs.Among.{Among, Each}
-use Rattle.sc_base.specs.declared.names.Draw.{Draw}
-use Rattle.sc_cmd.specs.declared.commands.Command.{Command}
-use Rattle.sc_cmd.specs.declared.cores.Base.{Base}
-use Rattle.sc_cmd.specs.declared.links.Route.{Route}
-use Rattle.sc_base.specs.Roster.{is_member}
-use Rattle.sc_node_table.specs.Replica.{ReplicaState, members}
-use Rattle.sc_orderly_law.specs.Timely.{AreInTime}
-use Rattle.sc_paxos_words.specs.declared.flights.Flight.{Flight}
+use Rattle.sc_base.specs.Definitions.{Among, Each, is_member}
+use Rattle.sc_node_table.specs.Values.{Draw, Command, Base, Route, Flight}
+use Rattle.sc_node_table.specs.Definitions.{ReplicaState, members}
+use Rattle.sc_orderly_law.specs.Definitions.{AreInTime}
 use Rattle.sc_scenario.specs.declared.scenarios.Scenario.{Scenario}
-use Rattle.sc_sound.specs.Players.{as_nodes, births}
-use Rattle.sc_calm_law.specs.Charts.{players}
-use Rattle.sc_calm_law.specs.Totals.{Rows}
-use Rattle.sc_calm_answers_law.specs.Led.{over_at}
-use Rattle.sc_calm_logs_law.specs.Logged.{IsGroupOf, logged_sets}
-use Rattle.sc_following_law.specs.Following.{members_at}
-use Rattle.sc_calm_mail_law.proofs.FewJournals.{journals_idle}
-use Rattle.sc_calm_orders_law.specs.Parts.{work_by, works, works_flying, works_in, works_ready}
-use Rattle.sc_calm_orders_law.specs.Scenes.{Answers, Bound, Ends, Here, Records, Work, is_watch}
-use Rattle.sc_calm_orders_law.specs.Stages.{Asks, Closes, ClosesBoth, Deal, Ordered, Party, Recorded, Replied, SentOn, Stage, Still, Weighs, closing, leads_of, parties_of}
-use Rattle.sc_calm_orders_law.proofs.Lists.{among-left, among-right, found, tagged, tokens}
-use Rattle.sc_calm_orders_law.proofs.Moves.{closing-work, no-work, work_of}
-use Rattle.sc_calm_rows_law.specs.Groups.{view_at}
-use Rattle.sc_calm_scenes_law.specs.Fresh.{IsThere}
-use Rattle.sc_calm_scenes_law.specs.Scenes.{scene_at}
-use Rattle.sc_calm_scenes_law.proofs.Viewing.{tell}
-use Rattle.sc_calm_answers_law.specs.Deeds.{Voting, doer, doers_of}
-use Rattle.sc_calm_answers_law.specs.TrueEntries.{LeadsSince}
-use Rattle.sc_calm_answers_law.specs.Told.{ReplicasTell}
+use Rattle.sc_sound.specs.Definitions.{as_nodes, births}
+use Rattle.sc_calm_law.specs.Definitions.{players, Rows}
+use Rattle.sc_calm_answers_law.specs.Definitions.{over_at, Voting, doer, doers_of, LeadsSince, ReplicasTell}
+use Rattle.sc_calm_logs_law.specs.Definitions.{IsGroupOf, logged_sets}
+use Rattle.sc_following_law.specs.Definitions.{members_at}
+use Rattle.sc_calm_mail_law.proofs.Lemmas.{journals_idle}
+use Rattle.sc_calm_orders_law.specs.Definitions.{work_by, works, works_flying, works_in, works_ready, Answers, Bound, Ends, Here, Records, Work, is_watch, Asks, Closes, ClosesBoth, Deal, Ordered, Party, Recorded, Replied, SentOn, Stage, Still, Weighs, closing, leads_of, parties_of}
+use Rattle.sc_calm_orders_law.proofs.Lemmas.{among-left, among-right, found, tagged, tokens, closing-work, no-work, work_of}
+use Rattle.sc_calm_rows_law.specs.Definitions.{view_at}
+use Rattle.sc_calm_scenes_law.specs.Definitions.{IsThere, scene_at}
+use Rattle.sc_calm_scenes_law.proofs.Lemmas.{tell}
 use Rattle.sc_calm_answers_law.proofs.Since.{base_of}
 use Rattle.sc_calm_answers_law.proofs.TrueBeginning.{closing_bond}
 use Rattle.sc_calm_answers_law.proofs.KeptCounting.{work_flies}

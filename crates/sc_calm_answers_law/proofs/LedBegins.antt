@@ -1,28 +1,21 @@
 -- Groups begin with a first member, and are not gone then.
 use Rattle.std.proofs.Common.{◌≡◌, ℕ, List, [], ◌∷◌, zero, suc, Option, Some, None, inl, inr, refl, sym, subst, option_to_list}
 use Rattle.std.specs.Option.{option_map}
-use Rattle.sc_base.specs.Among.{Among}
-use Rattle.sc_base.specs.declared.names.Draw.{Draw}
-use Rattle.sc_cmd.specs.declared.commands.Command.{Command}
-use Rattle.sc_cmd.specs.declared.cores.Base.{Base}
-use Rattle.sc_base.specs.Roster.{IsRoster, is_member}
+use Rattle.sc_base.specs.Definitions.{Among, IsRoster, is_member}
+use Rattle.sc_node_table.specs.Values.{Draw, Command, Base}
 use Rattle.std.specs.Prelude.{true}
-use Rattle.sc_machine_table.specs.Group.{Group, group_of}
-use Rattle.sc_machine_table.specs.Machine.{applied}
-use Rattle.sc_machine_table.specs.Splits.{child_of}
-use Rattle.sc_log_entries.specs.Births.{birth_of, division_of}
+use Rattle.sc_machine_table.specs.Definitions.{Group, group_of, applied, child_of}
+use Rattle.sc_log_entries.specs.Definitions.{birth_of, division_of}
 use Rattle.sc_log_entries.specs.declared.Division.{Division}
-use Rattle.sc_paxos_law.proofs.Among.{Among-either}
-use Rattle.sc_scenario.specs.Valid.{IsBounded}
+use Rattle.sc_paxos_law.proofs.Lemmas.{Among-either}
+use Rattle.sc_scenario.specs.Definitions.{IsBounded}
 use Rattle.sc_scenario.specs.declared.scenarios.Scenario.{Scenario}
-use Rattle.sc_sound.specs.GroupsOf.{children_of, groups_at}
-use Rattle.sc_sound.specs.Logs.{decided_log}
-use Rattle.sc_sound.specs.Players.{Ahead}
-use Rattle.sc_log_law.specs.Descent.{Rows, Descends}
-use Rattle.sc_log_law.proofs.Generations.{group_found}
-use Rattle.sc_whole_law.proofs.Children.{fresh_children}
-use Rattle.sc_following_law.proofs.Leads.{least_in}
-use Rattle.sc_calm_rows_law.proofs.Beginning.{born_facts}
+use Rattle.sc_sound.specs.Definitions.{children_of, groups_at, decided_log, Ahead}
+use Rattle.sc_log_law.specs.Definitions.{Rows, Descends}
+use Rattle.sc_log_law.proofs.Lemmas.{group_found}
+use Rattle.sc_whole_law.proofs.Lemmas.{fresh_children}
+use Rattle.sc_following_law.proofs.Lemmas.{least_in}
+use Rattle.sc_calm_rows_law.proofs.Lemmas.{born_facts}
 
 -- a group begins with a first member of a roster, and is not gone
 record IsBegun (base : Base) : Type 0 where

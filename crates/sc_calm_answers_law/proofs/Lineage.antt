@@ -2,23 +2,17 @@
 use Rattle.std.proofs.Common.{◌≡◌, ◌⊎◌, ℕ, zero, suc, true, cond, List, [], ◌∷◌, ◌++◌, take, Option, Some, None, inl, inr, refl, sym, ◌∙◌, ap, subst}
 use Rattle.std.specs.Option.{option_to_list}
 use Rattle.std.proofs.lemmas.Bool.{cond_both}
-use Rattle.sc_base.specs.Among.{Among}
-use Rattle.sc_base.specs.declared.names.Draw.{Draw}
-use Rattle.sc_cmd.specs.declared.commands.Command.{Command}
-use Rattle.sc_cmd.specs.declared.cores.Base.{Base}
-use Rattle.sc_base.specs.Roster.{is_member}
-use Rattle.sc_log_entries.specs.Births.{birth_of}
-use Rattle.sc_log_entries.proofs.Children.{births_are_children}
-use Rattle.sc_machine_table.specs.Children.{child_by}
-use Rattle.sc_machine_table.specs.Group.{Group}
-use Rattle.sc_machine_table.specs.Logs.{state_after}
-use Rattle.sc_machine_table.specs.Machine.{applied}
-use Rattle.sc_node_table.specs.Execute.{child_at}
-use Rattle.sc_sound.specs.GroupsOf.{children_of}
-use Rattle.sc_calm_orders_law.proofs.Lists.{among-left, among-right}
+use Rattle.sc_base.specs.Definitions.{Among, is_member}
+use Rattle.sc_node_table.specs.Values.{Draw, Command, Base}
+use Rattle.sc_log_entries.specs.Definitions.{birth_of}
+use Rattle.sc_log_entries.proofs.Lemmas.{births_are_children}
+use Rattle.sc_machine_table.specs.Definitions.{child_by, Group, state_after, applied}
+use Rattle.sc_node_table.specs.Definitions.{child_at}
+use Rattle.sc_sound.specs.Definitions.{children_of}
+use Rattle.sc_calm_orders_law.proofs.Lemmas.{among-left, among-right}
 use Rattle.sc_calm_answers_law.proofs.WorkBirths.{HasBorn, stays_born, bears_born, new_born}
 use Rattle.sc_calm_answers_law.proofs.Logs.{kids_of}
-use Rattle.sc_paxos_law.proofs.Among.{Among-either}
+use Rattle.sc_paxos_law.proofs.Lemmas.{Among-either}
 
 -- it forgets none
 pub log_stays : (name : Draw) (group : Group) (log : List Command) → HasBorn name group.core.born → HasBorn name (state_after group log).core.born

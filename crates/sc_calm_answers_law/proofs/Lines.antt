@@ -4,23 +4,19 @@ use Rattle.std.specs.List.{count_by}
 use Rattle.std.proofs.lemmas.Bool.{cases_lt}
 use Rattle.std.proofs.lemmas.List.Sums.{sum_by-cons}
 use Rattle.std.proofs.Math.Nat.{mul-le-mul_left}
-use Rattle.sc_base.specs.Among.{Each}
-use Rattle.sc_actor.specs.declared.schedules.Line.{Line}
+use Rattle.sc_base.specs.Definitions.{Each}
+use Rattle.sc_node_table.specs.Values.{Line, OrderLine}
 use Rattle.sc_actor.specs.declared.schedules.Line.TheVariants as line
-use Rattle.sc_cmd.specs.declared.orders.OrderLine.{OrderLine}
-use Rattle.sc_orderly_law.specs.Owing.{HasRoom}
-use Rattle.sc_orderly_law.specs.Timely.{gives_order as order_line, orders_given}
-use Rattle.sc_scenario.specs.Valid.{ValidScenariosAreBounded}
+use Rattle.sc_orderly_law.specs.Definitions.{HasRoom, gives_order as order_line, orders_given}
+use Rattle.sc_scenario.specs.Definitions.{ValidScenariosAreBounded}
 use Rattle.sc_scenario.specs.declared.scenarios.Scenario.{Scenario}
 use Rattle.sc_scenario.specs.declared.scenarios.SchedLine.{SchedLine}
 use Rattle.sc_scenario.specs.declared.scenarios.SchedLine.TheVariants.{Go, Deliver, Drop, Again, Tick, Crash, Told, Settle, Free, Storm}
-use Rattle.sc_sound.specs.Players.{births, line_of, schedule, as_nodes}
-use Rattle.sc_whole_law.proofs.Seats.{all_apart}
-use Rattle.sc_calm_law.specs.Resting.{births_owe, KeptCalmEndsQuiet}
-use Rattle.sc_budget_law.specs.Budget.{requests_of, budget_of, AllowsDeliveries}
-use Rattle.sc_budget_law.specs.Calm.{gives_order, orders_of, calm_budget_of, AllowsCalmly, CalmLinesAreSpaced}
-use Rattle.sc_budget_law.specs.Laws.{PlainLinesEndQuiet}
-use Rattle.sc_calm_answers_law.specs.Lines.{calm_deliveries_of, CalmLinesEndQuiet}
+use Rattle.sc_sound.specs.Definitions.{births, line_of, schedule, as_nodes}
+use Rattle.sc_whole_law.proofs.Lemmas.{all_apart}
+use Rattle.sc_calm_law.specs.Definitions.{births_owe, KeptCalmEndsQuiet}
+use Rattle.sc_budget_law.specs.Definitions.{requests_of, budget_of, AllowsDeliveries, gives_order, orders_of, calm_budget_of, AllowsCalmly, CalmLinesAreSpaced, PlainLinesEndQuiet}
+use Rattle.sc_calm_answers_law.specs.Definitions.{calm_deliveries_of, CalmLinesEndQuiet}
 use Rattle.sc_calm_answers_law.proofs.Covered.{births_covered}
 
 -- one more that passes counts one more

@@ -1,43 +1,23 @@
 -- In a line of requests clients ask leaders.
 use Rattle.std.proofs.Common.{◌≡◌, ℕ, ◌≤◌, eqb, [], ◌∷◌, ◌++◌, find, Some, None, inl, inr, refl, sym, ◌∙◌, ap, subst, arith, append-nil}
 use Rattle.std.proofs.lemmas.Bool.{cases_eq, both_ways}
-use Rattle.sc_base.specs.Among.{Among}
-use Rattle.sc_base.specs.Limits.{client_actor}
-use Rattle.sc_base.specs.declared.names.Draw.{Draw}
-use Rattle.sc_cmd.specs.declared.cores.Base.{Base}
-use Rattle.sc_cmd.specs.declared.orders.OrderLine.{OrderLine}
+use Rattle.sc_base.specs.Definitions.{Among, client_actor}
+use Rattle.sc_node_table.specs.Values.{Draw, Base, OrderLine, Mail, Client, Seat, Event, Deliver, Tick, Go, Crash, Drop, Again, Got, Row}
 use Rattle.sc_lookup.specs.declared.ways.Way.{Way}
-use Rattle.sc_mail.specs.declared.bodies.Mail.{Mail}
-use Rattle.sc_mail.specs.declared.roles.Role.TheVariants.{Client}
-use Rattle.sc_actor.specs.declared.actors.Seat.{Seat}
-use Rattle.sc_actor.specs.declared.rows.Event.{Event}
-use Rattle.sc_actor.specs.declared.rows.Event.TheVariants.{Deliver, Tick, Go, Told, Crash, Drop, Again}
-use Rattle.sc_actor.specs.declared.rows.Input.TheVariants.{Got, Go as GoInput}
-use Rattle.sc_actor.specs.declared.rows.Row.{Row}
-use Rattle.sc_actor.specs.Replay.{value}
-use Rattle.sc_actor.specs.System.{System, row_of, has_gone}
-use Rattle.sc_client_table.specs.Client.{Client as ClientState}
-use Rattle.sc_client_table.specs.Table.{table}
-use Rattle.sc_node_table.specs.Node.{is_node}
+use Rattle.sc_actor.specs.declared.rows.Event.TheVariants.{Told}
+use Rattle.sc_actor.specs.declared.rows.Input.TheVariants.{Go as GoInput}
+use Rattle.sc_actor.specs.Definitions.{value, System, row_of, has_gone}
+use Rattle.sc_client_table.specs.Definitions.{Client as ClientState, table}
+use Rattle.sc_node_table.specs.Definitions.{is_node}
 use Rattle.sc_scenario.specs.declared.scenarios.Asks.{Asks}
 use Rattle.sc_scenario.specs.declared.scenarios.Scenario.{Scenario}
-use Rattle.sc_scenario.specs.Valid.{ValidScenariosAreBounded}
-use Rattle.sc_sound.specs.Players.{Player, player_table, node_seat, client_seat, route_of, births, system_of, as_nodes}
-use Rattle.sc_orderly_law.specs.Orderly.{IsTidy, IsOrderly, IsInOrder}
-use Rattle.sc_orderly_law.specs.Owing.{owed}
-use Rattle.sc_budget_law.specs.Asking.{IsAsking, AreFarFromLast}
-use Rattle.sc_budget_law.specs.AskingLines.{AreRequests, AreSeated, NobodyWaits}
-use Rattle.sc_budget_law.specs.CalmAsking.{IsLinkedSetting}
-use Rattle.sc_budget_law.specs.CalmNode.{Setting, IsSetting}
+use Rattle.sc_scenario.specs.Definitions.{ValidScenariosAreBounded}
+use Rattle.sc_sound.specs.Definitions.{Player, player_table, node_seat, client_seat, route_of, births, system_of, as_nodes}
+use Rattle.sc_orderly_law.specs.Definitions.{IsTidy, IsOrderly, IsInOrder, owed}
+use Rattle.sc_budget_law.specs.Definitions.{IsAsking, AreFarFromLast, AreRequests, AreSeated, NobodyWaits, IsLinkedSetting, Setting, IsSetting}
 use Rattle.sc_budget_law.proofs.AskingClients as clients_of
-use Rattle.sc_budget_law.proofs.AskingSought.{AreSought}
-use Rattle.sc_budget_law.proofs.BetweenStage.{IsStage, stage}
-use Rattle.sc_budget_law.proofs.BetweenSteps.{node_number, client_number, value_others}
-use Rattle.sc_budget_law.proofs.BetweenViews.{Journal}
-use Rattle.sc_budget_law.proofs.BetweenWhole.{of_player}
-use Rattle.sc_budget_law.proofs.QuietTurns.{client_is}
-use Rattle.sc_calm_answers_law.specs.Hearing.{AsksLeaders, AllAskLeaders, KnowOne, LinesAskLeaders}
-use Rattle.sc_calm_answers_law.specs.Tokens.{token_owing}
+use Rattle.sc_budget_law.proofs.Lemmas.{AreSought, IsStage, stage, node_number, client_number, value_others, Journal, of_player, client_is}
+use Rattle.sc_calm_answers_law.specs.Definitions.{AsksLeaders, AllAskLeaders, KnowOne, LinesAskLeaders, token_owing}
 use Rattle.sc_calm_answers_law.proofs.LeadersAsked.{ask_leaders}
 use Rattle.sc_calm_answers_law.proofs.LinesKeep.{line_keeps, fresh_row}
 use Rattle.sc_calm_answers_law.proofs.TokensJournal.{falls}

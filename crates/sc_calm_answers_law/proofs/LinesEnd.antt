@@ -1,27 +1,15 @@
 -- A line of requests from a quiet journal leaves all replicas quiet.
 use Rattle.std.proofs.Common.{◌≡◌, ℕ, ◌+◌, ◌<◌, List, [], ◌∷◌, ◌++◌, Some, inl, refl, sym, ◌∙◌, ap, subst, arith, append-nil}
-use Rattle.sc_base.specs.Among.{Among}
-use Rattle.sc_cmd.specs.declared.commands.Command.{Command}
-use Rattle.sc_cmd.specs.declared.cores.Base.{Base}
-use Rattle.sc_paxos_words.specs.declared.reports.Report.{Report}
-use Rattle.sc_paxos_words.proofs.ListLemmas.{Each-among}
-use Rattle.sc_node_table.specs.Replica.{ReplicaState, next}
+use Rattle.sc_base.specs.Definitions.{Among}
+use Rattle.sc_node_table.specs.Values.{Command, Base, Report}
+use Rattle.sc_paxos_words.proofs.Lemmas.{Each-among}
+use Rattle.sc_node_table.specs.Definitions.{ReplicaState, next}
 use Rattle.sc_scenario.specs.declared.scenarios.Scenario.{Scenario}
-use Rattle.sc_scenario.specs.Valid.{ValidScenariosAreBounded}
-use Rattle.sc_calm_law.specs.Owed.{Ways}
-use Rattle.sc_budget_law.specs.Asking.{IsAsking}
-use Rattle.sc_budget_law.specs.AskingLines.{AreRequests}
-use Rattle.sc_budget_law.specs.AskingQuiet.{replicas_after, setting_at, AreFramesOf, IsQuietJournal}
-use Rattle.sc_budget_law.specs.BetweenJournal.{replica_at}
-use Rattle.sc_budget_law.specs.CalmAsking.{IsLinkedSetting}
-use Rattle.sc_budget_law.specs.CalmNode.{IsSetting}
-use Rattle.sc_budget_law.specs.Frames.{Frame}
-use Rattle.sc_budget_law.specs.PlainNode.{AreTaken}
-use Rattle.sc_budget_law.proofs.AskingBegins.{quiet_ask}
-use Rattle.sc_budget_law.proofs.BetweenStage.{IsStage, stage}
-use Rattle.sc_budget_law.proofs.BetweenViews.{Journal}
-use Rattle.sc_budget_law.proofs.Lists.{some_is}
-use Rattle.sc_calm_answers_law.specs.QuietLines.{LinesLeaveReplicasQuiet}
+use Rattle.sc_scenario.specs.Definitions.{ValidScenariosAreBounded}
+use Rattle.sc_calm_law.specs.Definitions.{Ways}
+use Rattle.sc_budget_law.specs.Definitions.{IsAsking, AreRequests, replicas_after, setting_at, AreFramesOf, IsQuietJournal, replica_at, IsLinkedSetting, IsSetting, Frame, AreTaken}
+use Rattle.sc_budget_law.proofs.Lemmas.{quiet_ask, IsStage, stage, Journal, some_is}
+use Rattle.sc_calm_answers_law.specs.Definitions.{LinesLeaveReplicasQuiet}
 use Rattle.sc_calm_answers_law.proofs.EndAll.{all_quiet}
 use Rattle.sc_calm_answers_law.proofs.LinesServe.{HaveServed, line_serves}
 use Rattle.sc_calm_answers_law.proofs.Serving.{rests_itself}

@@ -2,56 +2,24 @@
 use Rattle.std.proofs.Common.{◌≡◌, ℕ, ◌+◌, ◌≤◌, ◌&&◌, ◌||◌, eqb, Bool, true, false, List, [], ◌∷◌, ◌++◌, length, drop, filter, find, Some, inl, inr, refl, sym, ◌∙◌, ap, subst, arith, append_assoc, append-nil}
 use Rattle.std.proofs.lemmas.Bool.{cond_both, cases_eq, both_ways, eqb-true, eq-eqb, or_right}
 use Rattle.std.proofs.lemmas.List.Folds.{list_any-append}
-use Rattle.sc_base.specs.Among.{Among, Each}
-use Rattle.sc_base.specs.Limits.{client_actor}
-use Rattle.sc_base.specs.declared.names.Draw.{Draw}
-use Rattle.sc_base.specs.declared.ops.Op.{Op}
-use Rattle.sc_cmd.specs.declared.cores.Base.{Base}
-use Rattle.sc_cmd.specs.declared.orders.OrderLine.{OrderLine}
-use Rattle.sc_mail.specs.declared.bodies.Mail.{Mail}
-use Rattle.sc_mail.specs.declared.bodies.MailBody.{MailBody}
-use Rattle.sc_mail.specs.declared.bodies.MailBody.TheVariants.{Request, Answer, Prepare, Promise, Accept, Accepted, Nack, Learn, Ask, Install, TxPrepare, TxVote, TxOutcome, TxElsewhere, TxWatch, TxWatched, Told as ToldBody}
-use Rattle.sc_mail.specs.declared.roles.Role.TheVariants.{Node, Client}
-use Rattle.sc_base.specs.Roster.{is_member}
-use Rattle.sc_actor.specs.declared.actors.Seat.{Seat}
-use Rattle.sc_actor.specs.declared.rows.Event.{Event}
-use Rattle.sc_actor.specs.declared.rows.Event.TheVariants.{Deliver, Tick, Go, Told, Crash, Drop, Again}
-use Rattle.sc_actor.specs.declared.rows.Input.TheVariants.{Got, Go as GoInput}
-use Rattle.sc_actor.specs.declared.rows.Row.{Row}
-use Rattle.sc_actor.specs.Mail.{mails}
-use Rattle.sc_actor.specs.Replay.{value, acted, input_of}
-use Rattle.sc_actor.specs.System.{System, row_of, has_gone, is_go}
-use Rattle.sc_client_table.specs.Client.{Client as ClientState}
-use Rattle.sc_client_table.specs.Table.{table}
-use Rattle.sc_paxos_words.proofs.ListLemmas.{Each-append, Each-filter}
-use Rattle.sc_node_table.specs.Node.{is_node, node_table}
-use Rattle.sc_node_table.specs.Slots.{slots_ahead}
+use Rattle.sc_base.specs.Definitions.{Among, Each, client_actor, is_member}
+use Rattle.sc_node_table.specs.Values.{Draw, Op, Base, OrderLine, Mail, MailBody, Request, Answer, Prepare, Promise, Accept, Accepted, Nack, Learn, Ask, Install, TxPrepare, TxVote, TxOutcome, TxElsewhere, TxWatch, TxWatched, Told as ToldBody, Node, Client, Seat, Event, Deliver, Tick, Go, Crash, Drop, Again, Got, Row}
+use Rattle.sc_actor.specs.declared.rows.Event.TheVariants.{Told}
+use Rattle.sc_actor.specs.declared.rows.Input.TheVariants.{Go as GoInput}
+use Rattle.sc_actor.specs.Definitions.{mails, value, acted, input_of, System, row_of, has_gone, is_go}
+use Rattle.sc_client_table.specs.Definitions.{Client as ClientState, table}
+use Rattle.sc_paxos_words.proofs.Lemmas.{Each-append, Each-filter}
+use Rattle.sc_node_table.specs.Definitions.{is_node, node_table, slots_ahead}
 use Rattle.sc_scenario.specs.declared.scenarios.Asks.{Asks}
 use Rattle.sc_scenario.specs.declared.scenarios.Scenario.{Scenario}
-use Rattle.sc_sound.specs.Players.{Player, player_table, node_seat, client_seat, route_of, births, system_of, as_nodes}
-use Rattle.sc_orderly_law.specs.Orderly.{IsTidy, IsOrderly, IsInOrder, rest, is_born, mail_for, taken}
-use Rattle.sc_orderly_law.proofs.Resting.{is_born-from, rest-row}
-use Rattle.sc_orderly_law.proofs.Seats.{seat_found}
-use Rattle.sc_budget_law.specs.Asking.{IsAsking, AreFarFromLast}
-use Rattle.sc_budget_law.specs.AskingLines.{AreRequests, AreSeated}
-use Rattle.sc_budget_law.specs.Between.{Other, mark, mark_of}
-use Rattle.sc_budget_law.specs.CalmAsking.{IsLinkedSetting, IsCalmClient}
-use Rattle.sc_budget_law.specs.CalmNode.{Setting, IsSetting, IsAsideBody, IsCalmMail}
-use Rattle.sc_budget_law.specs.Frames.{Frame, IsFrame}
-use Rattle.sc_budget_law.specs.Owed.{waiting_ones}
-use Rattle.sc_budget_law.specs.PlainClient.{IsBegun, begun_of}
-use Rattle.sc_budget_law.specs.PlainMail.{Requests, IsPlainBody}
+use Rattle.sc_sound.specs.Definitions.{Player, player_table, node_seat, client_seat, route_of, births, system_of, as_nodes}
+use Rattle.sc_orderly_law.specs.Definitions.{IsTidy, IsOrderly, IsInOrder, rest, is_born, mail_for, taken}
+use Rattle.sc_orderly_law.proofs.Lemmas.{is_born-from, rest-row, seat_found}
+use Rattle.sc_budget_law.specs.Definitions.{IsAsking, AreFarFromLast, AreRequests, AreSeated, Other, mark, mark_of, IsLinkedSetting, IsCalmClient, Setting, IsSetting, IsAsideBody, IsCalmMail, Frame, IsFrame, waiting_ones, IsBegun, begun_of, Requests, IsPlainBody}
 use Rattle.sc_budget_law.proofs.AskingClients as clients_of
-use Rattle.sc_budget_law.proofs.AskingMore.{aside_mark, takes_only, go_only}
+use Rattle.sc_budget_law.proofs.Lemmas.{aside_mark, takes_only, go_only, IsStage, node_born, node_number, client_number, value_others, gone_others, gone_still, Journal, of_player, unasked, stays_by, IsFor, for_node}
 use Rattle.sc_budget_law.proofs.AskingTurns as turns_of
-use Rattle.sc_budget_law.proofs.BetweenStage.{IsStage}
-use Rattle.sc_budget_law.proofs.BetweenSteps.{node_born, node_number, client_number, value_others, gone_others, gone_still}
-use Rattle.sc_budget_law.proofs.BetweenViews.{Journal}
-use Rattle.sc_budget_law.proofs.BetweenWhole.{of_player}
-use Rattle.sc_budget_law.proofs.CalmClients.{unasked}
-use Rattle.sc_budget_law.proofs.CalmNodes.{stays_by}
-use Rattle.sc_budget_law.proofs.NodeRows.{IsFor, for_node}
-use Rattle.sc_names_law.proofs.Lists.{Each-drop}
+use Rattle.sc_names_law.proofs.Lemmas.{Each-drop}
 
 -- ---- what a line keeps
 

@@ -1,30 +1,16 @@
 -- What a line of requests leaves of all replicas, row by row.
 use Rattle.std.proofs.Common.{◌≡◌, ℕ, ◌+◌, ◌<◌, ◌≤◌, true, [], ◌∷◌, ◌++◌, Some, ◌⊎◌, inl, inr, sym, ◌∙◌, ap, subst, arith, append_assoc, append-nil}
 use Rattle.std.proofs.lemmas.Bool.{cases_eq, cases_Bool, both_ways}
-use Rattle.sc_base.specs.Among.{Among}
-use Rattle.sc_base.specs.Same.{same_draw}
-use Rattle.sc_base.specs.declared.names.Draw.{Draw}
-use Rattle.sc_base.proofs.NameLemmas.{draw_is, same_name}
-use Rattle.sc_cmd.specs.declared.commands.Command.{Command}
-use Rattle.sc_base.specs.Roster.{is_member}
-use Rattle.sc_paxos_words.specs.declared.reports.Report.{Report}
-use Rattle.sc_node_table.specs.Replica.{ReplicaState, next}
+use Rattle.sc_base.specs.Definitions.{Among, same_draw, is_member}
+use Rattle.sc_node_table.specs.Values.{Draw, Command, Report}
+use Rattle.sc_base.proofs.Lemmas.{draw_is, same_name}
+use Rattle.sc_node_table.specs.Definitions.{ReplicaState, next}
 use Rattle.sc_scenario.specs.declared.scenarios.Scenario.{Scenario}
-use Rattle.sc_budget_law.specs.Asking.{IsAsking}
-use Rattle.sc_budget_law.specs.AskingLines.{AreRequests}
-use Rattle.sc_budget_law.specs.BetweenJournal.{replica_at, IsGroupAt}
-use Rattle.sc_budget_law.specs.CalmAsking.{IsLinkedSetting}
-use Rattle.sc_budget_law.specs.CalmNode.{Setting, IsHome, IsSetting}
-use Rattle.sc_budget_law.specs.Frames.{Frame, AreNamedApart}
-use Rattle.sc_budget_law.specs.PlainNode.{AreTaken}
-use Rattle.sc_budget_law.proofs.AskingClients.{asking_row}
-use Rattle.sc_budget_law.proofs.BetweenStage.{IsStage}
-use Rattle.sc_budget_law.proofs.BetweenViews.{Journal}
-use Rattle.sc_budget_law.proofs.Lists.{some_is}
+use Rattle.sc_budget_law.specs.Definitions.{IsAsking, AreRequests, replica_at, IsGroupAt, IsLinkedSetting, Setting, IsHome, IsSetting, Frame, AreNamedApart, AreTaken}
+use Rattle.sc_budget_law.proofs.Lemmas.{asking_row, IsStage, Journal, some_is, taken_once}
 use Rattle.sc_calm_answers_law.proofs.Calls.{knows}
 use Rattle.sc_calm_answers_law.proofs.RowServes.{AllStay, OneChanges, RowLeaves, row_leaves}
 use Rattle.sc_calm_answers_law.proofs.Serving.{Rests}
-use Rattle.sc_budget_law.proofs.BetweenDoes.{taken_once}
 
 -- A replica after some rows, by what it was before them: what it accepted is below what the leader has offered.
 pub record HasServed (scenario : Scenario) (rows : Journal) (frame : Frame) (node : ℕ) (first r : ReplicaState) : Type 0 where

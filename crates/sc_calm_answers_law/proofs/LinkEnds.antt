@@ -3,31 +3,14 @@ use Rattle.std.proofs.Common.{◌≡◌, ℕ, ◌≤◌, ◌⊎◌, Bool, true, 
 use Rattle.std.specs.List.{list_any}
 use Rattle.std.proofs.lemmas.Bool.{cond_both, eqb-true, eq-eqb, or_right}
 use Rattle.std.proofs.lemmas.Option.{same_Some}
-use Rattle.sc_base.specs.Same.{same_draw}
-use Rattle.sc_base.specs.declared.names.Draw.{Draw}
-use Rattle.sc_base.specs.Roster.{is_member, with_member}
-use Rattle.sc_base.proofs.UnionLemmas.{grows}
-use Rattle.sc_base.specs.Union.{united}
-use Rattle.sc_cmd.specs.declared.bodies.Offer.{Offer}
-use Rattle.sc_cmd.specs.declared.commands.Command.TheVariants.{Finish}
-use Rattle.sc_cmd.specs.declared.cores.Core.{Core}
-use Rattle.sc_cmd.specs.declared.cores.Lock.{Lock}
-use Rattle.sc_cmd.specs.declared.cores.Lock.TheVariants.{Free, Coordinating, Promised, Watching}
-use Rattle.sc_cmd.specs.declared.effects.Effect.{Effect}
+use Rattle.sc_base.specs.Definitions.{same_draw, is_member, with_member, united}
+use Rattle.sc_node_table.specs.Values.{Draw, Offer, Finish, Core, Lock, Free, Coordinating, Promised, Watching, Effect, Link, Route, Frozen, Gift, Outcome, Abort, Merged, Moved, Migrated, Divided}
+use Rattle.sc_base.proofs.Lemmas.{grows}
 use Rattle.sc_cmd.specs.declared.effects.Effect.TheVariants as Was
-use Rattle.sc_cmd.specs.declared.links.Link.{Link}
-use Rattle.sc_cmd.specs.declared.links.Route.{Route}
-use Rattle.sc_cmd.specs.declared.votes.Frozen.{Frozen}
-use Rattle.sc_cmd.specs.declared.votes.Gift.{Gift}
-use Rattle.sc_cmd.specs.declared.votes.Outcome.{Outcome}
-use Rattle.sc_cmd.specs.declared.votes.Outcome.TheVariants.{Abort, Merged, Moved, Migrated, Divided}
 use Rattle.sc_cmd.specs.declared.votes.Vote.TheVariants as Ballot
-use Rattle.sc_machine_table.specs.Group.{Group}
-use Rattle.sc_machine_table.specs.Plans.{has_key_of}
-use Rattle.sc_machine_table.specs.Finishes.{can_gain, gained_group, lost_group, welcomed_group, moved, participant_after, settled_in, watcher_after, party_freed, finished}
-use Rattle.sc_machine_table.specs.Plans.{can_cut}
-use Rattle.sc_ring_law.specs.Allowed.{Sources, IsAllowed}
-use Rattle.sc_ring_law.specs.Stories.{Story, Stories}
+use Rattle.sc_machine_table.specs.Definitions.{Group, has_key_of, can_gain, gained_group, lost_group, welcomed_group, moved, participant_after, settled_in, watcher_after, party_freed, finished, can_cut}
+use Rattle.sc_ring_law.specs.Definitions.{Sources, IsAllowed, Story, Stories}
+use Rattle.sc_log_entries.proofs.Lemmas.{one_of as or_true}
 
 -- some nodes, of each of which something holds with a group's name
 abbrev pub Good : (Draw → ℕ → Type 0) → Draw → List ℕ → Type 0
@@ -36,10 +19,6 @@ Good P name nodes = (1 ≤ length nodes) × ((node : ℕ) → is_member nodes no
 -- ---- a call changes no record
 
 -- ---- sets of nodes
-
-or_true : (x y : Bool) → (x || y) ≡ true → (x ≡ true) ⊎ (y ≡ true)
-or_true true y e = inl refl
-or_true false y e = inr e
 
 any_append : (p : ℕ → Bool) (xs ys : List ℕ) → list_any p (xs ++ ys) ≡ (list_any p xs || list_any p ys)
 any_append p [] ys = refl

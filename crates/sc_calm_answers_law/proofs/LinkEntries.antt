@@ -4,57 +4,23 @@ use Rattle.std.specs.Prelude.{map}
 use Rattle.std.specs.Option.{option_map}
 use Rattle.std.proofs.lemmas.Bool.{cond_both}
 use Rattle.std.proofs.lemmas.Option.{none-some, same_Some}
-use Rattle.sc_base.specs.Among.{Among}
-use Rattle.sc_base.specs.Same.{same_draw}
-use Rattle.sc_base.specs.declared.names.Draw.{Draw}
-use Rattle.sc_base.specs.Roster.{is_member}
-use Rattle.sc_cmd.specs.declared.bodies.Body.{Body}
+use Rattle.sc_base.specs.Definitions.{Among, same_draw, is_member}
+use Rattle.sc_node_table.specs.Values.{Draw, Body, Offer, Command, RecordVote, Finish, Base, Lock, Free, Coordinating, Promised, Watching, Effect, Heard, Outcome, Abort, Migrated, Vote}
 use Rattle.sc_cmd.specs.declared.bodies.Body.TheVariants as At
-use Rattle.sc_cmd.specs.declared.bodies.Offer.{Offer}
-use Rattle.sc_cmd.specs.declared.commands.Command.{Command}
-use Rattle.sc_cmd.specs.declared.commands.Command.TheVariants.{RecordVote, Finish}
-use Rattle.sc_cmd.specs.declared.cores.Base.{Base}
-use Rattle.sc_cmd.specs.declared.cores.Lock.{Lock}
-use Rattle.sc_cmd.specs.declared.cores.Lock.TheVariants.{Free, Coordinating, Promised, Watching}
-use Rattle.sc_cmd.specs.declared.effects.Effect.{Effect}
 use Rattle.sc_cmd.specs.declared.effects.Effect.TheVariants as Was
-use Rattle.sc_cmd.specs.declared.votes.Heard.{Heard}
-use Rattle.sc_cmd.specs.declared.votes.Outcome.{Outcome}
-use Rattle.sc_cmd.specs.declared.votes.Outcome.TheVariants.{Abort, Migrated}
-use Rattle.sc_cmd.specs.declared.votes.Vote.{Vote}
 use Rattle.sc_cmd.specs.declared.votes.Vote.TheVariants as Ballot
-use Rattle.sc_machine_table.specs.Group.{Group, group_of}
-use Rattle.sc_machine_table.specs.Logs.{state_after}
-use Rattle.sc_machine_table.specs.Machine.{applied}
-use Rattle.sc_machine_table.specs.Splits.{child_of}
-use Rattle.sc_machine_table.specs.Transactions.{participant_answered, asks_watcher, vote_recorded}
-use Rattle.sc_machine_table.specs.Finishes.{participant_after}
-use Rattle.sc_log_entries.specs.Births.{division_of, birth_of}
+use Rattle.sc_machine_table.specs.Definitions.{Group, group_of, state_after, applied, child_of, participant_answered, asks_watcher, vote_recorded, participant_after}
+use Rattle.sc_log_entries.specs.Definitions.{division_of, birth_of, StoreWorld, is_named, named_group, after_command, world_of}
 use Rattle.sc_log_entries.specs.declared.Division.{Division}
 use Rattle.sc_log_entries.specs.declared.LogEntry.{LogEntry}
-use Rattle.sc_log_entries.specs.Worlds.{StoreWorld, is_named, named_group, after_command, world_of}
-use Rattle.sc_log_entries.proofs.Names.{draw_cases, found_name}
-use Rattle.sc_hist_law.proofs.Fronts.{own_first, other_first, logs_make_states}
-use Rattle.sc_hist_law.proofs.Logs.{applied_same}
-use Rattle.sc_ring_law.specs.Allowed.{Sources, IsVoteCast, IsAllowed, AreAllowed, ToldWorld, first_told, stories_told, told_on, told_after}
-use Rattle.sc_ring_law.specs.Invariant.{Groups, Facts}
-use Rattle.sc_ring_law.specs.Laws.{BeginInPlace, stories_of}
-use Rattle.sc_ring_law.specs.Stories.{Story, Stories, put, unsigned, offer_for, stories_after}
-use Rattle.sc_ring_law.proofs.Cover.{at-same, at-other, from_at}
-use Rattle.sc_ring_law.proofs.Cuts.{arcs_in}
-use Rattle.sc_ring_law.proofs.Ends.{own_story, same_lock}
-use Rattle.sc_ring_law.proofs.Finds.{some_none}
-use Rattle.sc_ring_law.proofs.Grows.{allowed_entries_stay_allowed}
-use Rattle.sc_ring_law.proofs.Sound.{store_after}
-use Rattle.sc_ring_law.proofs.Start.{at_start}
-use Rattle.sc_ring_law.proofs.Told.{groups_in, with_child, groups_are}
-use Rattle.sc_ring_law.proofs.Worlds.{KeptWorld, kept_after, fits}
-use Rattle.sc_paxos_words.proofs.ListLemmas.{find_found}
-use Rattle.sc_paxos_law.proofs.Among.{from_map}
-use Rattle.sc_log_law.proofs.Allowing.{allowed_parts, allows}
-use Rattle.sc_log_law.specs.Allows.{MakesAllowed}
-use Rattle.sc_log_law.proofs.Allows.{groups_allow_others}
-use Rattle.sc_log_law.proofs.Births.{told_append}
+use Rattle.sc_log_entries.proofs.Lemmas.{draw_cases, found_name}
+use Rattle.sc_hist_law.proofs.Lemmas.{own_first, other_first, logs_make_states, applied_same}
+use Rattle.sc_ring_law.specs.Definitions.{Sources, IsVoteCast, IsAllowed, AreAllowed, ToldWorld, first_told, stories_told, told_on, told_after, Groups, Facts, BeginInPlace, stories_of, Story, Stories, put, unsigned, offer_for, stories_after}
+use Rattle.sc_ring_law.proofs.Lemmas.{at-same, at-other, from_at, arcs_in, own_story, same_lock, some_none, allowed_entries_stay_allowed, store_after, at_start, groups_in, with_child, groups_are, KeptWorld, kept_after, fits}
+use Rattle.sc_paxos_words.proofs.Lemmas.{find_found}
+use Rattle.sc_paxos_law.proofs.Lemmas.{from_map}
+use Rattle.sc_log_law.proofs.Lemmas.{allowed_parts, allows, groups_allow_others, told_append}
+use Rattle.sc_log_law.specs.Definitions.{MakesAllowed}
 use Rattle.sc_calm_answers_law.proofs.LinkEnds.{Good, IsLinkedSo, IsToldSo}
 use Rattle.sc_calm_answers_law.proofs.KnownLinked.{Lands, lands}
 use Rattle.sc_calm_answers_law.proofs.LinkWorlds.{stays_or_ends, takes_node}

@@ -2,50 +2,31 @@
 use Rattle.std.proofs.Common.{◌≡◌, ℕ, zero, suc, ◌+◌, ◌<◌, ◌≤◌, ◌⊎◌, eqb, List, [], ◌∷◌, ◌++◌, length, take, Some, inl, inr, refl, sym, ◌∙◌, ap, subst, arith, length-append}
 use Rattle.std.proofs.lemmas.Bool.{cond_both, cases_lt, both_ways, eq-eqb}
 use Rattle.std.proofs.lemmas.Option.{same_Some}
-use Rattle.sc_base.specs.Among.{Among}
-use Rattle.sc_base.specs.declared.names.Draw.{Draw}
-use Rattle.sc_cmd.specs.declared.commands.Command.{Command}
-use Rattle.sc_cmd.specs.declared.cores.Base.{Base}
-use Rattle.sc_cmd.specs.declared.cores.Lock.TheVariants.{Free}
-use Rattle.sc_cmd.specs.declared.links.Route.{Route}
-use Rattle.sc_machine_table.specs.Group.{Group, group_of}
-use Rattle.sc_machine_table.specs.Logs.{state_after}
-use Rattle.sc_base.specs.Roster.{IsRoster, is_member}
-use Rattle.sc_paxos_law.proofs.Among.{Among-left, Among-right, Among-either}
-use Rattle.sc_scenario.specs.Groups.{place_right, base_at, bases_up_to}
-use Rattle.sc_scenario.specs.Valid.{IsValid, ValidScenariosAreBounded}
+use Rattle.sc_base.specs.Definitions.{Among, IsRoster, is_member}
+use Rattle.sc_node_table.specs.Values.{Draw, Command, Base, Free, Route}
+use Rattle.sc_machine_table.specs.Definitions.{Group, group_of, state_after}
+use Rattle.sc_paxos_law.proofs.Lemmas.{Among-left, Among-right}
+use Rattle.sc_scenario.specs.Definitions.{place_right, base_at, bases_up_to, IsValid, ValidScenariosAreBounded}
 use Rattle.sc_scenario.specs.declared.drafts.GroupLine.{GroupLine}
 use Rattle.sc_scenario.specs.declared.scenarios.Scenario.{Scenario}
-use Rattle.sc_sound.specs.GroupsOf.{groups_at, entries_at, world_at}
-use Rattle.sc_sound.specs.Logs.{decided_log, decided_state}
-use Rattle.sc_sound.specs.Players.{as_nodes, Lawful, route_of}
+use Rattle.sc_sound.specs.Definitions.{groups_at, entries_at, world_at, decided_log, decided_state, as_nodes, Lawful, route_of}
 use Rattle.sc_log_entries.specs.declared.LogEntry.{LogEntry}
-use Rattle.sc_log_entries.specs.Worlds.{StoreWorld, first_world, named_group, world_of}
-use Rattle.sc_log_entries.proofs.Pushes.{world_append}
-use Rattle.sc_hist_law.specs.Fronts.{log_in}
-use Rattle.sc_hist_law.proofs.Fronts.{logs_make_states}
-use Rattle.sc_ring_law.specs.Allowed.{Sources, first_told}
-use Rattle.sc_ring_law.proofs.Sound.{store_after}
-use Rattle.sc_log_law.specs.Descent.{Rows}
-use Rattle.sc_log_law.specs.Findings.{AreFound}
-use Rattle.sc_log_law.specs.InTurn.{DecideInTurn}
-use Rattle.sc_log_law.proofs.Births.{stays_there}
-use Rattle.sc_log_law.proofs.Children.{log_append}
-use Rattle.sc_log_law.proofs.Findings.{told_rows, groups_are_found}
-use Rattle.sc_log_law.proofs.Told.{Told, IsBorn, state_there}
-use Rattle.sc_names_law.specs.Laws.{OtherNamesAreFree, TakenOrdersAreAllowed, TakenWishesAreAllowed, WishesAreAtPositions}
-use Rattle.sc_names_law.specs.Owners.{owner_in}
-use Rattle.sc_whole_law.specs.Begins.{BeginsWell, IsReady, section_op}
-use Rattle.sc_whole_law.specs.Orders.{OrdersAreAllowed}
-use Rattle.sc_whole_law.specs.StartLaws.{ValidScenariosBeginWell}
-use Rattle.sc_whole_law.proofs.Journals.{holds}
-use Rattle.sc_whole_law.proofs.Members.{members_stay_rosters}
-use Rattle.sc_whole_law.proofs.Scheduled.{orders_allowed}
-use Rattle.sc_whole_law.proofs.Turning.{Holds}
-use Rattle.sc_calm_answers_law.specs.Links.{WasMember, WereMembers, AreAllFree, LinksWereMembers}
+use Rattle.sc_log_entries.specs.Definitions.{StoreWorld, first_world, named_group, world_of}
+use Rattle.sc_log_entries.proofs.Lemmas.{world_append}
+use Rattle.sc_hist_law.specs.Definitions.{log_in}
+use Rattle.sc_hist_law.proofs.Lemmas.{logs_make_states}
+use Rattle.sc_ring_law.specs.Definitions.{Sources, first_told}
+use Rattle.sc_ring_law.proofs.Lemmas.{store_after}
+use Rattle.sc_log_law.specs.Definitions.{Rows, AreFound, DecideInTurn}
+use Rattle.sc_log_law.proofs.Lemmas.{stays_there, log_append, told_rows, groups_are_found, Told, IsBorn, state_there}
+use Rattle.sc_names_law.specs.Definitions.{OtherNamesAreFree, TakenOrdersAreAllowed, TakenWishesAreAllowed, WishesAreAtPositions, owner_in}
+use Rattle.sc_whole_law.specs.Definitions.{BeginsWell, IsReady, section_op, OrdersAreAllowed, ValidScenariosBeginWell}
+use Rattle.sc_whole_law.proofs.Lemmas.{holds, members_stay_rosters, orders_allowed, Holds}
+use Rattle.sc_calm_answers_law.specs.Definitions.{WasMember, WereMembers, AreAllFree, LinksWereMembers}
 use Rattle.sc_calm_answers_law.proofs.LinkEnds.{Good, IsLinkedSo}
 use Rattle.sc_calm_answers_law.proofs.LinkEntries.{groups_then, Come, all_linked, moved}
-use Rattle.sc_calm_orders_law.proofs.Filing.{right_none}
+use Rattle.sc_calm_orders_law.proofs.Lemmas.{right_none}
+pub use Rattle.sc_calm_rows_law.proofs.Beginning.{of_up_to}
 
 -- ---- two fronts of a list
 
@@ -77,14 +58,6 @@ take_front [] ys = refl
 take_front (x ∷ xs) ys = ap (λ l. x ∷ l) (take_front xs ys)
 
 -- ---- the groups of a scenario
-
-pub of_up_to : (lines : List GroupLine) (n : ℕ) (base : Base) → Among base (bases_up_to lines n) → (k : ℕ) × (k < n) × (base_at lines k ≡ base)
-of_up_to lines zero base a = absurd a
-of_up_to lines (suc n) base a = elim (Among-either base (bases_up_to lines n) (base_at lines n ∷ []) a) [
-  | inl b ↦ (let f = of_up_to lines n base b in let low = f.1 in (f.0, omega (arith, low), f.2))
-  | inr (inl e) ↦ (n, omega arith, e)
-  | inr (inr none) ↦ absurd none
-]
 
 in_up_to : (lines : List GroupLine) (n k : ℕ) → k < n → Among (base_at lines k) (bases_up_to lines n)
 in_up_to lines zero k low = absurd (omega (arith, low))

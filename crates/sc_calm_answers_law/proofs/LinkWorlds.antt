@@ -2,32 +2,12 @@
 use Rattle.std.proofs.Common.{◌≡◌, ℕ, ◌⊎◌, true, cond, nat_le, length, [], ◌∷◌, Option, Some, None, inl, inr, refl, sym, ◌∙◌, ap, subst}
 use Rattle.std.proofs.lemmas.Bool.{cond_both}
 use Rattle.std.proofs.lemmas.Option.{none-some, same_Some}
-use Rattle.sc_base.specs.Same.{same_draw}
-use Rattle.sc_base.specs.declared.names.Draw.{Draw}
-use Rattle.sc_base.proofs.NameLemmas.{draw_is}
-use Rattle.sc_base.specs.Roster.{is_member}
-use Rattle.sc_base.specs.Union.{united}
-use Rattle.sc_cmd.specs.declared.bodies.Offer.{Offer}
-use Rattle.sc_cmd.specs.declared.commands.Command.{Command}
-use Rattle.sc_cmd.specs.declared.commands.Command.TheVariants.{Noop, Call, Join, Leave, Split, Begin, Prepared, RecordVote, GiveUp, Finish, Watched, RecordWatch}
-use Rattle.sc_cmd.specs.declared.cores.Core.{Core}
-use Rattle.sc_cmd.specs.declared.cores.Lock.{Lock}
-use Rattle.sc_cmd.specs.declared.cores.Lock.TheVariants.{Promised, Watching}
-use Rattle.sc_cmd.specs.declared.effects.Effect.{Effect}
+use Rattle.sc_base.specs.Definitions.{same_draw, is_member, united}
+use Rattle.sc_node_table.specs.Values.{Draw, Offer, Command, Noop, Call, Join, Leave, Split, Begin, Prepared, RecordVote, GiveUp, Finish, Watched, RecordWatch, Core, Lock, Promised, Watching, Effect, Route, OrderRefusal, No, Outcome, Migrated}
+use Rattle.sc_base.proofs.Lemmas.{draw_is}
 use Rattle.sc_cmd.specs.declared.effects.Effect.TheVariants as Was
-use Rattle.sc_cmd.specs.declared.links.Route.{Route}
-use Rattle.sc_cmd.specs.declared.orders.OrderRefusal.{OrderRefusal}
-use Rattle.sc_cmd.specs.declared.votes.No.{No}
-use Rattle.sc_cmd.specs.declared.votes.Outcome.{Outcome}
-use Rattle.sc_cmd.specs.declared.votes.Outcome.TheVariants.{Migrated}
-use Rattle.sc_machine_table.specs.Group.{Group}
-use Rattle.sc_machine_table.specs.Machine.{applied, ordered_by, split_group}
-use Rattle.sc_machine_table.specs.Orders.{locked_in, refused_in, refusal_of, ordered, with_node, without_node}
-use Rattle.sc_machine_table.specs.Splits.{has_named}
-use Rattle.sc_machine_table.specs.Transactions.{begun_group, vote_recorded, is_coordinating, aborted, watch_recorded}
-use Rattle.sc_machine_table.specs.Votes.{has_voted, no_of, offer_no, watch_no, vote_of, watch_vote_of, voted_on}
-use Rattle.sc_machine_table.specs.Finishes.{welcomed_group, participant_after, party_freed, settled_in, finished}
-use Rattle.sc_ring_law.proofs.Finds.{some_none}
+use Rattle.sc_machine_table.specs.Definitions.{Group, applied, ordered_by, split_group, locked_in, refused_in, refusal_of, ordered, with_node, without_node, has_named, begun_group, vote_recorded, is_coordinating, aborted, watch_recorded, has_voted, no_of, offer_no, watch_no, vote_of, watch_vote_of, voted_on, welcomed_group, participant_after, party_freed, settled_in, finished}
+use Rattle.sc_ring_law.proofs.Lemmas.{some_none}
 use Rattle.sc_calm_answers_law.proofs.LinkEnds.{united_has}
 use Rattle.sc_calm_answers_law.proofs.Cores.{called_core}
 

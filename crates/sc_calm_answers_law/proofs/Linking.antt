@@ -3,39 +3,22 @@ use Rattle.std.proofs.Common.{◌≡◌, ℕ, ◌/◌, ◌%◌, ◌^◌, ◌<◌
 use Rattle.std.specs.Prelude.{IsTrue, ◌&&◌, is_none, is_some}
 use Rattle.std.specs.Option.{option_map}
 use Rattle.std.proofs.lemmas.Option.{none-some, same_Some}
-use Rattle.sc_base.specs.Among.{Among}
-use Rattle.sc_base.specs.Arc.{Arc, IsArc, holds, end_of}
-use Rattle.sc_base.specs.Text.{pos_of}
-use Rattle.sc_base.proofs.NameLemmas.{draw_is}
-use Rattle.sc_cmd.specs.declared.cores.Base.{Base}
-use Rattle.sc_cmd.specs.declared.cores.Lock.TheVariants.{Free}
-use Rattle.sc_cmd.specs.declared.links.Route.{Route}
-use Rattle.sc_ideal.specs.IdealStore.{holds_key}
-use Rattle.sc_log_entries.specs.Effective.{effective, effective_by, is_open, serves}
-use Rattle.sc_log_entries.specs.Parts.{IsPlaced}
-use Rattle.sc_log_entries.specs.Worlds.{StoreWorld, named_group, is_named}
+use Rattle.sc_base.specs.Definitions.{Among, Arc, IsArc, holds, end_of, pos_of, is_member}
+use Rattle.sc_base.proofs.Lemmas.{draw_is}
+use Rattle.sc_node_table.specs.Values.{Base, Free, Route}
+use Rattle.sc_ideal.specs.Definitions.{holds_key}
+use Rattle.sc_log_entries.specs.Definitions.{effective, effective_by, is_open, serves, IsPlaced, StoreWorld, named_group, is_named}
 use Rattle.sc_log_entries.specs.declared.Cut.{Cut}
-use Rattle.sc_log_law.specs.Descent.{Rows}
-use Rattle.sc_log_law.specs.Findings.{AreItsLogs}
-use Rattle.sc_log_law.proofs.Lists.{find_base}
-use Rattle.sc_machine_table.specs.Group.{Group}
-use Rattle.sc_base.specs.Roster.{is_member}
-use Rattle.sc_paxos_words.proofs.ListLemmas.{find_found}
+use Rattle.sc_log_law.specs.Definitions.{Rows, AreItsLogs}
+use Rattle.sc_log_law.proofs.Lemmas.{find_base}
+use Rattle.sc_machine_table.specs.Definitions.{Group}
+use Rattle.sc_paxos_words.proofs.Lemmas.{find_found}
 use Rattle.sc_scenario.specs.declared.scenarios.Scenario.{Scenario}
-use Rattle.sc_sound.specs.GroupsOf.{groups_at, birth_at, is_birth_of, world_at}
-use Rattle.sc_sound.specs.Logs.{decided_state}
-use Rattle.sc_sound.specs.Players.{as_nodes}
-use Rattle.sc_sound.specs.Soundness.{IsOneMap}
-use Rattle.sc_whole_law.specs.Valid.{ValidJournalsAreSound, ValidEntriesAreLogs}
-use Rattle.sc_calm_law.specs.Quiet.{HasReplica, IsNewest}
-use Rattle.sc_calm_answers_law.specs.Led.{over_at}
-use Rattle.sc_calm_answers_law.specs.Rests.{replicas_at}
+use Rattle.sc_sound.specs.Definitions.{groups_at, birth_at, is_birth_of, world_at, decided_state, as_nodes, IsOneMap}
+use Rattle.sc_whole_law.specs.Definitions.{ValidJournalsAreSound, ValidEntriesAreLogs}
+use Rattle.sc_calm_law.specs.Definitions.{HasReplica, IsNewest}
+use Rattle.sc_calm_answers_law.specs.Definitions.{over_at, replicas_at, FreeGroupsHaveArcs, FrontsAreFound, QuietLogsAreExecuted, FrontsAreLinked, AreAllFree, LinksWereMembers, FrontsAreThere}
 use Rattle.sc_calm_answers_law.proofs.Facts.{even, kept, place, states}
-use Rattle.sc_calm_answers_law.specs.Arcs.{FreeGroupsHaveArcs}
-use Rattle.sc_calm_answers_law.specs.KnownFronts.{FrontsAreFound, QuietLogsAreExecuted}
-use Rattle.sc_calm_answers_law.specs.Known.{FrontsAreLinked}
-use Rattle.sc_calm_answers_law.specs.Links.{AreAllFree, LinksWereMembers}
-use Rattle.sc_calm_answers_law.specs.There.{FrontsAreThere}
 use Rattle.sc_calm_answers_law.proofs.Known.{found, most, ends, last_state}
 use Rattle.sc_calm_answers_law.proofs.KnownReaching.{last, has_replica, link_of}
 use Rattle.sc_calm_answers_law.proofs.Cuts.{first_held}

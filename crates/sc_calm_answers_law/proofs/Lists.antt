@@ -1,17 +1,14 @@
 -- Lists of marks that leave whom a node takes for the leader, and which slots a node decides.
 use Rattle.std.proofs.Common.{◌≡◌, ℕ, zero, suc, ◌+◌, ◌<◌, ◌≤◌, eqb, true, false, true≢false, List, [], ◌∷◌, ◌++◌, Option, ◌⊎◌, inl, inr, refl, sym, ◌∙◌, ap, subst, arith}
 use Rattle.std.proofs.lemmas.Bool.{cases_Bool, cases_eq, cases_lt, cond-true, cond-false, cond_both, eqb-true}
-use Rattle.sc_base.specs.Among.{Each}
-use Rattle.sc_base.specs.declared.names.Ballot.{Ballot}
-use Rattle.sc_base.specs.Roster.{is_member}
-use Rattle.sc_node_table.specs.Slots.{slots_ahead}
-use Rattle.sc_paxos_words.specs.Ballots.{IsAtLeast}
-use Rattle.sc_paxos_words.proofs.BallotLemmas.{at_least_itself, at_least_trans, not_below_parts}
-use Rattle.sc_following_law.specs.Following.{Mark, Asks, Votes, Tells, Installs, Prepares, Promises, next_by, promise_by, reached, pledged, IsFit, AreFit, Course, Sets, members_at, IsOpen}
-use Rattle.sc_following_law.specs.Hints.{Tellers, hinted}
-use Rattle.sc_following_law.specs.Rows.{IsCount, IsOffer, told_of, told_from}
-use Rattle.sc_following_law.proofs.Hints.{count-hinted}
-use Rattle.sc_following_law.proofs.Marks.{reached-append, count-reached, count-pledged}
+use Rattle.sc_base.specs.Definitions.{Each, is_member}
+use Rattle.sc_node_table.specs.Values.{Ballot}
+use Rattle.sc_node_table.specs.Definitions.{slots_ahead}
+use Rattle.sc_paxos_words.specs.Definitions.{IsAtLeast}
+use Rattle.sc_paxos_words.proofs.Lemmas.{at_least_itself, at_least_trans, not_below_parts}
+use Rattle.sc_following_law.specs.Definitions.{Mark, Asks, Votes, Tells, Installs, Prepares, Promises, next_by, promise_by, reached, pledged, IsFit, AreFit, Course, Sets, members_at, IsOpen, Tellers, hinted, IsCount, IsOffer, told_of, told_from}
+use Rattle.sc_following_law.proofs.Lemmas.{count-hinted, reached-append, count-reached, count-pledged}
+pub use Rattle.sc_following_law.proofs.Taught.{fit_behind}
 
 -- ---- rounds
 
@@ -45,10 +42,6 @@ one_rises next promise (Promises node ballot) f = at_least_itself promise
 pub pledged_rises : (next : ℕ) (promise : Ballot) (marks : List Mark) → AreFit next promise marks → IsAtLeast (pledged promise marks) promise
 pledged_rises next promise [] f = at_least_itself promise
 pledged_rises next promise (mark ∷ marks) f = at_least_trans (pledged (promise_by promise mark) marks) (promise_by promise mark) promise (pledged_rises (next_by next mark) (promise_by promise mark) marks f.1) (one_rises next promise mark f.0)
-
-pub fit_behind : (next : ℕ) (promise : Ballot) (xs ys : List Mark) → AreFit next promise (xs ++ ys) → AreFit (reached next xs) (pledged promise xs) ys
-fit_behind next promise [] ys f = f
-fit_behind next promise (x ∷ xs) ys f = fit_behind (next_by next x) (promise_by promise x) xs ys f.1
 
 -- ---- which slots a node decides
 

@@ -1,19 +1,14 @@
 -- Each replica that runs after some rows of a calm journal leads its group alone, where all groups are well led.
 use Rattle.std.proofs.Common.{◌≡◌, ℕ, true, Some, ◌∙◌, ap, subst}
-use Rattle.sc_base.specs.declared.names.Draw.{Draw}
-use Rattle.sc_node_table.specs.Replica.{ReplicaState, name_of}
-use Rattle.sc_scenario.specs.Valid.{ValidScenariosAreBounded}
+use Rattle.sc_node_table.specs.Values.{Draw}
+use Rattle.sc_node_table.specs.Definitions.{ReplicaState, name_of}
+use Rattle.sc_scenario.specs.Definitions.{ValidScenariosAreBounded}
 use Rattle.sc_scenario.specs.declared.scenarios.Scenario.{Scenario}
-use Rattle.sc_sound.specs.Players.{births, as_nodes}
-use Rattle.sc_calm_law.specs.Totals.{Rows}
-use Rattle.sc_calm_rows_law.specs.Groups.{view_at}
-use Rattle.sc_calm_scenes_law.specs.Turns.{LeadsAlone}
-use Rattle.sc_calm_answers_law.specs.Starts.{LawfulReplicasAreNamedOnce}
-use Rattle.sc_calm_answers_law.specs.Guided.{WellLedLeadAlone}
-use Rattle.sc_calm_answers_law.specs.Journal.{IsCalmJournal, IsFront, AreSent}
-use Rattle.sc_calm_answers_law.specs.KeptAsking.{AllLeadAlone}
-use Rattle.sc_calm_answers_law.specs.KnownFronts.{FrontsAreFound}
-use Rattle.sc_calm_answers_law.specs.Viewing.{ViewsAgree}
+use Rattle.sc_sound.specs.Definitions.{births, as_nodes}
+use Rattle.sc_calm_law.specs.Definitions.{Rows}
+use Rattle.sc_calm_rows_law.specs.Definitions.{view_at}
+use Rattle.sc_calm_scenes_law.specs.Definitions.{LeadsAlone}
+use Rattle.sc_calm_answers_law.specs.Definitions.{LawfulReplicasAreNamedOnce, WellLedLeadAlone, IsCalmJournal, IsFront, AreSent, AllLeadAlone, FrontsAreFound, ViewsAgree}
 use Rattle.sc_calm_answers_law.proofs.OrderedKnown.{named_there}
 use Rattle.sc_calm_answers_law.proofs.Placing.{place_of}
 

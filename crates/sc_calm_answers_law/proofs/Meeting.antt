@@ -1,51 +1,21 @@
 -- What a mail of a group that is well led finds at the node that it comes to, by what it says.
 use Rattle.std.proofs.Common.{◌≡◌, ℕ, suc, ◌+◌, ◌≤◌, true, false, true≢false, List, [], ◌∷◌, ◌++◌, Option, Some, None, ◌⊎◌, inl, inr, refl, sym, ◌∙◌, ap, subst, arith, append_assoc}
 use Rattle.std.proofs.lemmas.Bool.{cases_Bool}
-use Rattle.sc_base.specs.declared.names.Draw.{Draw}
-use Rattle.sc_cmd.specs.declared.commands.Command.{Command}
-use Rattle.sc_cmd.specs.declared.cores.Base.{Base}
-use Rattle.sc_mail.specs.declared.bodies.Mail.{Mail}
-use Rattle.sc_mail.specs.declared.bodies.MailBody.{MailBody}
-use Rattle.sc_mail.specs.declared.bodies.MailBody.TheVariants.{Request, Answer, Prepare, Promise, Accept, Accepted, Nack, Learn, Ask, Install, TxPrepare, TxVote, TxOutcome, TxElsewhere, TxWatch, TxWatched, Told as ToldMail}
-use Rattle.sc_mail.specs.declared.roles.Role.TheVariants.{Node}
-use Rattle.sc_base.specs.Roster.{is_member}
-use Rattle.sc_actor.specs.declared.actors.Seat.{Seat}
-use Rattle.sc_actor.specs.declared.rows.Event.TheVariants.{Deliver, Go}
-use Rattle.sc_actor.specs.Mail.{mails}
-use Rattle.sc_actor.specs.System.{are_apart, row_of}
-use Rattle.sc_paxos_words.specs.Ballots.{below}
-use Rattle.sc_node_table.specs.Execute.{entered}
-use Rattle.sc_node_table.specs.Node.{NodeState, replica_of, group_of_mail, may_come}
-use Rattle.sc_node_table.specs.Replica.{ReplicaState, Place, next}
-use Rattle.sc_node_table.specs.Rows.{mailed}
-use Rattle.sc_law_lemmas.proofs.Entries.{entered_next}
-use Rattle.sc_sound.specs.Players.{Player, player_table}
-use Rattle.sc_calm_law.specs.Charts.{players}
-use Rattle.sc_calm_law.specs.Keeping.{MayCount, MayTake, StaysIn, IsCalmMailAt, Takes as TakesAt, Learns as LearnsAt, Makes as MakesAt, Misses as MissesAt}
-use Rattle.sc_calm_law.specs.Laws.{MayPump, Follows}
-use Rattle.sc_calm_law.specs.Nodes.{group_owes, after_mail, MayMiss}
-use Rattle.sc_calm_law.specs.Owed.{Ways}
-use Rattle.sc_calm_law.specs.Parties.{Elsewhere, StandsOnce}
-use Rattle.sc_calm_law.specs.Totals.{Rows, led_elsewhere}
-use Rattle.sc_calm_law.proofs.OwedLearn.{unbound_new}
-use Rattle.sc_following_law.specs.Following.{Mark, Asks, Votes, Tells, Installs, Prepares, Promises, mark_of, Course, Progress, Sets, members_at}
-use Rattle.sc_following_law.specs.Heeding.{IsHeir}
-use Rattle.sc_following_law.specs.Hints.{Tellers, AreHeeded}
-use Rattle.sc_following_law.specs.Tables.{Stays}
-use Rattle.sc_following_law.proofs.Nodes.{same_mark, states}
-use Rattle.sc_following_law.proofs.TableHints.{heirs_elect}
-use Rattle.sc_calm_rows_law.specs.Groups.{view_at, promise_in, progress_at, marks_at, mark_in, taken_mark}
-use Rattle.sc_calm_rows_law.specs.Mailed.{IsScene, TakesMail, HoldsReplica}
-use Rattle.sc_calm_rows_law.specs.Turns.{with_event, IsReplicasRow}
-use Rattle.sc_calm_rows_law.proofs.Hearing.{names_stay}
-use Rattle.sc_calm_rows_law.proofs.Scenes.{apart_off as led_off, goes_on, row_in, head, all_fit, known, within, no_lead, fit}
-use Rattle.sc_calm_rows_law.proofs.Turning.{found_name, rows_replicas}
-use Rattle.sc_calm_rows_law.proofs.Viewing.{view_was}
-use Rattle.sc_calm_rows_law.proofs.WellNodes.{Plays, Found, found_well, replay_well}
-use Rattle.sc_calm_groups_law.specs.Led.{Ends, hint_in, hints_at}
-use Rattle.sc_calm_groups_law.specs.Logged.{IsOfLog, IsLogsState}
-use Rattle.sc_calm_groups_law.specs.Through.{AreWellBorn}
-use Rattle.sc_calm_answers_law.specs.Meeting.{MeetsMail, IsPlain, NeedsBesides, IsNoRequest, NeedsAt}
+use Rattle.sc_node_table.specs.Values.{Draw, Command, Base, Mail, MailBody, Request, Answer, Prepare, Promise, Accept, Accepted, Nack, Learn, Ask, Install, TxPrepare, TxVote, TxOutcome, TxElsewhere, TxWatch, TxWatched, Told as ToldMail, Node, Seat, Deliver, Go}
+use Rattle.sc_base.specs.Definitions.{is_member}
+use Rattle.sc_actor.specs.Definitions.{mails, are_apart, row_of}
+use Rattle.sc_paxos_words.specs.Definitions.{below}
+use Rattle.sc_node_table.specs.Definitions.{entered, NodeState, replica_of, group_of_mail, may_come, ReplicaState, Place, next, mailed}
+use Rattle.sc_law_lemmas.proofs.Lemmas.{entered_next}
+use Rattle.sc_sound.specs.Definitions.{Player, player_table}
+use Rattle.sc_calm_law.specs.Definitions.{players, MayCount, MayTake, StaysIn, IsCalmMailAt, Takes as TakesAt, Learns as LearnsAt, Makes as MakesAt, Misses as MissesAt, MayPump, Follows, group_owes, after_mail, MayMiss, Ways, Elsewhere, StandsOnce, Rows, led_elsewhere}
+use Rattle.sc_calm_law.proofs.Lemmas.{unbound_new}
+use Rattle.sc_following_law.specs.Definitions.{Mark, Asks, Votes, Tells, Installs, Prepares, Promises, mark_of, Course, Progress, Sets, members_at, IsHeir, Tellers, AreHeeded, Stays}
+use Rattle.sc_following_law.proofs.Lemmas.{same_mark, states, heirs_elect}
+use Rattle.sc_calm_rows_law.specs.Definitions.{view_at, promise_in, progress_at, marks_at, mark_in, taken_mark, IsScene, TakesMail, HoldsReplica, with_event, IsReplicasRow}
+use Rattle.sc_calm_rows_law.proofs.Lemmas.{names_stay, apart_off as led_off, goes_on, row_in, head, all_fit, known, within, no_lead, fit, found_name, rows_replicas, view_was, Plays, Found, found_well, replay_well}
+use Rattle.sc_calm_groups_law.specs.Definitions.{Ends, hint_in, hints_at, IsOfLog, IsLogsState, AreWellBorn}
+use Rattle.sc_calm_answers_law.specs.Definitions.{MeetsMail, IsPlain, NeedsBesides, IsNoRequest, NeedsAt}
 use Rattle.sc_calm_answers_law.proofs.Elsewhere.{IsApart, owes_same, owes_most, stands_here, elsewhere_apart, apart_off, none_of}
 use Rattle.sc_calm_answers_law.proofs.FindingRows.{next_with, still_named, IsLeft, left_by, nines_at, stays_behind}
 use Rattle.std.proofs.lemmas.Option.{same_Some}

@@ -2,51 +2,21 @@
 use Rattle.std.proofs.Common.{◌≡◌, ℕ, ◌&&◌, not, cond, Bool, true, false, true≢false, List, [], ◌∷◌, Option, Some, None, option_map, refl, sym, ◌∙◌, ap, subst}
 use Rattle.std.proofs.lemmas.Bool.{cond_both}
 use Rattle.std.proofs.lemmas.Option.{same_Some}
-use Rattle.sc_base.specs.Same.{same_draw}
-use Rattle.sc_base.specs.declared.names.Draw.{Draw}
-use Rattle.sc_base.proofs.NameLemmas.{draw_is, same_name}
-use Rattle.sc_cmd.specs.Cores.{is_alone}
-use Rattle.sc_cmd.specs.Effects.{decided_in, is_changed}
-use Rattle.sc_cmd.specs.declared.bodies.Body.{Body}
+use Rattle.sc_base.specs.Definitions.{same_draw, holds}
+use Rattle.sc_node_table.specs.Values.{Draw, Body, Offer, Command, Noop, Call, Join, Leave, Split, Begin, Prepared, RecordVote, GiveUp, Finish, Watched, RecordWatch, Base, Core, Lock, Coordinating, Free, Promised, Watching, Effect, Route, Frozen, Heard, Outcome, Past, Vote}
+use Rattle.sc_base.proofs.Lemmas.{draw_is, same_name}
+use Rattle.sc_cmd.specs.Definitions.{is_alone, decided_in, is_changed}
 use Rattle.sc_cmd.specs.declared.bodies.Body.TheVariants as At
-use Rattle.sc_cmd.specs.declared.bodies.Offer.{Offer}
-use Rattle.sc_cmd.specs.declared.commands.Command.{Command}
-use Rattle.sc_cmd.specs.declared.commands.Command.TheVariants.{Noop, Call, Join, Leave, Split, Begin, Prepared, RecordVote, GiveUp, Finish, Watched, RecordWatch}
-use Rattle.sc_cmd.specs.declared.cores.Base.{Base}
-use Rattle.sc_cmd.specs.declared.cores.Core.{Core}
-use Rattle.sc_cmd.specs.declared.cores.Lock.{Lock}
-use Rattle.sc_cmd.specs.declared.cores.Lock.TheVariants.{Coordinating, Free, Promised, Watching}
-use Rattle.sc_cmd.specs.declared.effects.Effect.{Effect}
 use Rattle.sc_cmd.specs.declared.effects.Effect.TheVariants as Was
-use Rattle.sc_cmd.specs.declared.links.Route.{Route}
-use Rattle.sc_cmd.specs.declared.votes.Frozen.{Frozen}
-use Rattle.sc_cmd.specs.declared.votes.Heard.{Heard}
-use Rattle.sc_cmd.specs.declared.votes.Outcome.{Outcome}
 use Rattle.sc_cmd.specs.declared.votes.Outcome.TheVariants as Is
-use Rattle.sc_cmd.specs.declared.votes.Past.{Past}
 use Rattle.sc_cmd.specs.declared.votes.Past.TheVariants as Cast
-use Rattle.sc_cmd.specs.declared.votes.Vote.{Vote}
 use Rattle.sc_cmd.specs.declared.votes.Vote.TheVariants as Vows
-use Rattle.sc_log_entries.specs.Worlds.{named_group}
+use Rattle.sc_log_entries.specs.Definitions.{named_group}
 use Rattle.sc_log_entries.specs.declared.LogEntry.{LogEntry}
-use Rattle.sc_base.specs.Arc.{holds}
-use Rattle.sc_machine_table.specs.Group.{Group}
-use Rattle.sc_machine_table.specs.Machine.{applied}
-use Rattle.sc_machine_table.specs.Orders.{begin_refused, refused_in, locked_in}
-use Rattle.sc_machine_table.specs.Plans.{Plan, can_migrate, can_repart, can_split, closing_group, closing_plan, giving_group, giving_plan, has_key_of, may_merge, merge_plan, merged_group, merged_route, migrate_plan, migrated_group, part_gift, repart_plan, split_plan, taken, taking_group, taking_plan}
-use Rattle.sc_machine_table.specs.Splits.{left_group}
-use Rattle.sc_machine_table.specs.Transactions.{asks_watcher, committed, decided_group, granted, heard_group, is_coordinating, participant_answered, released, vote_recorded, watch_answered, watch_recorded}
-use Rattle.sc_ring_law.specs.Allowed.{AreAllowed, IsAllowed, Sources, ToldWorld, first_told, stories_told, told_after, told_on}
-use Rattle.sc_ring_law.specs.Invariant.{Groups, IsCoordinating, LockOk}
-use Rattle.sc_ring_law.specs.Laws.{BeginInPlace, stories_of}
-use Rattle.sc_ring_law.specs.Stories.{Stories, Story, new_story, put, retold, stories_after, vote_in, watch_vote_in, with_answer, with_asked, with_decision, with_vote, with_watch_vote}
-use Rattle.sc_ring_law.proofs.Cuts.{arcs_in}
-use Rattle.sc_ring_law.proofs.Start.{at_start}
-use Rattle.sc_ring_law.proofs.Steps.{Kept}
-use Rattle.sc_ring_law.proofs.Told.{groups_in}
-use Rattle.sc_ring_law.proofs.View.{Ring}
-use Rattle.sc_ring_law.proofs.Worlds.{KeptWorld, kept_on}
-use Rattle.sc_whole_law.proofs.Coming.{IsDull, comes}
+use Rattle.sc_machine_table.specs.Definitions.{Group, applied, begin_refused, refused_in, locked_in, Plan, can_migrate, can_repart, can_split, closing_group, closing_plan, giving_group, giving_plan, has_key_of, may_merge, merge_plan, merged_group, merged_route, migrate_plan, migrated_group, part_gift, repart_plan, split_plan, taken, taking_group, taking_plan, left_group, asks_watcher, committed, decided_group, granted, heard_group, is_coordinating, participant_answered, released, vote_recorded, watch_answered, watch_recorded}
+use Rattle.sc_ring_law.specs.Definitions.{AreAllowed, IsAllowed, Sources, ToldWorld, first_told, stories_told, told_after, told_on, Groups, IsCoordinating, LockOk, BeginInPlace, stories_of, Stories, Story, new_story, put, retold, stories_after, vote_in, watch_vote_in, with_answer, with_asked, with_decision, with_vote, with_watch_vote}
+use Rattle.sc_ring_law.proofs.Lemmas.{arcs_in, at_start, Kept, groups_in, Ring, KeptWorld, kept_on}
+use Rattle.sc_whole_law.proofs.Lemmas.{comes, dull_same}
 use Rattle.sc_calm_answers_law.proofs.Fits.{none_of}
 
 -- ---- where a decision leads
@@ -141,19 +111,6 @@ module _ (s : Group) where
 free_refused : (o : Option Draw) (core : Core) (tx : Draw) (body : Body) (order : ℕ) → refused_in o core (Begin tx body order) ≡ None → begin_refused core body ≡ None
 free_refused None core tx body order e = e
 free_refused (Some t) core tx body order e = absurd cc
-
-dull_same : (effect : Effect) → IsDull effect → is_changed effect ≡ true → ⊥
-dull_same (Was.Done reply) d e = cc
-dull_same (Was.Again reply) d e = cc
-dull_same (Was.Stale last) d e = cc
-dull_same (Was.NotMine arc succ) d e = cc
-dull_same (Was.Gone into) d e = cc
-dull_same (Was.NoEffect tx) d e = cc
-dull_same Was.Idle d e = cc
-dull_same Was.Changed d e = d
-dull_same (Was.Voted vote) d e = d
-dull_same (Was.Decided outcome) d e = d
-dull_same (Was.Refused why) d e = cc
 
 begins_apart : (s : Group) (tx : Draw) (body : Body) (order : ℕ) → is_changed (applied s (Begin tx body order)).1 ≡ true → s.core.succ.group ≡ s.core.id → ⊥
 begins_apart s tx body order changed same =

@@ -3,35 +3,13 @@ use Rattle.std.specs.Prelude.{nat_le, length, ◌⊎◌}
 use Rattle.std.proofs.Common.{◌≡◌, ℕ, ◌&&◌, not, cond, Bool, true, false, [], ◌∷◌, Option, Some, None, inl, inr, refl, sym, ◌∙◌, ap}
 use Rattle.std.proofs.lemmas.Bool.{cond_both}
 use Rattle.std.proofs.lemmas.Option.{same_Some}
-use Rattle.sc_base.specs.Same.{same_draw}
-use Rattle.sc_base.specs.Union.{united}
-use Rattle.sc_base.specs.declared.names.Draw.{Draw}
-use Rattle.sc_base.proofs.NameLemmas.{draw_is}
-use Rattle.sc_cmd.specs.declared.bodies.Offer.{Offer}
-use Rattle.sc_cmd.specs.declared.commands.Command.{Command}
-use Rattle.sc_cmd.specs.declared.commands.Command.TheVariants.{Noop, Call, Join, Leave, Split, Begin, Prepared, RecordVote, GiveUp, Finish, Watched, RecordWatch}
-use Rattle.sc_cmd.specs.declared.cores.Core.{Core}
-use Rattle.sc_cmd.specs.declared.cores.Lock.{Lock}
-use Rattle.sc_cmd.specs.declared.cores.Lock.TheVariants.{Coordinating, Free, Promised, Watching}
-use Rattle.sc_cmd.specs.declared.effects.Effect.{Effect}
+use Rattle.sc_base.specs.Definitions.{same_draw, united}
+use Rattle.sc_node_table.specs.Values.{Draw, Offer, Command, Noop, Call, Join, Leave, Split, Begin, Prepared, RecordVote, GiveUp, Finish, Watched, RecordWatch, Core, Lock, Coordinating, Free, Promised, Watching, Effect, Route, OrderRefusal, Gift, No, Outcome, Abort, Merged, Moved, Migrated, Divided, Past}
+use Rattle.sc_base.proofs.Lemmas.{draw_is}
 use Rattle.sc_cmd.specs.declared.effects.Effect.TheVariants as Was
-use Rattle.sc_cmd.specs.declared.links.Route.{Route}
-use Rattle.sc_cmd.specs.declared.orders.OrderRefusal.{OrderRefusal}
-use Rattle.sc_cmd.specs.declared.votes.Gift.{Gift}
-use Rattle.sc_cmd.specs.declared.votes.No.{No}
-use Rattle.sc_cmd.specs.declared.votes.Outcome.{Outcome}
-use Rattle.sc_cmd.specs.declared.votes.Outcome.TheVariants.{Abort, Merged, Moved, Migrated, Divided}
-use Rattle.sc_cmd.specs.declared.votes.Past.{Past}
 use Rattle.sc_cmd.specs.declared.votes.Past.TheVariants as Cast
-use Rattle.sc_machine_table.specs.Finishes.{can_gain, finished, gained_group, lost_group, moved, participant_after, settled_in, watch_ended, welcomed_group}
-use Rattle.sc_machine_table.specs.Group.{Group}
-use Rattle.sc_machine_table.specs.Machine.{applied}
-use Rattle.sc_machine_table.specs.Orders.{ordered, refusal_of}
-use Rattle.sc_machine_table.specs.Plans.{can_cut, has_key_of}
-use Rattle.sc_machine_table.specs.Splits.{has_named}
-use Rattle.sc_machine_table.specs.Transactions.{aborted, asks_watcher, begun_group, is_coordinating, watch_recorded}
-use Rattle.sc_machine_table.specs.Votes.{has_voted, vote_of, voted_on, watch_vote_of}
-use Rattle.sc_calm_entries_law.proofs.Members.{StandsAs, join-stands, leave-stands, split-stands, vote-waits, watch-stands}
+use Rattle.sc_machine_table.specs.Definitions.{can_gain, finished, gained_group, lost_group, moved, participant_after, settled_in, watch_ended, welcomed_group, Group, applied, ordered, refusal_of, can_cut, has_key_of, has_named, aborted, asks_watcher, begun_group, is_coordinating, watch_recorded, has_voted, vote_of, voted_on, watch_vote_of}
+use Rattle.sc_calm_entries_law.proofs.Lemmas.{StandsAs, join-stands, leave-stands, split-stands, vote-waits, watch-stands}
 use Rattle.sc_calm_answers_law.proofs.Cores.{called_core}
 
 -- a command merges a group that has promised its transaction into another

@@ -1,41 +1,24 @@
 -- A node without replica of a group, and the children that it makes.
 use Rattle.std.proofs.Common.{List, None, Some, [], ap, append-nil, arith, eqb, inl, inr, refl, subst, sym, true, ℕ, ◌∙◌, ◌≡◌, ◌≤◌}
 use Rattle.std.proofs.lemmas.Bool.{cases_Bool, eqb-true}
-use Rattle.sc_actor.specs.declared.actors.Seat.{Seat}
-use Rattle.sc_actor.specs.declared.rows.Event.TheVariants.{Deliver}
-use Rattle.sc_base.specs.declared.names.Draw.{Draw}
+use Rattle.sc_node_table.specs.Values.{Seat, Deliver, Draw, Base, Mail, MailBody, Accept, Accepted, Answer, Ask, Install, Learn, Nack, Prepare, Promise, Request, TxElsewhere, TxOutcome, TxPrepare, TxVote, TxWatch, TxWatched, Told as ToldMail}
 use Rattle.sc_calm_answers_law.proofs.Leading.{gives, one}
 use Rattle.sc_calm_answers_law.proofs.Newest.{newest_after, newest_before, unled}
 use Rattle.sc_calm_answers_law.proofs.Posted.{offers_own, watches_own}
-use Rattle.sc_calm_answers_law.specs.Guided.{IsGuided, IsNamedGuide}
-use Rattle.sc_calm_answers_law.specs.Missed.{MissedAreFound, YoungMayBear}
-use Rattle.sc_calm_groups_law.specs.Led.{hints_at}
-use Rattle.sc_calm_groups_law.specs.Logged.{IsLogsState}
-use Rattle.sc_calm_groups_law.specs.Through.{Delivers}
-use Rattle.sc_calm_law.specs.Totals.{Rows}
-use Rattle.sc_calm_mail_law.specs.Posted.{IsPosted}
-use Rattle.sc_calm_rows_law.proofs.Scenes.{all_fit, head, no_lead}
-use Rattle.sc_calm_rows_law.specs.Groups.{progress_at, view_at}
-use Rattle.sc_calm_rows_law.specs.Mailed.{IsScene, TakesMail}
-use Rattle.sc_calm_rows_law.specs.Turns.{with_event}
-use Rattle.sc_calm_scenes_law.specs.Found.{IsState, NodeFinds}
-use Rattle.sc_calm_scenes_law.specs.Fresh.{IsThere}
-use Rattle.sc_calm_scenes_law.specs.Making.{MayJoin}
-use Rattle.sc_calm_scenes_law.specs.Taken.{IsTaking}
-use Rattle.sc_calm_scenes_law.specs.Turns.{NewestAreBound, NoneRuns}
-use Rattle.sc_cmd.specs.declared.cores.Base.{Base}
-use Rattle.sc_following_law.proofs.Nodes.{same_mark}
-use Rattle.sc_following_law.specs.Following.{Course, Installs, mark_of}
-use Rattle.sc_following_law.specs.Hints.{AreHeeded}
-use Rattle.sc_mail.specs.declared.bodies.Mail.{Mail}
-use Rattle.sc_mail.specs.declared.bodies.MailBody.{MailBody}
-use Rattle.sc_mail.specs.declared.bodies.MailBody.TheVariants.{Accept, Accepted, Answer, Ask, Install, Learn, Nack, Prepare, Promise, Request, TxElsewhere, TxOutcome, TxPrepare, TxVote, TxWatch, TxWatched}
-use Rattle.sc_base.specs.Roster.{is_member}
-use Rattle.sc_node_table.specs.Node.{NodeState, group_of_mail}
-use Rattle.sc_sound.specs.Players.{Player}
+use Rattle.sc_calm_answers_law.specs.Definitions.{IsGuided, IsNamedGuide, MissedAreFound, YoungMayBear}
+use Rattle.sc_calm_groups_law.specs.Definitions.{hints_at, IsLogsState, Delivers}
+use Rattle.sc_calm_law.specs.Definitions.{Rows}
+use Rattle.sc_calm_mail_law.specs.Definitions.{IsPosted}
+use Rattle.sc_calm_rows_law.proofs.Lemmas.{all_fit, head, no_lead}
+use Rattle.sc_calm_rows_law.specs.Definitions.{progress_at, view_at, IsScene, TakesMail, with_event}
+use Rattle.sc_calm_scenes_law.specs.Definitions.{IsState, NodeFinds, IsThere, MayJoin, IsTaking, NewestAreBound, NoneRuns}
+use Rattle.sc_following_law.proofs.Lemmas.{same_mark}
+use Rattle.sc_following_law.specs.Definitions.{Course, Installs, mark_of, AreHeeded}
+use Rattle.sc_base.specs.Definitions.{is_member}
+use Rattle.sc_node_table.specs.Definitions.{NodeState, group_of_mail}
+use Rattle.sc_sound.specs.Definitions.{Player}
 use Rattle.sc_calm_scenes_law.specs.Making.{Led as JoinsLed, Unled as JoinsUnled}
-use Rattle.sc_calm_scenes_law.proofs.Viewing.{no_lead as no_scene_lead}
-use Rattle.sc_mail.specs.declared.bodies.MailBody.TheVariants.{Told as ToldMail}
+use Rattle.sc_calm_scenes_law.proofs.Lemmas.{no_lead as no_scene_lead}
 use Rattle.std.proofs.lemmas.Option.{same_Some}
 
 -- ---- a state
@@ -114,11 +97,13 @@ module _ (words : ℕ → ℕ → ℕ × ℕ) (births : List (Seat Player)) (row
   missed_by (Answer named seq answer) e = tt
   missed_by (ToldMail order result) e = tt
 
+-- A mail to a node without replica of its group finds what an order needs.
 pub missed_found : MissedAreFound
 missed_found words births rows seat number mail group node t p states = missed_by words births rows seat number mail group node t p states mail.body refl
 
 -- ---- a child
 
+-- A child may be made that is well led, free and bound by nothing, and not led yet where its first member's node makes it.
 pub young_may : YoungMayBear
 young_may words births rows seat child y = record {
   free = y.free;

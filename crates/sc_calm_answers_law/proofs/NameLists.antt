@@ -4,20 +4,16 @@ use Rattle.std.specs.Prelude.{filter, is_some}
 use Rattle.std.proofs.lemmas.Bool.{and_from, and_parts, cases_Bool, le-leb, leb-true}
 use Rattle.std.proofs.lemmas.List.Filters.{length-filter_both}
 use Rattle.std.proofs.lemmas.List.Sums.{sum_by-cons}
-use Rattle.sc_base.specs.Among.{Among, Each}
-use Rattle.sc_base.specs.declared.names.Draw.{Draw}
-use Rattle.sc_cmd.specs.declared.links.Route.{Route}
-use Rattle.sc_lookup.specs.Known.{KnownGroups, way_to}
+use Rattle.sc_base.specs.Definitions.{Among, Each}
+use Rattle.sc_node_table.specs.Values.{Draw, Route}
+use Rattle.sc_lookup.specs.Definitions.{KnownGroups, way_to}
 use Rattle.sc_lookup.specs.declared.ways.Way.{Way}
-use Rattle.sc_node_table.specs.Replica.{ReplicaState}
-use Rattle.sc_paxos_law.proofs.Among.{Among-either, Among-left, Among-right}
-use Rattle.sc_paxos_words.proofs.ListLemmas.{Each-among}
-use Rattle.sc_calm_law.specs.Clients.{unknown, unknown_one}
-use Rattle.sc_calm_law.specs.Parties.{StandsOnce}
-use Rattle.sc_calm_law.specs.Reach.{sent_on}
-use Rattle.sc_calm_charts_law.specs.Charting.{ends_by, reach_in, went_in}
-use Rattle.sc_calm_charts_law.specs.Ends.{GoInTurn}
-use Rattle.sc_budget_law.proofs.Knowing.{parts_of}
+use Rattle.sc_node_table.specs.Definitions.{ReplicaState}
+use Rattle.sc_paxos_law.proofs.Lemmas.{Among-either, Among-left, Among-right}
+use Rattle.sc_paxos_words.proofs.Lemmas.{Each-among}
+use Rattle.sc_calm_law.specs.Definitions.{unknown, unknown_one, StandsOnce, sent_on}
+use Rattle.sc_calm_charts_law.specs.Definitions.{ends_by, reach_in, went_in, GoInTurn}
+use Rattle.sc_budget_law.proofs.Lemmas.{parts_of}
 
 -- ---- how many pass
 

@@ -1,28 +1,17 @@
 -- In a lawful journal no node has two replicas of one group.
 use Rattle.std.proofs.Common.{◌≡◌, ℕ, List, [], ◌∷◌, ◌⊎◌, inl, inr, refl, sym, ◌∙◌, subst}
-use Rattle.sc_base.specs.Among.{Among, Each}
-use Rattle.sc_cmd.specs.declared.commands.Command.{Command}
-use Rattle.sc_cmd.specs.declared.cores.Base.{Base}
-use Rattle.sc_mail.specs.declared.roles.Role.TheVariants.{Node}
-use Rattle.sc_node_table.specs.Node.{NodeState}
-use Rattle.sc_node_table.specs.Replica.{ReplicaState, name_of}
-use Rattle.sc_paxos_words.proofs.ListLemmas.{Each-weaker}
-use Rattle.sc_scenario.specs.Valid.{ValidScenariosAreBounded}
-use Rattle.sc_sound.specs.GroupsOf.{groups_at}
-use Rattle.sc_sound.specs.Players.{Ahead, route_of, as_nodes}
-use Rattle.sc_ring_law.specs.Allowed.{Sources}
-use Rattle.sc_names_law.specs.Laws.{OtherNamesAreFree, TakenOrdersAreAllowed, TakenWishesAreAllowed, WishesAreAtPositions}
-use Rattle.sc_names_law.specs.Owners.{owner_in}
-use Rattle.sc_group_law.proofs.Families.{h_of}
-use Rattle.sc_group_law.proofs.Holding.{Holds, IsOther}
-use Rattle.sc_group_law.proofs.Invariant.{Steps}
-use Rattle.sc_group_law.proofs.Names.{IsOneOf}
-use Rattle.sc_whole_law.specs.Begins.{section_op}
-use Rattle.sc_whole_law.specs.Parameters.{MayQueue}
-use Rattle.sc_whole_law.specs.StartLaws.{ValidScenariosBeginWell}
-use Rattle.sc_whole_law.proofs.Journals.{holds}
-use Rattle.sc_whole_law.proofs.Scheduled.{orders_allowed}
-use Rattle.sc_calm_answers_law.specs.Starts.{AreNamedOnce, LawfulReplicasAreNamedOnce, LawfulQuietJournalsCountOnce, QuietJournalsCountOnce}
+use Rattle.sc_base.specs.Definitions.{Among, Each}
+use Rattle.sc_node_table.specs.Values.{Command, Base, Node}
+use Rattle.sc_node_table.specs.Definitions.{NodeState, ReplicaState, name_of}
+use Rattle.sc_paxos_words.proofs.Lemmas.{Each-weaker}
+use Rattle.sc_scenario.specs.Definitions.{ValidScenariosAreBounded}
+use Rattle.sc_sound.specs.Definitions.{groups_at, Ahead, route_of, as_nodes}
+use Rattle.sc_ring_law.specs.Definitions.{Sources}
+use Rattle.sc_names_law.specs.Definitions.{OtherNamesAreFree, TakenOrdersAreAllowed, TakenWishesAreAllowed, WishesAreAtPositions, owner_in}
+use Rattle.sc_group_law.proofs.Lemmas.{h_of, Holds, IsOther, Steps, IsOneOf}
+use Rattle.sc_whole_law.specs.Definitions.{section_op, MayQueue, ValidScenariosBeginWell}
+use Rattle.sc_whole_law.proofs.Lemmas.{holds, orders_allowed}
+use Rattle.sc_calm_answers_law.specs.Definitions.{AreNamedOnce, LawfulReplicasAreNamedOnce, LawfulQuietJournalsCountOnce, QuietJournalsCountOnce}
 
 module _ (ahead : Ahead) (bases : List Base) (made : Base → Command → Type 0) (me : ℕ) (h : Base → Steps) where
   -- of these replicas one at most is the group's

@@ -1,35 +1,23 @@
 -- Which names replicas have after some rows, and that a name that is new is none of them.
-use Rattle.std.proofs.Common.{◌≡◌, ℕ, eqb, false, List, [], ◌∷◌, Option, Some, None, find, option_map, length, inl, inr, refl, sym, ap, subst}
+use Rattle.std.proofs.Common.{◌≡◌, ℕ, eqb, false, List, [], ◌∷◌, Option, Some, None, find, option_map, inl, inr, refl, ap, subst}
 use Rattle.std.proofs.lemmas.Bool.{cases_Bool, or_from}
 use Rattle.std.specs.List.{list_any}
-use Rattle.sc_machine_table.specs.Votes.{has_voted}
-use Rattle.sc_base.specs.Among.{Among, Each}
-use Rattle.sc_base.specs.Same.{same_draw}
-use Rattle.sc_base.specs.declared.names.Draw.{Draw}
-use Rattle.sc_base.proofs.NameLemmas.{draw_is}
-use Rattle.sc_actor.specs.declared.actors.Seat.{Seat}
-use Rattle.sc_actor.specs.Replay.{value}
-use Rattle.sc_cmd.specs.declared.cores.Core.{Core}
-use Rattle.sc_cmd.specs.declared.votes.Outcome.{Outcome}
-use Rattle.sc_cmd.specs.declared.votes.Past.{Past}
-use Rattle.sc_mail.specs.declared.roles.Role.TheVariants.{Node, Client}
-use Rattle.sc_node_table.specs.Node.{replica_of}
-use Rattle.sc_node_table.specs.Replica.{ReplicaState, name_of}
-use Rattle.sc_node_table.specs.Transactions.{noted_outcome, noted_vote}
-use Rattle.sc_paxos_words.proofs.ListLemmas.{Each-among, Each-weaker, find_found, find_nothing}
-use Rattle.sc_scenario.specs.Valid.{IsBounded}
+use Rattle.sc_machine_table.specs.Definitions.{has_voted}
+use Rattle.sc_base.specs.Definitions.{Among, Each, same_draw}
+use Rattle.sc_node_table.specs.Values.{Draw, Seat, Core, Outcome, Past, Node, Client}
+use Rattle.sc_base.proofs.Lemmas.{draw_is}
+use Rattle.sc_actor.specs.Definitions.{value}
+use Rattle.sc_node_table.specs.Definitions.{replica_of, ReplicaState, name_of, noted_outcome, noted_vote}
+use Rattle.sc_paxos_words.proofs.Lemmas.{Each-among, Each-weaker, find_found, find_nothing}
+use Rattle.sc_scenario.specs.Definitions.{IsBounded}
 use Rattle.sc_scenario.specs.declared.scenarios.Scenario.{Scenario}
-use Rattle.sc_sound.specs.Players.{Lawful, Player, as_nodes, births, player_table}
-use Rattle.sc_names_law.specs.Fresh.{BeginsUndrawn, IsUsed, NamesAreDrawn}
-use Rattle.sc_names_law.specs.Names.{CoreNames, OutcomeNames, PastNames, PlayerNames, ReplicaNames}
-use Rattle.sc_calm_law.specs.Totals.{Rows}
-use Rattle.sc_calm_rows_law.specs.Groups.{replica_in, view_at}
-use Rattle.sc_calm_answers_law.proofs.Drawn.{undrawn_to}
+use Rattle.sc_sound.specs.Definitions.{Lawful, Player, as_nodes, births, player_table}
+use Rattle.sc_names_law.specs.Definitions.{IsUsed, NamesAreDrawn, CoreNames, OutcomeNames, PastNames, PlayerNames, ReplicaNames}
+use Rattle.sc_calm_law.specs.Definitions.{Rows}
+use Rattle.sc_calm_rows_law.specs.Definitions.{replica_in, view_at}
+use Rattle.sc_calm_answers_law.proofs.Drawn.{begin_undrawn as undrawn}
 
 -- ---- the groups of a scenario
-
-pub undrawn : (scenario : Scenario) → IsBounded scenario → Each BeginsUndrawn scenario.groups
-undrawn scenario bounded = subst (Each BeginsUndrawn) (sym bounded.groups) (undrawn_to bounded.starts (length bounded.starts))
 
 -- ---- replicas
 

@@ -2,36 +2,23 @@
 use Rattle.std.proofs.Common.{◌≡◌, ℕ, ◌+◌, Bool, true, false, cond, List, [], ◌∷◌, ◌++◌, ◌⊎◌, length, map, inl, inr, refl, sym, ◌∙◌, ap, subst, arith, append_assoc, append-nil, length-append}
 use Rattle.std.specs.List.{list_any}
 use Rattle.std.proofs.lemmas.List.{length-map, take_all}
-use Rattle.sc_base.specs.Among.{Among, Each}
-use Rattle.sc_base.specs.Same.{same_draw}
-use Rattle.sc_base.specs.declared.names.Draw.{Draw}
-use Rattle.sc_cmd.specs.declared.cores.Base.{Base}
-use Rattle.sc_cmd.specs.declared.orders.OrderLine.{OrderLine}
-use Rattle.sc_mail.specs.declared.bodies.Mail.{Mail}
-use Rattle.sc_actor.specs.declared.actors.Seat.{Seat}
-use Rattle.sc_actor.specs.declared.rows.Row.{Row}
-use Rattle.sc_actor.specs.System.{row_of}
-use Rattle.sc_orderly_law.specs.Orderly.{orders}
-use Rattle.sc_scenario.specs.Valid.{ValidScenariosAreBounded}
+use Rattle.sc_base.specs.Definitions.{Among, Each, same_draw}
+use Rattle.sc_node_table.specs.Values.{Draw, Base, OrderLine, Mail, Seat, Row}
+use Rattle.sc_actor.specs.Definitions.{row_of}
+use Rattle.sc_orderly_law.specs.Definitions.{orders}
+use Rattle.sc_scenario.specs.Definitions.{ValidScenariosAreBounded}
 use Rattle.sc_scenario.specs.declared.scenarios.Scenario.{Scenario}
-use Rattle.sc_node_table.specs.Replica.{name_of}
-use Rattle.sc_paxos_law.proofs.Among.{Among-left, Among-right}
-use Rattle.sc_paxos_words.proofs.ListLemmas.{Each-among, Each-append, Each-passes}
-use Rattle.sc_sound.specs.Players.{Player, player_table, births, as_nodes}
-use Rattle.sc_whole_law.proofs.Seats.{all_apart}
-use Rattle.sc_calm_law.specs.Parties.{StandsOnce}
-use Rattle.sc_calm_law.specs.Totals.{Rows, is_led}
-use Rattle.sc_calm_charts_law.specs.Charting.{all_replicas, led_names, names_at, with_names}
-use Rattle.sc_calm_charts_law.specs.Following.{LedStandOnce}
-use Rattle.sc_calm_charts_law.proofs.Names.{names_grow}
-use Rattle.sc_budget_law.proofs.Lists.{map_among}
-use Rattle.sc_calm_scenes_law.specs.Fresh.{IsNowhere, IsThere}
-use Rattle.sc_calm_answers_law.specs.Borne.{AreBorneSo}
-use Rattle.sc_calm_answers_law.specs.Journal.{IsCalmJournal, IsFront, IsNamedGroup}
-use Rattle.sc_calm_answers_law.specs.KnownFronts.{FrontsAreFound}
-use Rattle.sc_calm_answers_law.specs.Near.{HasFewNames, HasNamesSince, NamesStayFew}
-use Rattle.sc_calm_answers_law.specs.Resting.{RestsAt}
-use Rattle.sc_calm_answers_law.specs.Tasks.{Task}
+use Rattle.sc_node_table.specs.Definitions.{name_of}
+use Rattle.sc_paxos_law.proofs.Lemmas.{Among-left, Among-right}
+use Rattle.sc_paxos_words.proofs.Lemmas.{Each-among, Each-append, Each-passes}
+use Rattle.sc_sound.specs.Definitions.{Player, player_table, births, as_nodes}
+use Rattle.sc_whole_law.proofs.Lemmas.{all_apart}
+use Rattle.sc_calm_law.specs.Definitions.{StandsOnce, Rows, is_led}
+use Rattle.sc_calm_charts_law.specs.Definitions.{all_replicas, led_names, names_at, with_names, LedStandOnce}
+use Rattle.sc_calm_charts_law.proofs.Lemmas.{names_grow}
+use Rattle.sc_budget_law.proofs.Lemmas.{map_among}
+use Rattle.sc_calm_scenes_law.specs.Definitions.{IsNowhere, IsThere}
+use Rattle.sc_calm_answers_law.specs.Definitions.{AreBorneSo, IsCalmJournal, IsFront, IsNamedGroup, FrontsAreFound, HasFewNames, HasNamesSince, NamesStayFew, RestsAt, Task}
 use Rattle.sc_calm_answers_law.proofs.Delivering.{there_or}
 use Rattle.sc_calm_answers_law.proofs.ChartRests.{led_is_there, there_is_led}
 use Rattle.sc_calm_answers_law.proofs.KnownGoing.{once_among}

@@ -1,37 +1,16 @@
 -- A client that was not told to go is sent on no more often than there are names: it knows one group alone.
 use Rattle.std.proofs.Common.{◌≡◌, ℕ, ◌≤◌, List, [], ◌∷◌, ◌++◌, length, refl, sym, ◌∙◌, subst, arith, append-nil}
-use Rattle.sc_base.specs.declared.names.Draw.{Draw}
-use Rattle.sc_cmd.specs.declared.cores.Base.{Base}
+use Rattle.sc_node_table.specs.Values.{Draw, Base}
 use Rattle.sc_lookup.specs.declared.ways.Way.{Way}
-use Rattle.sc_scenario.specs.Valid.{ValidScenariosAreBounded}
+use Rattle.sc_scenario.specs.Definitions.{ValidScenariosAreBounded}
 use Rattle.sc_scenario.specs.declared.scenarios.Scenario.{Scenario}
-use Rattle.sc_node_table.specs.Replica.{ReplicaState}
-use Rattle.sc_sound.specs.Players.{births, as_nodes}
-use Rattle.sc_calm_law.specs.Charts.{Chart, players}
-use Rattle.sc_calm_law.specs.Reach.{sent_on}
-use Rattle.sc_calm_law.specs.Totals.{Rows}
-use Rattle.sc_calm_charts_law.specs.Charting.{all_replicas, chart_at, names_at, reach_in}
-use Rattle.sc_calm_charts_law.specs.Following.{LedStandOnce}
-use Rattle.sc_calm_charts_law.specs.Fronts.{quiet_front}
-use Rattle.sc_budget_law.specs.Asking.{IsAsking}
-use Rattle.sc_budget_law.specs.AskingLines.{AreRequests, AreSeated}
-use Rattle.sc_budget_law.specs.AskingQuiet.{QuietJournalsAsk}
-use Rattle.sc_budget_law.specs.CalmAsking.{IsLinkedSetting}
-use Rattle.sc_budget_law.specs.CalmNode.{Setting, IsSetting}
-use Rattle.sc_budget_law.proofs.BetweenStage.{IsStage, stage}
-use Rattle.sc_budget_law.proofs.BetweenViews.{Journal}
-use Rattle.sc_calm_answers_law.specs.Cuts.{QuietGroupsHaveCuts}
-use Rattle.sc_calm_answers_law.specs.Hearing.{KnowOne}
-use Rattle.sc_calm_answers_law.specs.Journal.{IsCalmJournal}
-use Rattle.sc_calm_answers_law.specs.KeptRising.{ChartHintsRise}
-use Rattle.sc_calm_answers_law.specs.KnownFronts.{FrontsAreFound, IsQuietFront}
-use Rattle.sc_calm_answers_law.specs.Near.{ClientsAreNear}
-use Rattle.sc_calm_answers_law.specs.Requested.{setting_of, IsKnownFront, IsRequested}
-use Rattle.sc_calm_answers_law.specs.Resting.{RestsAt}
-use Rattle.sc_calm_answers_law.specs.Round.{StandingGroupsAreRound}
-use Rattle.sc_calm_answers_law.specs.Rows.{AreNear}
-use Rattle.sc_calm_answers_law.specs.Settings.{QuietJournalsHaveFrames, QuietSettingsAreLinked}
-use Rattle.sc_calm_answers_law.specs.Starts.{LawfulReplicasAreNamedOnce, QuietJournalsKnowOne}
+use Rattle.sc_node_table.specs.Definitions.{ReplicaState}
+use Rattle.sc_sound.specs.Definitions.{births, as_nodes}
+use Rattle.sc_calm_law.specs.Definitions.{Chart, players, sent_on, Rows}
+use Rattle.sc_calm_charts_law.specs.Definitions.{all_replicas, chart_at, names_at, reach_in, LedStandOnce, quiet_front}
+use Rattle.sc_budget_law.specs.Definitions.{IsAsking, AreRequests, AreSeated, QuietJournalsAsk, IsLinkedSetting, Setting, IsSetting}
+use Rattle.sc_budget_law.proofs.Lemmas.{IsStage, stage, Journal}
+use Rattle.sc_calm_answers_law.specs.Definitions.{QuietGroupsHaveCuts, KnowOne, IsCalmJournal, ChartHintsRise, FrontsAreFound, IsQuietFront, ClientsAreNear, setting_of, IsKnownFront, IsRequested, RestsAt, StandingGroupsAreRound, AreNear, QuietJournalsHaveFrames, QuietSettingsAreLinked, LawfulReplicasAreNamedOnce, QuietJournalsKnowOne}
 use Rattle.sc_calm_answers_law.proofs.KnownGoing.{gone_named}
 use Rattle.sc_calm_answers_law.proofs.LinesKeep.{line_keeps, fresh_row}
 use Rattle.sc_calm_answers_law.proofs.NameLists.{sent_few}

@@ -1,12 +1,9 @@
 -- What mail needs besides where its node has a replica of its group or none, by its kind.
 use Rattle.std.proofs.Common.{ℕ, Option, Some, None}
-use Rattle.sc_base.specs.declared.names.Ballot.{Ballot}
-use Rattle.sc_base.specs.declared.names.Draw.{Draw}
-use Rattle.sc_mail.specs.declared.bodies.MailBody.{MailBody}
-use Rattle.sc_mail.specs.declared.bodies.MailBody.TheVariants.{Request, Answer, Prepare, Promise, Accept, Accepted, Nack, Learn, Ask, Install, TxPrepare, TxVote, TxOutcome, TxElsewhere, TxWatch, TxWatched, Told}
-use Rattle.sc_node_table.specs.Replica.{ReplicaState}
-use Rattle.sc_calm_law.specs.Owed.{Ways}
-use Rattle.sc_calm_answers_law.specs.Meeting.{IsAgreed, IsPumped, IsPlainAt, MayCountAt, NeedsAt, NeedsByKind}
+use Rattle.sc_node_table.specs.Values.{Ballot, Draw, MailBody, Request, Answer, Prepare, Promise, Accept, Accepted, Nack, Learn, Ask, Install, TxPrepare, TxVote, TxOutcome, TxElsewhere, TxWatch, TxWatched, Told}
+use Rattle.sc_node_table.specs.Definitions.{ReplicaState}
+use Rattle.sc_calm_law.specs.Definitions.{Ways}
+use Rattle.sc_calm_answers_law.specs.Definitions.{IsAgreed, IsPumped, IsPlainAt, MayCountAt, NeedsAt, NeedsByKind}
 
 agreed_needs : (ways : Ways) (here : Option ReplicaState) (body : MailBody) → IsAgreed body → NeedsAt ways here body
 agreed_needs ways None (Request group client seq op) k = absurd k
@@ -80,6 +77,7 @@ pumped_needs ways (Some r) (TxWatched tx coord part vote) k plain = plain
 pumped_needs ways (Some r) (Answer group seq answer) k plain = absurd k
 pumped_needs ways (Some r) (Told order result) k plain = absurd k
 
+-- Mail of the agreement needs nothing, a vote that a leader may count it, and mail by which a leader only pumps that one that does not run keeps no reports.
 pub needs_by_kind : NeedsByKind
 needs_by_kind = record {
   agreed = agreed_needs;

@@ -1,37 +1,20 @@
 -- The newest replicas of a group, before a row and after it.
 use Rattle.std.proofs.Common.{List, None, Some, [], ap, arith, false, inl, inr, subst, sym, true, true≢false, ℕ, ◌++◌, ◌∙◌, ◌∷◌, ◌≡◌, ◌≤◌}
 use Rattle.std.proofs.lemmas.Bool.{cases_eq}
-use Rattle.sc_actor.specs.Mail.{mails}
-use Rattle.sc_actor.specs.System.{row_of}
-use Rattle.sc_actor.specs.declared.actors.Seat.{Seat}
-use Rattle.sc_actor.specs.declared.rows.Event.{Event}
-use Rattle.sc_actor.specs.declared.rows.Row.{Row}
-use Rattle.sc_base.specs.declared.names.Ballot.{Ballot}
-use Rattle.sc_base.specs.declared.names.Draw.{Draw}
-use Rattle.sc_calm_answers_law.specs.Guided.{AreBoundBy, IsGuided, IsReached, NewestStay}
-use Rattle.sc_calm_groups_law.specs.Kinds.{RowElects, RowLeads, RowMakes, RowPasses, RowRests, RowTakes}
-use Rattle.sc_calm_groups_law.specs.Led.{Ends, IsWellLed}
-use Rattle.sc_calm_law.specs.Charts.{players}
-use Rattle.sc_calm_law.specs.Totals.{Rows}
-use Rattle.sc_calm_orders_law.specs.Scenes.{Bond}
-use Rattle.sc_calm_rows_law.proofs.Keeping.{same_some}
-use Rattle.sc_calm_rows_law.proofs.Marking.{rows_are}
-use Rattle.sc_calm_rows_law.proofs.Viewing.{view_others}
-use Rattle.sc_calm_rows_law.specs.Groups.{marks_at, next_in, progress_at, taken_mark, view_at}
-use Rattle.sc_calm_rows_law.specs.Steps.{elected_course}
-use Rattle.sc_calm_rows_law.specs.Turns.{IsReplicasRow, with_event}
-use Rattle.sc_calm_scenes_law.specs.Fresh.{IsThere}
-use Rattle.sc_calm_scenes_law.specs.Turns.{NewestAreBound, NoneRuns}
-use Rattle.sc_cmd.specs.declared.cores.Base.{Base}
-use Rattle.sc_cmd.specs.declared.orders.OrderLine.{OrderLine}
-use Rattle.sc_following_law.proofs.Marks.{reached-least}
-use Rattle.sc_following_law.specs.Following.{AreFit, Course, IsFit, Mark, Sets, next_by}
-use Rattle.sc_following_law.specs.Hints.{Tellers}
-use Rattle.sc_following_law.specs.Tables.{StepsBy}
-use Rattle.sc_mail.specs.declared.bodies.Mail.{Mail}
-use Rattle.sc_node_table.specs.Replica.{Place, ReplicaState, listed, next}
-use Rattle.sc_orderly_law.specs.Timely.{AreInTime}
-use Rattle.sc_sound.specs.Players.{Player, player_table}
+use Rattle.sc_actor.specs.Definitions.{mails, row_of}
+use Rattle.sc_node_table.specs.Values.{Seat, Event, Row, Ballot, Draw, Base, OrderLine, Mail}
+use Rattle.sc_calm_answers_law.specs.Definitions.{AreBoundBy, IsGuided, IsReached, NewestStay}
+use Rattle.sc_calm_groups_law.specs.Definitions.{RowElects, RowLeads, RowMakes, RowPasses, RowRests, RowTakes, Ends, IsWellLed}
+use Rattle.sc_calm_law.specs.Definitions.{players, Rows}
+use Rattle.sc_calm_orders_law.specs.Definitions.{Bond}
+use Rattle.sc_calm_rows_law.proofs.Lemmas.{same_some, rows_are, view_others}
+use Rattle.sc_calm_rows_law.specs.Definitions.{marks_at, next_in, progress_at, taken_mark, view_at, elected_course, IsReplicasRow, with_event}
+use Rattle.sc_calm_scenes_law.specs.Definitions.{IsThere, NewestAreBound, NoneRuns}
+use Rattle.sc_following_law.proofs.Lemmas.{reached-least}
+use Rattle.sc_following_law.specs.Definitions.{AreFit, Course, IsFit, Mark, Sets, next_by, Tellers, StepsBy}
+use Rattle.sc_node_table.specs.Definitions.{Place, ReplicaState, listed, next}
+use Rattle.sc_orderly_law.specs.Definitions.{AreInTime}
+use Rattle.sc_sound.specs.Definitions.{Player, player_table}
 
 -- no replica of a well led group is further than its newest state
 pub no_further : (at : Sets) (over : Ends) (by : Tellers) (words : ℕ → ℕ → ℕ × ℕ) (births : List (Seat Player)) (rows : Rows) (base : Base) (course : Course) (node : ℕ) (r : ReplicaState) → IsWellLed at over by words births rows base course
@@ -151,6 +134,7 @@ module _ (words : ℕ → ℕ → ℕ × ℕ) (births : List (Seat Player)) (row
   pub newest_before : IsThere births rows base.core.id → NewestAreBound births rows base.core.id (g.bonds course.newest)
   newest_before there = newest_bound g.at g.over g.by words births rows base course g.bonds g.led (g.reached there) g.was_bound
 
+-- The newest replicas of a group are bound as its newest state, before a row and after it.
 pub newest_stay : NewestStay
 newest_stay = record {
   was = λ words births rows seat event base g there. newest_before words births rows seat event base g there;

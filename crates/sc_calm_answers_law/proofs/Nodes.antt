@@ -1,16 +1,12 @@
 -- A node of a scenario stays a node, and keeps its number.
 use Rattle.std.proofs.Common.{◌≡◌, ℕ, eqb, cond, true, false, Bool, List, [], ◌∷◌, ◌++◌, Option, Some, None, refl, ◌∙◌, ap}
-use Rattle.sc_cmd.specs.declared.orders.OrderLine.{OrderLine}
-use Rattle.sc_mail.specs.declared.bodies.Mail.{Mail}
-use Rattle.sc_mail.specs.declared.roles.Role.TheVariants.{Node}
-use Rattle.sc_actor.specs.declared.rows.Input.{Input}
-use Rattle.sc_actor.specs.Replay.{value, acted, replay, input_of}
-use Rattle.sc_node_table.specs.Node.{NodeState, node_table, born_node}
-use Rattle.sc_node_table.specs.Slots.{slots_ahead}
+use Rattle.sc_node_table.specs.Values.{OrderLine, Mail, Node, Input}
+use Rattle.sc_actor.specs.Definitions.{value, acted, replay, input_of}
+use Rattle.sc_node_table.specs.Definitions.{NodeState, node_table, born_node, slots_ahead}
 use Rattle.sc_scenario.specs.declared.scenarios.Scenario.{Scenario}
-use Rattle.sc_sound.specs.Players.{player_table, node_seat, as_nodes}
-use Rattle.sc_calm_law.specs.Totals.{Rows}
-use Rattle.sc_calm_groups_law.specs.Tops.{NodesKeepTops, NodesAreBornTopped}
+use Rattle.sc_sound.specs.Definitions.{player_table, node_seat, as_nodes}
+use Rattle.sc_calm_law.specs.Definitions.{Rows}
+use Rattle.sc_calm_groups_law.specs.Definitions.{NodesKeepTops, NodesAreBornTopped}
 
 node_step : (node : NodeState) (o : Option (Input Mail OrderLine)) → (later : NodeState) × ((acted player_table (Node node) o).0 ≡ Node later)
 node_step node None = (node, refl)

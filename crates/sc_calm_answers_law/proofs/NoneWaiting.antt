@@ -1,58 +1,16 @@
 -- After each row of a replica's table no act waits where nothing is in flight: the row ends with the pump, or leaves what the replica leads with and what waits, or nothing waits.
 use Rattle.std.proofs.Common.{◌≡◌, ℕ, ◌≤◌, ◌&&◌, ◌||◌, not, nat_le, nat_lt, eqb, refl, Bool, true, false, true≢false, cond, List, [], ◌∷◌, ◌++◌, length, Option, Some, None, sym, ◌∙◌, ap, subst}
 use Rattle.std.proofs.lemmas.Bool.{and_parts, and_from}
-use Rattle.sc_base.specs.Drawing.{Drawer, next_name}
-use Rattle.sc_base.specs.Majority.{is_majority}
-use Rattle.sc_base.specs.Roster.{is_member, least_of}
-use Rattle.sc_base.specs.Same.{same_ballot}
-use Rattle.sc_base.specs.declared.names.Ballot.{Ballot}
-use Rattle.sc_base.specs.declared.names.Draw.{Draw}
-use Rattle.sc_base.specs.declared.ops.Op.{Op}
-use Rattle.sc_cmd.specs.declared.bodies.Offer.{Offer}
-use Rattle.sc_cmd.specs.declared.bodies.Watch.{Watch}
-use Rattle.sc_cmd.specs.declared.commands.Command.{Command}
-use Rattle.sc_cmd.specs.declared.commands.Command.TheVariants.{Call, Prepared as PreparedAct, RecordVote, Finish, Watched, RecordWatch}
-use Rattle.sc_cmd.specs.declared.cores.Base.{Base}
-use Rattle.sc_cmd.specs.declared.links.Route.{Route}
-use Rattle.sc_cmd.specs.declared.orders.OrderLine.{OrderLine}
-use Rattle.sc_cmd.specs.declared.orders.OrderRefusal.{OrderRefusal}
-use Rattle.sc_cmd.specs.declared.votes.Outcome.{Outcome}
-use Rattle.sc_cmd.specs.declared.votes.Past.{Past}
+use Rattle.sc_base.specs.Definitions.{Drawer, next_name, is_majority, is_member, least_of, same_ballot}
+use Rattle.sc_node_table.specs.Values.{Ballot, Draw, Op, Offer, Watch, Command, Call, Prepared as PreparedAct, RecordVote, Finish, Watched, RecordWatch, Base, Route, OrderLine, OrderRefusal, Outcome, Past, Vote, AnswerBody, Mail, MailBody, Request, Answer, Prepare, Promise, Accept, Accepted, Nack, Learn, Ask, Install, TxPrepare, TxVote, TxOutcome, TxElsewhere, TxWatch, TxWatched, Told, Counted, Chosen, NotYet, Flight, Report}
 use Rattle.sc_cmd.specs.declared.votes.Past.TheVariants as Cast
-use Rattle.sc_cmd.specs.declared.votes.Vote.{Vote}
 use Rattle.sc_cmd.specs.declared.votes.Vote.TheVariants as Vows
-use Rattle.sc_mail.specs.declared.bodies.AnswerBody.{AnswerBody}
-use Rattle.sc_mail.specs.declared.bodies.Mail.{Mail}
-use Rattle.sc_mail.specs.declared.bodies.MailBody.{MailBody}
-use Rattle.sc_mail.specs.declared.bodies.MailBody.TheVariants.{Request, Answer, Prepare, Promise, Accept, Accepted, Nack, Learn, Ask, Install, TxPrepare, TxVote, TxOutcome, TxElsewhere, TxWatch, TxWatched, Told}
 use Rattle.sc_paxos_words.specs.declared.answers.AcceptAnswer.TheVariants as Asked
-use Rattle.sc_paxos_words.specs.declared.answers.Counted.{Counted}
-use Rattle.sc_paxos_words.specs.declared.answers.Counted.TheVariants.{Chosen, NotYet}
 use Rattle.sc_paxos_words.specs.declared.answers.PrepareAnswer.TheVariants as Prepared
-use Rattle.sc_paxos_words.specs.declared.flights.Flight.{Flight}
-use Rattle.sc_paxos_words.specs.declared.reports.Report.{Report}
-use Rattle.sc_paxos_words.specs.Accepting.{accepted as accepted_by}
-use Rattle.sc_paxos_words.specs.Acceptors.{AcceptorState, may_promise, after_promise, after_accept, reports_from}
-use Rattle.sc_paxos_words.specs.Ballots.{below, IsAtLeast}
-use Rattle.sc_paxos_words.specs.Leaders.{LeaderState, flight_at, promise_counted, without_flight_at}
-use Rattle.sc_paxos_words.specs.Preparing.{prepared}
-use Rattle.sc_paxos_words.specs.Votes.{counted, kept_voters, voters_after, with_voters, vote_at}
-use Rattle.sc_paxos_words.proofs.BallotLemmas.{at_least_from_below, at_least_trans}
-use Rattle.sc_node_table.specs.Acts.{act_queued, with_act}
-use Rattle.sc_node_table.specs.Election.{elected, ended, stopped, saw}
-use Rattle.sc_node_table.specs.Execute.{all_ready, executed, executed_one, has_room, is_among, looked, looked_for}
-use Rattle.sc_node_table.specs.Install.{install_to, named, jumped}
-use Rattle.sc_node_table.specs.Mails.{sent}
-use Rattle.sc_node_table.specs.Ordering.{ordered_command, untaken, taken_or_told, ordered_row}
-use Rattle.sc_node_table.specs.Pump.{pumped}
-use Rattle.sc_node_table.specs.Queues.{call_of, with_call, without_call}
-use Rattle.sc_node_table.specs.Replica.{ReplicaState, Place, Executed, childless, first_set, forgotten, installed_replica, last_slot, may_offer, members, name_of, next, set_at, settled}
-use Rattle.sc_node_table.specs.Rows.{refused_at, queued, requested, request_row, learn_row, ask_row, looked_up, took_over, install_row, made_by, mailed}
-use Rattle.sc_node_table.specs.Slots.{with_slot}
-use Rattle.sc_node_table.specs.Transactions.{asked_next, awaits_vote, awaits_watch, elsewhere_row, is_bound, noted_outcome, offer_row, offered_by, outcome_row, sent_elsewhere, standing_vote, vote_met, vote_queued, vote_row, watch_met, watch_queued, watch_row, watched_by, watched_row}
-use Rattle.sc_node_table.specs.Voting.{hinted, promise_to, prepare_row, accepted_to, took, accept_row, leads, promise_row, readied, vote_tallied, voted, accepted_row, nack_row}
-use Rattle.sc_law_lemmas.proofs.Places.{promised_place, asked_place}
-use Rattle.sc_law_lemmas.proofs.Ways.{either_way}
+use Rattle.sc_paxos_words.specs.Definitions.{accepted as accepted_by, AcceptorState, may_promise, after_promise, after_accept, reports_from, below, IsAtLeast, LeaderState, flight_at, promise_counted, without_flight_at, prepared, counted, kept_voters, voters_after, with_voters, vote_at}
+use Rattle.sc_paxos_words.proofs.Lemmas.{at_least_from_below, at_least_trans}
+use Rattle.sc_node_table.specs.Definitions.{act_queued, with_act, elected, ended, stopped, saw, all_ready, executed, executed_one, has_room, is_among, looked, looked_for, install_to, named, jumped, sent, ordered_command, untaken, taken_or_told, ordered_row, pumped, call_of, with_call, without_call, ReplicaState, Place, Executed, childless, first_set, forgotten, installed_replica, last_slot, may_offer, members, name_of, next, set_at, settled, refused_at, queued, requested, request_row, learn_row, ask_row, looked_up, took_over, install_row, made_by, mailed, with_slot, asked_next, awaits_vote, awaits_watch, elsewhere_row, is_bound, noted_outcome, offer_row, offered_by, outcome_row, sent_elsewhere, standing_vote, vote_met, vote_queued, vote_row, watch_met, watch_queued, watch_row, watched_by, watched_row, hinted, promise_to, prepare_row, accepted_to, took, accept_row, leads, promise_row, readied, vote_tallied, voted, accepted_row, nack_row}
+use Rattle.sc_law_lemmas.proofs.Lemmas.{promised_place, asked_place, either_way}
 use Rattle.sc_pump_law.specs.Waiting.{HasNoneWaiting, PumpsLeaveNone}
 use Rattle.sc_calm_answers_law.proofs.Calls.{pump_kept}
 

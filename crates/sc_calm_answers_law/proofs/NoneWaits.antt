@@ -1,45 +1,25 @@
 -- No act waits at a replica with nothing in flight, row by row since a quiet front of a calm journal.
 use Rattle.std.proofs.Common.{◌≡◌, ℕ, ◌≤◌, eqb, true, true≢false, List, [], length, Some, inl, inr, refl, sym, ◌∙◌, ap, subst, arith}
 use Rattle.std.proofs.lemmas.Bool.{cases_Bool, eq-eqb, eqb-true, le-leb}
-use Rattle.sc_base.specs.Among.{Among}
-use Rattle.sc_base.specs.declared.names.Draw.{Draw}
-use Rattle.sc_cmd.specs.declared.cores.Base.{Base}
-use Rattle.sc_cmd.specs.declared.orders.OrderLine.{OrderLine}
-use Rattle.sc_mail.specs.declared.bodies.Mail.{Mail}
-use Rattle.sc_actor.specs.Walk.{is_quiet}
-use Rattle.sc_actor.specs.declared.actors.Seat.{Seat}
-use Rattle.sc_actor.specs.declared.rows.Event.{Event}
-use Rattle.sc_actor.specs.declared.rows.Event.TheVariants.{Deliver, Told}
-use Rattle.sc_actor.specs.declared.rows.Row.{Row}
-use Rattle.sc_actor.specs.System.{System, row_of}
-use Rattle.sc_orderly_law.specs.Timely.{AreInTime}
-use Rattle.sc_orderly_law.proofs.InTime.{in_time_before, last_in_time}
+use Rattle.sc_base.specs.Definitions.{Among}
+use Rattle.sc_node_table.specs.Values.{Draw, Base, OrderLine, Mail, Seat, Event, Deliver, Row}
+use Rattle.sc_actor.specs.Definitions.{is_quiet, System, row_of}
+use Rattle.sc_actor.specs.declared.rows.Event.TheVariants.{Told}
+use Rattle.sc_orderly_law.specs.Definitions.{AreInTime}
+use Rattle.sc_orderly_law.proofs.Lemmas.{in_time_before, last_in_time}
 use Rattle.sc_scenario.specs.declared.scenarios.Scenario.{Scenario}
-use Rattle.sc_node_table.specs.Replica.{ReplicaState, born_replica, last_slot, next}
-use Rattle.sc_node_table.specs.Slots.{slots_ahead}
+use Rattle.sc_node_table.specs.Definitions.{ReplicaState, born_replica, last_slot, next, slots_ahead}
 use Rattle.sc_pump_law.specs.Waiting.{HasNoneWaiting, PumpsLeaveNone}
-use Rattle.sc_sound.specs.GroupsOf.{groups_at}
-use Rattle.sc_sound.specs.Players.{Player, player_table, births, as_nodes}
-use Rattle.sc_calm_law.specs.Charts.{players}
-use Rattle.sc_calm_law.specs.Quiet.{IsAtRest}
-use Rattle.sc_calm_law.specs.Totals.{Rows}
-use Rattle.sc_calm_rows_law.specs.Groups.{view_at}
-use Rattle.sc_calm_rows_law.specs.Turns.{IsSeat, with_event}
-use Rattle.sc_calm_rows_law.proofs.Viewing.{view_others}
-use Rattle.sc_calm_mail_law.specs.Few.{SlotsAreLeft}
-use Rattle.sc_calm_mail_law.specs.Idle.{IsPlainlyKept, JournalsKeepIdle}
-use Rattle.sc_calm_groups_law.specs.Kept.{ScenariosAreKeptBorn}
-use Rattle.sc_calm_groups_law.specs.Through.{ScenariosAreWellBorn}
-use Rattle.sc_calm_groups_law.proofs.Keeping.{kept_leaders_rest}
-use Rattle.sc_calm_logs_law.specs.Logged.{IsGroupOf, SlotsHaveRosters, logged_sets}
-use Rattle.sc_calm_scenes_law.proofs.Turning.{calm_is}
-use Rattle.sc_calm_answers_law.specs.Led.{over_at}
-use Rattle.sc_calm_answers_law.specs.Tellers.{tellers_at}
-use Rattle.sc_calm_answers_law.specs.SentJournals.{IsSentThrough}
-use Rattle.sc_calm_answers_law.specs.KnownFronts.{FrontsAreFound}
-use Rattle.sc_calm_answers_law.specs.Strangers.{NoMailForStrangers}
-use Rattle.sc_calm_answers_law.specs.Journal.{IsCalmJournal, IsFront, IsNamedGroup, AreSent}
-use Rattle.sc_calm_answers_law.specs.NoneWaits.{HaveNoneWaiting, NoneWaits}
+use Rattle.sc_sound.specs.Definitions.{groups_at, Player, player_table, births, as_nodes}
+use Rattle.sc_calm_law.specs.Definitions.{players, IsAtRest, Rows}
+use Rattle.sc_calm_rows_law.specs.Definitions.{view_at, IsSeat, with_event}
+use Rattle.sc_calm_rows_law.proofs.Lemmas.{view_others}
+use Rattle.sc_calm_mail_law.specs.Definitions.{SlotsAreLeft, IsPlainlyKept, JournalsKeepIdle}
+use Rattle.sc_calm_groups_law.specs.Definitions.{ScenariosAreKeptBorn, ScenariosAreWellBorn}
+use Rattle.sc_calm_groups_law.proofs.Lemmas.{kept_leaders_rest}
+use Rattle.sc_calm_logs_law.specs.Definitions.{IsGroupOf, SlotsHaveRosters, logged_sets}
+use Rattle.sc_calm_scenes_law.proofs.Lemmas.{calm_is}
+use Rattle.sc_calm_answers_law.specs.Definitions.{over_at, tellers_at, IsSentThrough, FrontsAreFound, NoMailForStrangers, IsCalmJournal, IsFront, IsNamedGroup, AreSent, HaveNoneWaiting, NoneWaits}
 use Rattle.sc_calm_answers_law.proofs.BetweenRequests.{front_short, front_timely}
 use Rattle.sc_calm_answers_law.proofs.Leading.{gives}
 use Rattle.sc_calm_answers_law.proofs.NoneWaiting.{off_none, idle_none, mailed_ends, order_ends, made_none}

@@ -6,46 +6,22 @@ use Rattle.std.specs.Ordering.{nat_cmp}
 use Rattle.std.specs.Cmp.Lexicographic.{slice_cmp, nat_list_cmp_total}
 use Rattle.std.proofs.lemmas.Bool.{cond_both}
 use Rattle.std.proofs.lemmas.Option.{none-some}
-use Rattle.sc_base.specs.Among.{Among}
-use Rattle.sc_base.specs.declared.names.Draw.{Draw}
-use Rattle.sc_base.specs.declared.ops.Noted.{Noted}
-use Rattle.sc_base.specs.declared.ops.Op.{Op}
-use Rattle.sc_base.specs.declared.ops.Op.TheVariants.{Get, Put, Del, Add, Cas}
-use Rattle.sc_base.specs.declared.ops.Reply.{Reply}
-use Rattle.sc_cmd.specs.declared.cores.Base.{Base}
-use Rattle.sc_ideal.specs.declared.Entry.{Entry}
-use Rattle.sc_ideal.specs.History.{HasStoreReplies, contents_after, HasEntry}
-use Rattle.sc_ideal.specs.IdealStore.{Contents, key_of, reply_of, was, after, holds_key}
-use Rattle.sc_ideal.proofs.Apart.{get-part}
-use Rattle.sc_machine_table.specs.Group.{Group}
-use Rattle.sc_log_law.specs.Descent.{Rows}
-use Rattle.sc_log_law.proofs.Findings.{entries_tell_one_map}
-use Rattle.sc_log_law.proofs.OneMap.{allowed_entries_make_one_map}
-use Rattle.sc_log_law.proofs.Times.{among_place}
-use Rattle.sc_names_law.specs.Laws.{OtherNamesAreFree, TakenOrdersAreAllowed, TakenWishesAreAllowed, WishesAreAtPositions}
-use Rattle.sc_scenario.specs.Valid.{ValidScenariosAreBounded}
+use Rattle.sc_base.specs.Definitions.{Among}
+use Rattle.sc_node_table.specs.Values.{Draw, Noted, Op, Get, Put, Del, Add, Cas, Reply, Base, Entry}
+use Rattle.sc_ideal.specs.Definitions.{HasStoreReplies, contents_after, HasEntry, Contents, key_of, reply_of, was, after, holds_key}
+use Rattle.sc_ideal.proofs.Lemmas.{get-part}
+use Rattle.sc_machine_table.specs.Definitions.{Group}
+use Rattle.sc_log_law.specs.Definitions.{Rows}
+use Rattle.sc_log_law.proofs.Lemmas.{entries_tell_one_map, allowed_entries_make_one_map, among_place}
+use Rattle.sc_names_law.specs.Definitions.{OtherNamesAreFree, TakenOrdersAreAllowed, TakenWishesAreAllowed, WishesAreAtPositions}
+use Rattle.sc_scenario.specs.Definitions.{ValidScenariosAreBounded}
 use Rattle.sc_scenario.specs.declared.scenarios.Scenario.{Scenario}
-use Rattle.sc_sound.specs.GroupsOf.{groups_at, history_at}
-use Rattle.sc_sound.specs.Logs.{decided_log, decided_state}
-use Rattle.sc_sound.specs.Players.{as_nodes, births}
-use Rattle.sc_sound.specs.Requests.{issue_row}
-use Rattle.sc_sound.specs.Soundness.{IsSound}
-use Rattle.sc_whole_law.specs.StartLaws.{ValidScenariosBeginWell}
-use Rattle.sc_whole_law.specs.Valid.{ValidJournalsAreSound, ValidEntriesAreLogs}
-use Rattle.sc_orderly_law.specs.Timely.{AreInTime}
-use Rattle.sc_calm_law.specs.Charts.{players}
-use Rattle.sc_calm_law.specs.Quiet.{StandsQuiet}
-use Rattle.sc_budget_law.specs.AskingQuiet.{replicas_after}
-use Rattle.sc_budget_law.specs.AtRest.{frame_at_rest}
-use Rattle.sc_budget_law.specs.PlainClient.{IsBegun}
-use Rattle.sc_budget_law.specs.PlainMail.{written_by, IsWrittenValue}
-use Rattle.sc_budget_law.specs.PlainNode.{IsPlainGroup}
-use Rattle.sc_calm_answers_law.specs.Arcs.{FreeGroupsHaveArcs}
-use Rattle.sc_calm_answers_law.specs.KnownFronts.{IsQuietFront, FrontsAreFound, QuietLogsAreExecuted}
-use Rattle.sc_calm_answers_law.specs.Known.{AreAllThere}
-use Rattle.sc_calm_answers_law.specs.Links.{AreAllFree}
-use Rattle.sc_calm_answers_law.specs.Noted.{IssuedAreBegun, FrontsAreNoted}
-use Rattle.sc_calm_answers_law.specs.There.{FrontsAreThere}
+use Rattle.sc_sound.specs.Definitions.{groups_at, history_at, decided_log, decided_state, as_nodes, births, issue_row, IsSound}
+use Rattle.sc_whole_law.specs.Definitions.{ValidScenariosBeginWell, ValidJournalsAreSound, ValidEntriesAreLogs}
+use Rattle.sc_orderly_law.specs.Definitions.{AreInTime}
+use Rattle.sc_calm_law.specs.Definitions.{players, StandsQuiet}
+use Rattle.sc_budget_law.specs.Definitions.{replicas_after, frame_at_rest, IsBegun, written_by, IsWrittenValue, IsPlainGroup}
+use Rattle.sc_calm_answers_law.specs.Definitions.{FreeGroupsHaveArcs, IsQuietFront, FrontsAreFound, QuietLogsAreExecuted, AreAllThere, AreAllFree, IssuedAreBegun, FrontsAreNoted, FrontsAreThere}
 use Rattle.sc_calm_answers_law.proofs.KnownGroups.{front_timely}
 use Rattle.sc_calm_answers_law.proofs.Known.{found}
 use Rattle.sc_calm_answers_law.proofs.LinkFronts.{sources, ready, well, turn}

@@ -1,28 +1,22 @@
 -- The number of a node that plays at a seat, and that its next name is not in use.
 use Rattle.std.proofs.Common.{◌≡◌, ℕ, ◌≤◌, eqb, map, Option, Some, None, inl, inr, refl, sym, ◌∙◌, ap, subst, arith}
-use Rattle.sc_base.specs.Drawing.{next_name}
-use Rattle.sc_base.specs.declared.names.Draw.{Draw}
-use Rattle.sc_actor.specs.declared.actors.Seat.{Seat}
-use Rattle.sc_actor.specs.Replay.{value}
-use Rattle.sc_mail.specs.declared.roles.Role.TheVariants.{Node, Client}
-use Rattle.sc_node_table.specs.Node.{NodeState}
-use Rattle.sc_node_table.specs.Slots.{numbers_from}
-use Rattle.sc_paxos_words.proofs.ListLemmas.{find_found}
-use Rattle.sc_paxos_law.proofs.Among.{Among-either, from_map}
-use Rattle.sc_base.specs.Among.{Among}
-use Rattle.sc_scenario.specs.Valid.{IsValid, ValidScenariosAreBounded}
+use Rattle.sc_base.specs.Definitions.{next_name, Among}
+use Rattle.sc_node_table.specs.Values.{Draw, Seat, Node, Client}
+use Rattle.sc_actor.specs.Definitions.{value}
+use Rattle.sc_node_table.specs.Definitions.{NodeState, numbers_from}
+use Rattle.sc_paxos_words.proofs.Lemmas.{find_found}
+use Rattle.sc_paxos_law.proofs.Lemmas.{Among-either, from_map}
+use Rattle.sc_scenario.specs.Definitions.{IsValid, ValidScenariosAreBounded}
 use Rattle.sc_scenario.specs.declared.scenarios.Scenario.{Scenario}
-use Rattle.sc_sound.specs.Players.{Lawful, Player, as_nodes, births, client_seat, node_seat, player_table, route_of}
-use Rattle.sc_names_law.specs.Laws.{NodesHaveNames, OtherNamesAreFree, TakenOrdersAreAllowed, TakenWishesAreAllowed, WishesAreAtPositions}
-use Rattle.sc_names_law.specs.Owners.{owner_in}
-use Rattle.sc_group_law.proofs.RowSteps.{among_numbers}
-use Rattle.sc_whole_law.specs.StartLaws.{ValidScenariosBeginWell}
-use Rattle.sc_whole_law.proofs.Scheduled.{orders_allowed}
-use Rattle.sc_calm_law.specs.Totals.{Rows}
-use Rattle.sc_calm_logs_law.proofs.Journals.{whole}
-use Rattle.sc_calm_rows_law.specs.Turns.{IsSeat}
-use Rattle.sc_calm_answers_law.specs.New.{IsUnused}
-use Rattle.sc_calm_answers_law.specs.Told.{sources_of}
+use Rattle.sc_sound.specs.Definitions.{Lawful, Player, as_nodes, births, client_seat, node_seat, player_table, route_of}
+use Rattle.sc_names_law.specs.Definitions.{NodesHaveNames, OtherNamesAreFree, TakenOrdersAreAllowed, TakenWishesAreAllowed, WishesAreAtPositions, owner_in}
+use Rattle.sc_group_law.proofs.Lemmas.{among_numbers}
+use Rattle.sc_whole_law.specs.Definitions.{ValidScenariosBeginWell}
+use Rattle.sc_whole_law.proofs.Lemmas.{orders_allowed}
+use Rattle.sc_calm_law.specs.Definitions.{Rows}
+use Rattle.sc_calm_logs_law.proofs.Lemmas.{whole}
+use Rattle.sc_calm_rows_law.specs.Definitions.{IsSeat}
+use Rattle.sc_calm_answers_law.specs.Definitions.{IsUnused, sources_of}
 
 no_client : (client : _) (node : NodeState) → ◌≡◌ {A = Player} (Client client) (Node node) → ⊥
 no_client client node e = cc

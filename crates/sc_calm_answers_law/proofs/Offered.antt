@@ -1,37 +1,22 @@
 -- Nothing is asked for beyond the bound of a group's course, row by row.
 use Rattle.std.proofs.Common.{◌≡◌, ℕ, ◌≤◌, eqb, List, [], ◌∷◌, ◌++◌, drop, Option, Some, None, inl, inr, refl, sym, ◌∙◌, ap, subst, append_assoc, append-nil, arith}
 use Rattle.std.proofs.lemmas.Bool.{cond-true, eq-eqb}
-use Rattle.sc_base.specs.Among.{Among}
-use Rattle.sc_base.specs.Same.{same_draw}
-use Rattle.sc_base.specs.declared.names.Draw.{Draw}
-use Rattle.sc_base.proofs.NameLemmas.{same_name}
-use Rattle.sc_cmd.specs.declared.cores.Base.{Base}
-use Rattle.sc_cmd.specs.declared.orders.OrderLine.{OrderLine}
-use Rattle.sc_mail.specs.declared.bodies.Mail.{Mail}
-use Rattle.sc_mail.specs.declared.bodies.MailBody.{MailBody}
-use Rattle.sc_mail.specs.declared.bodies.MailBody.TheVariants.{Request, Answer, Prepare, Promise, Accept, Accepted, Nack, Learn, Ask, Install, TxPrepare, TxVote, TxOutcome, TxElsewhere, TxWatch, TxWatched, Told}
-use Rattle.sc_actor.specs.declared.actors.Seat.{Seat}
-use Rattle.sc_actor.specs.declared.rows.Event.{Event}
-use Rattle.sc_actor.specs.declared.rows.Row.{Row}
-use Rattle.sc_actor.specs.Mail.{mails}
-use Rattle.sc_actor.proofs.ReplayLemmas.{mails-snoc}
-use Rattle.sc_orderly_law.specs.Orderly.{rest, taken, mail_for}
-use Rattle.sc_orderly_law.specs.Timely.{AreInTime}
-use Rattle.sc_orderly_law.proofs.InTime.{by_time, in_time_before, in_time_tidy, last_in_time}
-use Rattle.sc_orderly_law.proofs.Resting.{rest-calm}
-use Rattle.sc_paxos_law.proofs.Among.{Among-left, Among-right}
-use Rattle.sc_paxos_words.proofs.ListLemmas.{Among-filter, Each-among, Each-append, Each-from, Each-weaker}
-use Rattle.sc_node_table.specs.Replica.{listed}
-use Rattle.sc_sound.specs.Players.{Player}
-use Rattle.sc_calm_law.specs.Charts.{players}
-use Rattle.sc_calm_law.specs.Totals.{Rows}
-use Rattle.sc_following_law.specs.Following.{Mark, Asks, mark_of, marks_of, IsKnown, Course, Sets}
-use Rattle.sc_following_law.specs.Hints.{Tellers}
-use Rattle.sc_calm_groups_law.specs.Kinds.{IsGroupRow, RowPasses, RowRests, RowTakes, RowMakes, RowLeads, RowElects}
-use Rattle.sc_calm_groups_law.specs.Led.{Ends, IsWellLed}
-use Rattle.sc_calm_groups_law.specs.Taught.{RowsKeepTaught}
-use Rattle.sc_calm_groups_law.specs.Through.{AreWellBorn, HasOneLog, IsSentSo, EventsGoOn}
-use Rattle.sc_calm_answers_law.specs.Offered.{AsksBelow, AreAskedBelow, IsAskedOn, GroupsAreAskedThrough}
+use Rattle.sc_base.specs.Definitions.{Among, same_draw}
+use Rattle.sc_node_table.specs.Values.{Draw, Base, OrderLine, Mail, MailBody, Request, Answer, Prepare, Promise, Accept, Accepted, Nack, Learn, Ask, Install, TxPrepare, TxVote, TxOutcome, TxElsewhere, TxWatch, TxWatched, Told, Seat, Event, Row}
+use Rattle.sc_base.proofs.Lemmas.{same_name}
+use Rattle.sc_actor.specs.Definitions.{mails}
+use Rattle.sc_actor.proofs.Lemmas.{mails-snoc}
+use Rattle.sc_orderly_law.specs.Definitions.{rest, taken, mail_for, AreInTime}
+use Rattle.sc_orderly_law.proofs.Lemmas.{by_time, in_time_before, in_time_tidy, last_in_time, rest-calm}
+use Rattle.sc_paxos_law.proofs.Lemmas.{Among-left, Among-right}
+use Rattle.sc_paxos_words.proofs.Lemmas.{Among-filter, Each-among, Each-append, Each-from, Each-weaker}
+use Rattle.sc_node_table.specs.Definitions.{listed}
+use Rattle.sc_sound.specs.Definitions.{Player}
+use Rattle.sc_calm_law.specs.Definitions.{players, Rows}
+use Rattle.sc_following_law.specs.Definitions.{Mark, Asks, mark_of, marks_of, IsKnown, Course, Sets, Tellers}
+use Rattle.sc_calm_groups_law.specs.Definitions.{IsGroupRow, RowPasses, RowRests, RowTakes, RowMakes, RowLeads, RowElects, Ends, IsWellLed, RowsKeepTaught, AreWellBorn, HasOneLog, IsSentSo, EventsGoOn}
+use Rattle.sc_calm_answers_law.specs.Definitions.{AsksBelow, AreAskedBelow, GroupsAreAskedThrough}
+use Rattle.sc_calm_answers_law.specs.Offered.{IsAskedOn}
 
 -- a mail's mark is among those of the mails
 mark_among : (name : Draw) (sent : List Mail) (mail : Mail) (mark : Mark) → Among mail sent → mark_of name mail.from mail.body ≡ Some mark → Among mark (marks_of name sent)

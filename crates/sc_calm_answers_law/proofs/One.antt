@@ -1,37 +1,17 @@
 -- A group's log is one, where it has leaders.
 use Rattle.std.proofs.Common.{◌≡◌, ℕ, ◌+◌, ◌≤◌, ◌⊎◌, true, List, [], ◌∷◌, ◌++◌, Some, None, inl, inr, ◌∙◌, ap, arith, append_assoc}
-use Rattle.sc_base.specs.declared.names.Ballot.{Ballot}
-use Rattle.sc_base.specs.declared.names.Draw.{Draw}
-use Rattle.sc_cmd.specs.declared.commands.Command.{Command}
-use Rattle.sc_cmd.specs.declared.cores.Base.{Base}
-use Rattle.sc_cmd.specs.declared.orders.OrderLine.{OrderLine}
-use Rattle.sc_mail.specs.declared.bodies.Mail.{Mail}
-use Rattle.sc_mail.specs.declared.bodies.MailBody.TheVariants.{Accepted, Learn, Install}
-use Rattle.sc_mail.specs.declared.roles.Role.TheVariants.{Node}
-use Rattle.sc_base.specs.Roster.{is_member}
-use Rattle.sc_actor.specs.declared.actors.Seat.{Seat}
-use Rattle.sc_actor.specs.declared.rows.Event.{Event}
-use Rattle.sc_actor.specs.declared.rows.Event.TheVariants.{Deliver}
-use Rattle.sc_actor.specs.Replay.{value}
-use Rattle.sc_actor.specs.System.{row_of}
+use Rattle.sc_node_table.specs.Values.{Ballot, Draw, Command, Base, OrderLine, Mail, Accepted, Learn, Install, Node, Seat, Event, Deliver}
+use Rattle.sc_base.specs.Definitions.{is_member}
+use Rattle.sc_actor.specs.Definitions.{value, row_of}
 use Rattle.sc_scenario.specs.declared.scenarios.Scenario.{Scenario}
-use Rattle.sc_node_table.specs.Execute.{entered}
-use Rattle.sc_node_table.specs.Node.{NodeState, replica_of, group_of_mail}
-use Rattle.sc_node_table.specs.Replica.{ReplicaState, next, last_slot}
-use Rattle.sc_node_table.specs.Rows.{mailed}
-use Rattle.sc_sound.specs.Players.{Ahead, Player, births, player_table}
-use Rattle.sc_log_law.specs.Descent.{Rows}
-use Rattle.sc_following_law.specs.Following.{Sets, members_at}
-use Rattle.sc_following_law.specs.Hints.{Tellers}
-use Rattle.sc_following_law.specs.Leading.{DecidesNext}
-use Rattle.sc_calm_rows_law.specs.Groups.{view_at}
-use Rattle.sc_calm_rows_law.specs.Turns.{IsSeat, made_children, AreAsBegun}
-use Rattle.sc_calm_logs_law.specs.Logged.{logged_sets, IsGroupOf, HasReplica, SlotsHaveRosters, ViewsAreReplicas, ReplicasAreLogged, CommandsComeNext, StatesAreLogged}
-use Rattle.sc_calm_logs_law.specs.Nodes.{MembersAreNodes}
-use Rattle.sc_calm_groups_law.specs.Led.{Ends}
-use Rattle.sc_calm_groups_law.specs.Logged.{IsOfLog, RestsBy, IsLogsState, IsLogOf}
-use Rattle.sc_calm_groups_law.specs.Through.{IsRowOf, Delivers}
-use Rattle.sc_calm_answers_law.specs.Led.{over_at, GroupsBeginStanding, EndsAreLogged, ChildrenAreBegun, MembersMoveOneWay, HasLeaders, LedLogsAreOne}
+use Rattle.sc_node_table.specs.Definitions.{entered, NodeState, replica_of, group_of_mail, ReplicaState, next, last_slot, mailed}
+use Rattle.sc_sound.specs.Definitions.{Ahead, Player, births, player_table}
+use Rattle.sc_log_law.specs.Definitions.{Rows}
+use Rattle.sc_following_law.specs.Definitions.{Sets, members_at, Tellers, DecidesNext}
+use Rattle.sc_calm_rows_law.specs.Definitions.{view_at, IsSeat, made_children, AreAsBegun}
+use Rattle.sc_calm_logs_law.specs.Definitions.{logged_sets, IsGroupOf, HasReplica, SlotsHaveRosters, ViewsAreReplicas, ReplicasAreLogged, CommandsComeNext, StatesAreLogged, MembersAreNodes}
+use Rattle.sc_calm_groups_law.specs.Definitions.{Ends, IsOfLog, RestsBy, IsLogsState, IsLogOf, IsRowOf, Delivers}
+use Rattle.sc_calm_answers_law.specs.Definitions.{over_at, GroupsBeginStanding, EndsAreLogged, ChildrenAreBegun, MembersMoveOneWay, HasLeaders, LedLogsAreOne}
 
 module _ (rosters : SlotsHaveRosters) (views : ViewsAreReplicas) (logged : ReplicasAreLogged) (commands : CommandsComeNext) (states : StatesAreLogged) (nodes : MembersAreNodes) (begin : GroupsBeginStanding) (ends : EndsAreLogged) (children : ChildrenAreBegun) (moves : MembersMoveOneWay) where
   module _ (ahead : Ahead) (words : ℕ → ℕ → ℕ × ℕ) (by : Tellers) (scenario : Scenario) (journal front rest : Rows) (base : Base) (group : IsGroupOf ahead words scenario journal base) (split : journal ≡ front ++ rest) (has : HasLeaders ahead by scenario journal front base) where

@@ -1,38 +1,24 @@
 -- Replicas of one group that executed as much are in one state, in each lawful journal.
 use Rattle.std.proofs.Common.{◌≡◌, ℕ, ◌≤◌, [], take, Some, None, refl, sym, ◌∙◌, ap, subst, arith, append-nil}
 use Rattle.std.proofs.lemmas.Bool.{cond_both}
-use Rattle.sc_base.specs.Among.{Among}
-use Rattle.sc_base.specs.Same.{same_draw}
-use Rattle.sc_base.specs.declared.names.Draw.{Draw}
-use Rattle.sc_base.proofs.NameLemmas.{draw_is}
-use Rattle.sc_cmd.specs.declared.cores.Base.{Base}
-use Rattle.sc_mail.specs.declared.roles.Role.TheVariants.{Node, Client}
-use Rattle.sc_actor.specs.Replay.{value}
-use Rattle.sc_paxos_words.proofs.ListLemmas.{find_found}
-use Rattle.sc_machine_table.specs.Group.{group_of}
-use Rattle.sc_node_table.specs.Node.{replica_of, is_node}
-use Rattle.sc_node_table.specs.Replica.{ReplicaState, name_of, next}
+use Rattle.sc_base.specs.Definitions.{Among, same_draw}
+use Rattle.sc_node_table.specs.Values.{Draw, Base, Node, Client}
+use Rattle.sc_base.proofs.Lemmas.{draw_is}
+use Rattle.sc_actor.specs.Definitions.{value}
+use Rattle.sc_paxos_words.proofs.Lemmas.{find_found}
+use Rattle.sc_machine_table.specs.Definitions.{group_of, state_after}
+use Rattle.sc_node_table.specs.Definitions.{replica_of, is_node, ReplicaState, name_of, next}
 use Rattle.sc_scenario.specs.declared.scenarios.Scenario.{Scenario}
-use Rattle.sc_scenario.specs.Valid.{ValidScenariosAreBounded}
-use Rattle.sc_sound.specs.GroupsOf.{groups_at}
-use Rattle.sc_sound.specs.Logs.{decided_log}
-use Rattle.sc_machine_table.specs.Logs.{state_after}
-use Rattle.sc_sound.specs.Players.{Player, player_table, node_seat, route_of, as_nodes}
-use Rattle.sc_sound.specs.Soundness.{HasRun, AllHaveRun}
-use Rattle.sc_names_law.specs.Laws.{OtherNamesAreFree, TakenOrdersAreAllowed, TakenWishesAreAllowed, WishesAreAtPositions}
-use Rattle.sc_names_law.specs.Owners.{owner_in}
-use Rattle.sc_log_law.specs.Laws.{GroupsAreFound}
-use Rattle.sc_whole_law.specs.Begins.{section_op}
-use Rattle.sc_whole_law.specs.StartLaws.{ValidScenariosBeginWell}
-use Rattle.sc_whole_law.specs.Laws.{LawfulJournalsDecideInTurn}
-use Rattle.sc_whole_law.specs.Valid.{ValidJournalsAreSound}
-use Rattle.sc_whole_law.proofs.Scheduled.{orders_allowed}
-use Rattle.sc_calm_law.specs.Quiet.{HasReplica}
-use Rattle.sc_budget_law.specs.AskingQuiet.{replicas_after}
-use Rattle.sc_budget_law.specs.BetweenJournal.{replica_at, replicas_of}
-use Rattle.sc_budget_law.proofs.BetweenViews.{Journal}
-use Rattle.sc_calm_answers_law.specs.OneLog.{LawfulJournalsHaveOneLog}
-use Rattle.sc_calm_answers_law.specs.QuietLines.{HaveOneLog}
+use Rattle.sc_scenario.specs.Definitions.{ValidScenariosAreBounded}
+use Rattle.sc_sound.specs.Definitions.{groups_at, decided_log, Player, player_table, node_seat, route_of, as_nodes, HasRun, AllHaveRun}
+use Rattle.sc_names_law.specs.Definitions.{OtherNamesAreFree, TakenOrdersAreAllowed, TakenWishesAreAllowed, WishesAreAtPositions, owner_in}
+use Rattle.sc_log_law.specs.Definitions.{GroupsAreFound}
+use Rattle.sc_whole_law.specs.Definitions.{section_op, ValidScenariosBeginWell, LawfulJournalsDecideInTurn, ValidJournalsAreSound}
+use Rattle.sc_whole_law.proofs.Lemmas.{orders_allowed}
+use Rattle.sc_calm_law.specs.Definitions.{HasReplica}
+use Rattle.sc_budget_law.specs.Definitions.{replicas_after, replica_at, replicas_of}
+use Rattle.sc_budget_law.proofs.Lemmas.{Journal}
+use Rattle.sc_calm_answers_law.specs.Definitions.{LawfulJournalsHaveOneLog, HaveOneLog}
 
 module _ (scenario : Scenario) (rows : Journal) (apart : (one other : Base) → Among one (groups_at as_nodes scenario.groups rows) → Among other (groups_at as_nodes scenario.groups rows) → one.core.id ≡ other.core.id → one ≡ other)
     (all : AllHaveRun as_nodes scenario rows) (seated : (group : Draw) (node : ℕ) → HasReplica (replicas_after scenario rows) group node → (1 ≤ node) × (node ≤ scenario.nodes)) where

@@ -1,27 +1,11 @@
 -- What the entries of an order make of a group: by one that begins a transaction it asks its successor, by one that hears it asks the participant's, and by a Yes it is bound as it was.
 use Rattle.std.proofs.Common.{◌≡◌, ℕ, Bool, true, false, Option, Some, None, refl, sym, ◌∙◌, ap, subst}
-use Rattle.sc_base.specs.declared.names.Draw.{Draw}
-use Rattle.sc_cmd.specs.declared.bodies.Body.{Body}
+use Rattle.sc_node_table.specs.Values.{Draw, Body, Offer, Watch, Command, Noop, Call, Join, Leave, Split, Begin, Prepared, RecordVote, GiveUp, Finish, Watched, RecordWatch, Core, Free, Coordinating, Promised, Watching, Effect, OrderRefusal, Heard, No}
 use Rattle.sc_cmd.specs.declared.bodies.Body.TheVariants as At
-use Rattle.sc_cmd.specs.declared.bodies.Offer.{Offer}
-use Rattle.sc_cmd.specs.declared.bodies.Watch.{Watch}
-use Rattle.sc_cmd.specs.declared.commands.Command.{Command}
-use Rattle.sc_cmd.specs.declared.commands.Command.TheVariants.{Noop, Call, Join, Leave, Split, Begin, Prepared, RecordVote, GiveUp, Finish, Watched, RecordWatch}
-use Rattle.sc_cmd.specs.declared.cores.Core.{Core}
-use Rattle.sc_cmd.specs.declared.cores.Lock.TheVariants.{Free, Coordinating, Promised, Watching}
-use Rattle.sc_cmd.specs.declared.effects.Effect.{Effect}
-use Rattle.sc_cmd.specs.declared.orders.OrderRefusal.{OrderRefusal}
-use Rattle.sc_cmd.specs.declared.votes.Heard.{Heard}
-use Rattle.sc_cmd.specs.declared.votes.No.{No}
-use Rattle.sc_machine_table.specs.Group.{Group}
-use Rattle.sc_machine_table.specs.Machine.{applied}
-use Rattle.sc_machine_table.specs.Orders.{begin_refused, refusal_of, refused_in, split_refused, locked_in}
-use Rattle.sc_machine_table.specs.Transactions.{begun_group, decided_group, heard_group}
-use Rattle.sc_machine_table.specs.Votes.{vote_of, watch_vote_of}
-use Rattle.sc_whole_law.proofs.Coming.{EndsIt, comes, voting_group}
-use Rattle.sc_calm_orders_law.specs.Parts.{bond_in, bond_of, turn_of, work_by}
-use Rattle.sc_calm_orders_law.specs.Scenes.{Bond, Unbound, Asking, Bound, Turn, First, Lone, Next, Opens, Answers, Records}
-use Rattle.sc_calm_answers_law.specs.Deeds.{BeginsSo}
+use Rattle.sc_machine_table.specs.Definitions.{Group, applied, begin_refused, refusal_of, refused_in, split_refused, locked_in, begun_group, decided_group, heard_group, vote_of, watch_vote_of}
+use Rattle.sc_whole_law.proofs.Lemmas.{EndsIt, comes, voting_group}
+use Rattle.sc_calm_orders_law.specs.Definitions.{bond_in, bond_of, turn_of, work_by, Bond, Unbound, Asking, Bound, Turn, First, Lone, Next, Opens, Answers, Records}
+use Rattle.sc_calm_answers_law.specs.Definitions.{BeginsSo}
 
 -- why a transaction of this body is refused, if it is
 abbrev pub opening_refused : Core → Body → Option OrderRefusal

@@ -1,39 +1,20 @@
 -- An order that is told in quiet becomes the one command that stands at its group.
 use Rattle.std.proofs.Common.{◌≡◌, ℕ, ◌+◌, ◌≤◌, ◌||◌, not, nat_le, eqb, Bool, true, false, cond, List, [], ◌∷◌, ◌++◌, length, Option, Some, None, refl, sym, ◌∙◌, ap, subst}
 use Rattle.std.specs.Prelude.{is_some}
-use Rattle.std.specs.Option.{option_map}
 use Rattle.std.specs.List.{list_any}
 use Rattle.std.proofs.lemmas.Bool.{le-leb, and_from, and_parts}
-use Rattle.sc_base.specs.Among.{Each}
-use Rattle.sc_base.specs.Drawing.{Drawer, next_name}
-use Rattle.sc_base.specs.declared.names.Draw.{Draw}
-use Rattle.sc_cmd.specs.declared.commands.Command.{Command}
-use Rattle.sc_cmd.specs.declared.cores.Core.{Core}
-use Rattle.sc_cmd.specs.declared.cores.Lock.TheVariants.{Free}
-use Rattle.sc_cmd.specs.declared.orders.Order.{Order}
+use Rattle.sc_base.specs.Definitions.{Each, Drawer, next_name}
+use Rattle.sc_node_table.specs.Values.{Draw, Command, Core, Free, Order, OrderLine, OrderRefusal, Refused, AnswerBody, Mail, Told, Must}
 use Rattle.sc_cmd.specs.declared.orders.Order.TheVariants as An
-use Rattle.sc_cmd.specs.declared.orders.OrderLine.{OrderLine}
-use Rattle.sc_cmd.specs.declared.orders.OrderRefusal.{OrderRefusal}
 use Rattle.sc_cmd.specs.declared.orders.OrderRefusal.TheVariants.{NotLeader}
-use Rattle.sc_cmd.specs.declared.orders.ToldResult.TheVariants.{Refused}
-use Rattle.sc_mail.specs.declared.bodies.AnswerBody.{AnswerBody}
-use Rattle.sc_mail.specs.declared.bodies.Mail.{Mail}
-use Rattle.sc_mail.specs.declared.bodies.MailBody.TheVariants.{Told}
-use Rattle.sc_paxos_words.specs.declared.answers.Must.{Must}
-use Rattle.sc_paxos_words.specs.declared.flights.Flight.{Flight}
-use Rattle.sc_paxos_words.specs.Leaders.{flight_at}
-use Rattle.sc_node_table.specs.Mails.{answered}
-use Rattle.sc_node_table.specs.Node.{group_of_order}
-use Rattle.sc_node_table.specs.Ordering.{ordered_command, untaken, taken_or_told, ordered_row}
-use Rattle.sc_node_table.specs.Pump.{Found, is_act, waits, turned_down, next_call, from_calls, from_acts, from_queues, found_by, found_for, offered, pumped_from, pumped}
-use Rattle.sc_node_table.specs.Replica.{ReplicaState, Place, name_of, next, settled, may_offer, first_set, either, listed, taken_at, taken_from, under_way, is_idle, open_slots, last_slot}
-use Rattle.sc_node_table.specs.Slots.{slots_ahead, at_slot}
-use Rattle.sc_calm_law.specs.Quiet.{IsAtRest}
-use Rattle.sc_calm_answers_law.specs.Tasks.{is_split}
+use Rattle.sc_node_table.specs.Definitions.{answered, group_of_order, ordered_command, untaken, taken_or_told, ordered_row, Found, is_act, waits, turned_down, next_call, from_calls, from_acts, from_queues, found_by, found_for, offered, pumped_from, pumped, ReplicaState, Place, name_of, next, settled, may_offer, first_set, taken_at, under_way, is_idle, open_slots, last_slot, slots_ahead}
+use Rattle.sc_calm_law.specs.Definitions.{IsAtRest}
+use Rattle.sc_calm_answers_law.specs.Definitions.{is_split}
 use Rattle.sc_calm_answers_law.proofs.Affairs.{Affair, BeginsFree}
 use Rattle.sc_calm_answers_law.proofs.WorkSaying.{one_sent}
 use Rattle.sc_calm_answers_law.proofs.Places.{Held, Fine, must_open, slot_offered, from_pumps}
 use Rattle.sc_calm_answers_law.proofs.Tasks.{affair_by, begins_free}
+use Rattle.sc_pump_law.proofs.Lemmas.{none_at as free_at, none_from as none_taken}
 
 -- its command stands at its group
 pub order_does : (name : Draw) (number : ℕ) (order : Order) → (affair_by (is_split order) (group_of_order order) name).Does (group_of_order order) (ordered_command name number order)
@@ -58,16 +39,6 @@ settled_by : (gone offer : Bool) (why : OrderRefusal) (other : Option OrderRefus
 settled_by gone true why other e = refl
 settled_by true false why other e = cc
 settled_by false false why other e = cc
-
--- where nothing is in flight or ready, nothing is at a slot
-free_at : (r : ReplicaState) (slot : ℕ) → r.leader.flights ≡ [] → r.ready ≡ [] → taken_at r slot ≡ None
-free_at r slot flights ready =
-    ap (λ (fs : List (Flight Command)). either (option_map (λ (flight : Flight Command). flight.value) (flight_at slot fs)) (at_slot r.ready slot)) flights
-    ∙ ap (λ (es : List (ℕ × Command)). at_slot es slot) ready
-
-none_taken : (r : ReplicaState) (slots : List ℕ) → r.leader.flights ≡ [] → r.ready ≡ [] → taken_from r slots ≡ []
-none_taken r [] flights ready = refl
-none_taken r (slot ∷ slots) flights ready = ap (λ (o : Option Command). listed o ++ taken_from r slots) (free_at r slot flights ready) ∙ none_taken r slots flights ready
 
 -- the first of what waits is found, if it waits for nothing and is not turned down
 one_found : (me : ℕ) (idle : Bool) (core : Core) (command : Command) (mails : List Mail) (N : Option Command × List Command × List Mail → Type 0) → waits idle core.lock command ≡ false → turned_down core command ≡ None → N (Some command, [], mails)

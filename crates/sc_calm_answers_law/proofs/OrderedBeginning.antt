@@ -1,69 +1,25 @@
 -- An order that is told in a quiet front begins all that holds while it is under way.
 use Rattle.std.proofs.Common.{◌≡◌, ◌≤◌, ℕ, true, false, List, [], ◌∷◌, Some, inl, inr, refl, sym, ◌∙◌, ap, arith}
 use Rattle.std.proofs.lemmas.Bool.{cases_Bool}
-use Rattle.sc_base.specs.Among.{Among, Each}
-use Rattle.sc_base.specs.declared.names.Draw.{Draw}
-use Rattle.sc_cmd.specs.declared.cores.Base.{Base}
-use Rattle.sc_cmd.specs.declared.orders.OrderLine.{OrderLine}
-use Rattle.sc_mail.specs.declared.bodies.Mail.{Mail}
-use Rattle.sc_actor.specs.declared.actors.Seat.{Seat}
+use Rattle.sc_base.specs.Definitions.{Among, Each}
+use Rattle.sc_node_table.specs.Values.{Draw, Base, OrderLine, Mail, Seat, Row}
 use Rattle.sc_actor.specs.declared.rows.Event.TheVariants.{Told}
-use Rattle.sc_actor.specs.declared.rows.Row.{Row}
-use Rattle.sc_actor.specs.System.{System, row_of}
-use Rattle.sc_orderly_law.specs.Orderly.{is_born, is_told}
-use Rattle.sc_orderly_law.proofs.Paying.{count_push}
-use Rattle.sc_orderly_law.specs.Timely.{AreInTime}
-use Rattle.sc_orderly_law.proofs.InTime.{in_time_before, in_time_tidy}
-use Rattle.sc_orderly_law.proofs.Resting.{quiet-empty}
-use Rattle.sc_scenario.specs.Valid.{ValidScenariosAreBounded}
+use Rattle.sc_actor.specs.Definitions.{System, row_of, mails}
+use Rattle.sc_orderly_law.specs.Definitions.{is_born, is_told, AreInTime}
+use Rattle.sc_orderly_law.proofs.Lemmas.{count_push, in_time_before, in_time_tidy, quiet-empty}
+use Rattle.sc_scenario.specs.Definitions.{ValidScenariosAreBounded}
 use Rattle.sc_scenario.specs.declared.scenarios.Scenario.{Scenario}
-use Rattle.sc_node_table.specs.Replica.{ReplicaState, next, last_slot}
-use Rattle.sc_sound.specs.GroupsOf.{groups_at}
-use Rattle.sc_sound.specs.Players.{Player, player_table, births, as_nodes}
-use Rattle.sc_following_law.specs.Following.{marks_of}
-use Rattle.sc_calm_law.specs.Charts.{players}
-use Rattle.sc_calm_law.specs.Keeping.{FindsCalm}
-use Rattle.sc_calm_law.specs.Quiet.{IsAtRest}
-use Rattle.sc_calm_law.specs.Totals.{Rows}
-use Rattle.sc_calm_orders_law.specs.Stages.{Stage, Still}
-use Rattle.sc_calm_rows_law.specs.Groups.{view_at, marks_at}
-use Rattle.sc_calm_rows_law.specs.Turns.{IsSeat, with_event}
-use Rattle.sc_calm_mail_law.specs.Few.{SlotsAreLeft}
-use Rattle.sc_calm_logs_law.specs.Logged.{IsGroupOf, ViewsAreReplicas, SlotsHaveRosters}
-use Rattle.sc_calm_answers_law.specs.States.{ReplicasRunLogs}
-use Rattle.sc_calm_scenes_law.specs.Fresh.{IsThere, IsNowhere, AreUntouched, IsToldInQuiet, FreshGroupsStay}
-use Rattle.sc_calm_scenes_law.specs.Found.{FindsOrder, FoundOrdersStep}
-use Rattle.sc_calm_scenes_law.specs.Kept.{StageAfter}
-use Rattle.sc_calm_answers_law.specs.Guided.{IsNamedGuide, IsReachedSo, NewestStay}
-use Rattle.sc_calm_answers_law.specs.FoundRows.{IsOrdersRow, OrdersRowsFind}
-use Rattle.sc_calm_answers_law.specs.SentJournals.{IsQuietWhileYoung, IsSentStep, NextRowsAreSent, SentReplicas}
-use Rattle.sc_calm_charts_law.specs.Charting.{chart_at}
-use Rattle.sc_calm_logs_law.specs.Logged.{logged_sets}
-use Rattle.sc_calm_answers_law.specs.Led.{over_at}
-use Rattle.sc_calm_answers_law.specs.Tellers.{tellers_at}
-use Rattle.sc_calm_answers_law.specs.Hinting.{NextRowsRise}
-use Rattle.sc_calm_answers_law.specs.RiseRising.{IsRisingOn}
-use Rattle.sc_calm_answers_law.specs.RiseRounds.{IsRoundSince, OrdersKeepRounds}
-use Rattle.sc_calm_answers_law.specs.KnownFronts.{FrontsAreFound, IsFoundFront}
-use Rattle.sc_calm_answers_law.specs.Strangers.{NoMailForStrangers}
-use Rattle.sc_actor.specs.Mail.{mails}
-use Rattle.sc_calm_answers_law.specs.Homeward.{GoesHome, OrderedErrandsGoHome, HomewardGoesToActors}
-use Rattle.sc_calm_answers_law.specs.Journal.{IsCalmJournal, IsFront, AreSent, IsNamedGroup}
-use Rattle.sc_calm_answers_law.specs.Resting.{RestsAt}
-use Rattle.sc_calm_answers_law.specs.JournalUnder.{IsUnder, IsYoungAt}
-use Rattle.sc_calm_answers_law.specs.KeptTelling.{ToldOrdersFindCalm}
-use Rattle.sc_calm_answers_law.specs.Viewing.{ViewsAgree}
-use Rattle.sc_calm_answers_law.specs.Borne.{ChildrenAreBorne}
-use Rattle.sc_calm_answers_law.specs.Young.{YoungGroupsStay}
-use Rattle.sc_calm_answers_law.specs.TrueBeginning.{TrueOrdersBegin}
-use Rattle.sc_calm_answers_law.specs.Goers.{GoersBegin}
-use Rattle.sc_calm_answers_law.specs.Near.{NamesStayFew}
-use Rattle.sc_calm_answers_law.specs.NoneWaits.{NoneWaits}
-use Rattle.sc_calm_answers_law.specs.TrueHinted.{IsHinted, HintedOrdersBegin}
-use Rattle.sc_calm_answers_law.specs.Settled.{SettledOrdersBegin}
-use Rattle.sc_calm_answers_law.specs.TrueUnder.{AreSeen}
-use Rattle.sc_calm_answers_law.specs.Works.{OrdersBeginWork, WorkStandsAlone}
-use Rattle.sc_calm_answers_law.specs.Ordered.{IsOrderedSince, OrdersBeginOrdered}
+use Rattle.sc_node_table.specs.Definitions.{ReplicaState, next, last_slot}
+use Rattle.sc_sound.specs.Definitions.{groups_at, Player, player_table, births, as_nodes}
+use Rattle.sc_following_law.specs.Definitions.{marks_of}
+use Rattle.sc_calm_law.specs.Definitions.{players, FindsCalm, IsAtRest, Rows}
+use Rattle.sc_calm_orders_law.specs.Definitions.{Stage, Still}
+use Rattle.sc_calm_rows_law.specs.Definitions.{view_at, marks_at, IsSeat, with_event}
+use Rattle.sc_calm_mail_law.specs.Definitions.{SlotsAreLeft}
+use Rattle.sc_calm_logs_law.specs.Definitions.{IsGroupOf, ViewsAreReplicas, SlotsHaveRosters, logged_sets}
+use Rattle.sc_calm_answers_law.specs.Definitions.{ReplicasRunLogs, IsNamedGuide, IsReachedSo, NewestStay, IsOrdersRow, OrdersRowsFind, IsQuietWhileYoung, IsSentStep, NextRowsAreSent, SentReplicas, over_at, tellers_at, NextRowsRise, IsRisingOn, IsRoundSince, OrdersKeepRounds, FrontsAreFound, IsFoundFront, NoMailForStrangers, GoesHome, OrderedErrandsGoHome, HomewardGoesToActors, IsCalmJournal, IsFront, AreSent, IsNamedGroup, RestsAt, IsUnder, IsYoungAt, ToldOrdersFindCalm, ViewsAgree, ChildrenAreBorne, YoungGroupsStay, TrueOrdersBegin, GoersBegin, NamesStayFew, NoneWaits, IsHinted, HintedOrdersBegin, SettledOrdersBegin, AreSeen, OrdersBeginWork, WorkStandsAlone, IsOrderedSince, OrdersBeginOrdered}
+use Rattle.sc_calm_scenes_law.specs.Definitions.{IsThere, IsNowhere, AreUntouched, IsToldInQuiet, FreshGroupsStay, FindsOrder, FoundOrdersStep, StageAfter}
+use Rattle.sc_calm_charts_law.specs.Definitions.{chart_at}
 use Rattle.sc_calm_answers_law.proofs.OrderedKnown as at_row
 use Rattle.sc_calm_answers_law.proofs.OrderedKnown.{named_there, reached_even}
 use Rattle.sc_calm_answers_law.proofs.Clients.{gone_still, told_stays}

@@ -1,99 +1,34 @@
 -- Each delivery while an order is under way keeps all that holds then, and finds what keeps the journal calm.
 use Rattle.std.proofs.Common.{◌≡◌, ◌⊎◌, ◌≤◌, ℕ, true, false, length, List, [], ◌∷◌, ◌++◌, Option, Some, None, inl, inr, refl, sym, ◌∙◌, ap, subst, arith, append_assoc}
-use Rattle.sc_base.specs.Among.{Among, Each}
-use Rattle.sc_base.specs.declared.names.Draw.{Draw}
-use Rattle.sc_cmd.specs.declared.commands.Command.{Command}
-use Rattle.sc_cmd.specs.declared.cores.Base.{Base}
-use Rattle.sc_cmd.specs.declared.orders.OrderLine.{OrderLine}
-use Rattle.sc_mail.specs.declared.bodies.Mail.{Mail}
-use Rattle.sc_mail.specs.declared.bodies.MailBody.{MailBody}
-use Rattle.sc_mail.specs.declared.bodies.MailBody.TheVariants.{Request, Answer, Prepare, Promise, Accept, Accepted, Nack, Learn, Ask, Install, TxPrepare, TxVote, TxOutcome, TxElsewhere, TxWatch, TxWatched, Told}
-use Rattle.sc_mail.specs.declared.roles.Role.TheVariants.{Node, Client}
-use Rattle.sc_actor.specs.declared.actors.Seat.{Seat}
-use Rattle.sc_actor.specs.declared.rows.Event.TheVariants.{Deliver}
-use Rattle.sc_actor.specs.declared.rows.Row.{Row}
-use Rattle.sc_actor.specs.Mail.{mails, numbered}
-use Rattle.sc_actor.specs.Replay.{value}
-use Rattle.sc_actor.specs.System.{System, row_of}
-use Rattle.sc_orderly_law.specs.Orderly.{is_told}
-use Rattle.sc_orderly_law.proofs.Paying.{count_push}
-use Rattle.sc_orderly_law.proofs.Resting.{is_born-from}
-use Rattle.sc_scenario.specs.Valid.{ValidScenariosAreBounded}
+use Rattle.sc_base.specs.Definitions.{Among, Each}
+use Rattle.sc_node_table.specs.Values.{Draw, Command, Base, OrderLine, Mail, MailBody, Request, Answer, Prepare, Promise, Accept, Accepted, Nack, Learn, Ask, Install, TxPrepare, TxVote, TxOutcome, TxElsewhere, TxWatch, TxWatched, Told, Node, Client, Seat, Deliver, Row, Flight, Op}
+use Rattle.sc_actor.specs.Definitions.{mails, numbered, value, System, row_of}
+use Rattle.sc_orderly_law.specs.Definitions.{is_told, AreInTime}
+use Rattle.sc_orderly_law.proofs.Lemmas.{count_push, is_born-from}
+use Rattle.sc_scenario.specs.Definitions.{ValidScenariosAreBounded}
 use Rattle.sc_scenario.specs.declared.scenarios.Scenario.{Scenario}
-use Rattle.sc_machine_table.specs.Machine.{applied}
-use Rattle.sc_paxos_words.specs.declared.flights.Flight.{Flight}
-use Rattle.sc_node_table.specs.Node.{NodeState, replica_of, group_of_mail, may_come}
-use Rattle.sc_node_table.specs.Replica.{ReplicaState, name_of}
-use Rattle.sc_sound.specs.GroupsOf.{groups_at}
-use Rattle.sc_sound.specs.Players.{Player, player_table, births, as_nodes}
-use Rattle.sc_calm_law.specs.Charts.{players}
-use Rattle.sc_calm_law.specs.Keeping.{FindsCalm}
-use Rattle.sc_calm_law.specs.Totals.{Rows}
-use Rattle.sc_paxos_words.proofs.ListLemmas.{Each-from}
-use Rattle.sc_calm_orders_law.specs.Stages.{Stage}
-use Rattle.sc_calm_rows_law.specs.Groups.{view_at}
-use Rattle.sc_calm_rows_law.specs.Turns.{with_event}
-use Rattle.sc_calm_rows_law.proofs.Viewing.{view_was}
-use Rattle.sc_calm_mail_law.specs.Few.{SlotsAreLeft}
-use Rattle.sc_calm_mail_law.specs.Lasting.{ReplicasLast}
-use Rattle.sc_calm_logs_law.specs.Logged.{ViewsAreReplicas, SlotsHaveRosters}
-use Rattle.sc_calm_answers_law.specs.States.{ReplicasRunLogs}
-use Rattle.sc_calm_scenes_law.specs.Fresh.{IsThere, IsNowhere, AreUntouched, IsDelivered, FreshGroupsStay}
-use Rattle.sc_calm_scenes_law.specs.Found.{FindsOrder}
-use Rattle.sc_calm_scenes_law.specs.Kept.{GoesBy, StageAfter}
-use Rattle.sc_calm_scenes_law.specs.Taken.{IsTaking}
+use Rattle.sc_machine_table.specs.Definitions.{applied}
+use Rattle.sc_node_table.specs.Definitions.{NodeState, replica_of, group_of_mail, may_come, ReplicaState, name_of}
+use Rattle.sc_sound.specs.Definitions.{groups_at, Player, player_table, births, as_nodes}
+use Rattle.sc_calm_law.specs.Definitions.{players, FindsCalm, Rows}
+use Rattle.sc_paxos_words.proofs.Lemmas.{Each-from}
+use Rattle.sc_calm_orders_law.specs.Definitions.{Stage}
+use Rattle.sc_calm_rows_law.specs.Definitions.{view_at, with_event}
+use Rattle.sc_calm_rows_law.proofs.Lemmas.{view_was}
+use Rattle.sc_calm_mail_law.specs.Definitions.{SlotsAreLeft, ReplicasLast, MailMayCome}
+use Rattle.sc_calm_logs_law.specs.Definitions.{ViewsAreReplicas, SlotsHaveRosters, logged_sets}
+use Rattle.sc_calm_answers_law.specs.Definitions.{ReplicasRunLogs, IsUnsettled, IsNamedGuide, NewestStay, WellLedLeadAlone, IsOrdersRow, OrdersRowsFind, OrdersRowsMeet, IsQuietWhileYoung, IsSentStep, NextRowsAreSent, SentReplicas, IsNoRequest, IsPlainAt, over_at, tellers_at, NextRowsRise, IsRisingOn, IsRoundSince, OrdersKeepRounds, FrontsAreFound, NoMailForStrangers, IsCalmJournal, AreSent, GoesOnBy, IsNamedGroup, IsUnder, IsYoungAt, AllLeadAlone, IsKnownMail, OrderRowsFindCalm, ViewsAgree, ChildrenAreBorne, IsWorkingRow, ChildrenWereNowhere, IsUnanswered, YoungGroupsStay, AreSeen, IsTrueSince, LeadsSince, EntriesAreTrue, MailComesUnsettled, TakesSince, IsHinted, CoordinatorsAreHinted, HintedOrdersGoOn, AreSettled, CoordinatorsAreSettled, SettledOrdersGoOn, GoersGoOn, IsGoingSince, NamesStayFew, NoneWaits, AskedGroupsStood, GoesOnSince, TrueOrdersGoOn, IsGuidedRow, DeliveriesKeepWork, WorkStandsAlone, FlightsAreEntries, OrderedErrandsGoHome, IsOfJournal, IsOrderedSince, DeliveriesKeepOrdered, TakersAreNodes, LawfulReplicasAreNamedOnce}
+use Rattle.sc_calm_scenes_law.specs.Definitions.{IsThere, IsNowhere, AreUntouched, IsDelivered, FreshGroupsStay, FindsOrder, GoesBy, StageAfter, IsTaking, LeadsAlone}
 use Rattle.sc_calm_entries_law.specs.Paid.{IsEntry}
-use Rattle.sc_calm_answers_law.specs.Beside.{IsUnsettled}
-use Rattle.sc_calm_answers_law.specs.Guided.{IsNamedGuide, NewestStay, WellLedLeadAlone}
-use Rattle.sc_calm_answers_law.specs.FoundRows.{IsOrdersRow, OrdersRowsFind, OrdersRowsMeet}
-use Rattle.sc_calm_answers_law.specs.SentJournals.{IsQuietWhileYoung, IsSentStep, NextRowsAreSent, SentReplicas}
-use Rattle.sc_calm_answers_law.specs.Meeting.{IsNoRequest, IsPlainAt}
-use Rattle.sc_calm_charts_law.specs.Charting.{chart_at}
-use Rattle.sc_calm_charts_law.specs.Fronts.{quiet_front}
-use Rattle.sc_budget_law.specs.AskingQuiet.{replicas_after, DoHintsRise}
-use Rattle.sc_budget_law.proofs.BetweenSteps.{each_numbered}
-use Rattle.sc_calm_logs_law.specs.Logged.{logged_sets}
-use Rattle.sc_calm_answers_law.specs.Led.{over_at}
-use Rattle.sc_calm_answers_law.specs.Tellers.{tellers_at}
-use Rattle.sc_calm_answers_law.specs.Hinting.{NextRowsRise}
-use Rattle.sc_calm_answers_law.specs.RiseRising.{IsRisingOn}
-use Rattle.sc_calm_answers_law.specs.RiseRounds.{IsRoundSince, OrdersKeepRounds}
-use Rattle.sc_calm_answers_law.specs.KnownFronts.{FrontsAreFound}
-use Rattle.sc_calm_answers_law.specs.Strangers.{NoMailForStrangers}
-use Rattle.sc_calm_answers_law.specs.Journal.{IsCalmJournal, AreSent, GoesOnBy, IsNamedGroup}
-use Rattle.sc_calm_answers_law.specs.JournalUnder.{IsUnder, IsYoungAt}
-use Rattle.sc_calm_answers_law.specs.KeptAsking.{AllLeadAlone}
-use Rattle.sc_calm_answers_law.specs.KeptFinding.{IsKnownMail, OrderRowsFindCalm}
-use Rattle.sc_calm_answers_law.specs.Viewing.{ViewsAgree}
-use Rattle.sc_calm_answers_law.specs.Borne.{ChildrenAreBorne, IsWorkingRow}
-use Rattle.sc_calm_answers_law.specs.Children.{ChildrenWereNowhere}
-use Rattle.sc_calm_answers_law.specs.Young.{IsUnanswered, YoungGroupsStay}
-use Rattle.sc_calm_answers_law.specs.TrueUnder.{AreSeen, IsTrueSince}
-use Rattle.sc_calm_answers_law.specs.TrueEntries.{LeadsSince}
-use Rattle.sc_calm_answers_law.specs.Finished.{EntriesAreTrue}
-use Rattle.sc_calm_answers_law.specs.Unsettled.{MailComesUnsettled, TakesSince}
-use Rattle.sc_client_table.specs.Client.{Client as ClientState}
-use Rattle.sc_calm_answers_law.specs.TrueHinted.{IsHinted, CoordinatorsAreHinted, HintedOrdersGoOn}
-use Rattle.sc_calm_answers_law.specs.Settled.{AreSettled, CoordinatorsAreSettled, SettledOrdersGoOn}
-use Rattle.sc_calm_answers_law.specs.Goers.{GoersGoOn, IsGoingSince}
-use Rattle.sc_calm_answers_law.specs.Near.{NamesStayFew}
-use Rattle.sc_calm_answers_law.specs.NoneWaits.{NoneWaits}
-use Rattle.sc_calm_answers_law.specs.TrueGoing.{AskedGroupsStood, GoesOnSince, TrueOrdersGoOn}
-use Rattle.sc_calm_answers_law.specs.Works.{IsGuidedRow, DeliveriesKeepWork, WorkStandsAlone}
-use Rattle.sc_calm_answers_law.specs.OrderedEntries.{FlightsAreEntries}
-use Rattle.sc_calm_answers_law.specs.Homeward.{OrderedErrandsGoHome}
-use Rattle.sc_calm_answers_law.specs.Ordered.{IsOfJournal, IsOrderedSince, DeliveriesKeepOrdered}
-use Rattle.sc_calm_answers_law.specs.Takers.{TakersAreNodes}
+use Rattle.sc_calm_charts_law.specs.Definitions.{chart_at, quiet_front}
+use Rattle.sc_budget_law.specs.Definitions.{replicas_after, DoHintsRise}
+use Rattle.sc_budget_law.proofs.Lemmas.{each_numbered}
+use Rattle.sc_client_table.specs.Definitions.{Client as ClientState}
 use Rattle.sc_calm_answers_law.proofs.OrderedKnown as at_row
 use Rattle.sc_calm_answers_law.proofs.OrderedKnown.{named_there}
 use Rattle.sc_calm_answers_law.proofs.Clients.{gone_still, other_stays}
 use Rattle.sc_calm_answers_law.proofs.Placing.{place_of}
 use Rattle.sc_calm_answers_law.proofs.OrderedSending.{known_after}
-use Rattle.sc_calm_answers_law.specs.Starts.{LawfulReplicasAreNamedOnce}
-use Rattle.sc_calm_mail_law.specs.Posted.{MailMayCome}
-use Rattle.sc_orderly_law.specs.Timely.{AreInTime}
-use Rattle.sc_calm_scenes_law.specs.Turns.{LeadsAlone}
-use Rattle.sc_base.specs.declared.ops.Op.{Op}
 
 -- mail that asks elsewhere, or any other
 elsewhere_or : (body : MailBody) → ((tx coord : Draw) × (hint : Option ℕ) × (body ≡ TxElsewhere tx coord hint)) ⊎ ((tx coord : Draw) (hint : Option ℕ) → body ≡ TxElsewhere tx coord hint → ⊥)

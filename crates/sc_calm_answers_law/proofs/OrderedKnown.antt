@@ -1,51 +1,28 @@
 -- The groups of a calm journal at a row: each is guided at it, and well led after it.
-use Rattle.std.proofs.Common.{◌≡◌, ℕ, ◌+◌, ◌≤◌, eqb, cond, Bool, true, false, List, [], ◌∷◌, ◌++◌, length, Option, Some, None, ◌⊎◌, inl, inr, refl, sym, ◌∙◌, ap, subst, arith, append_assoc, length-append}
+use Rattle.std.proofs.Common.{◌≡◌, ℕ, ◌+◌, ◌≤◌, eqb, true, List, [], ◌∷◌, ◌++◌, length, Option, Some, None, ◌⊎◌, inl, inr, refl, sym, ◌∙◌, ap, subst, arith, append_assoc, length-append}
 use Rattle.std.specs.List.{list_any}
 use Rattle.std.proofs.lemmas.Bool.{cases_Bool, or_left, eq-eqb}
 use Rattle.std.proofs.lemmas.Option.{none-some}
-use Rattle.sc_base.specs.Among.{Among, Each}
-use Rattle.sc_base.specs.declared.names.Draw.{Draw}
-use Rattle.sc_cmd.specs.declared.cores.Base.{Base}
-use Rattle.sc_cmd.specs.declared.orders.OrderLine.{OrderLine}
-use Rattle.sc_mail.specs.declared.bodies.Mail.{Mail}
-use Rattle.sc_base.specs.Roster.{is_member}
-use Rattle.sc_actor.specs.declared.actors.Seat.{Seat}
-use Rattle.sc_actor.specs.declared.rows.Event.{Event}
-use Rattle.sc_actor.specs.declared.rows.Event.TheVariants.{Deliver}
-use Rattle.sc_actor.specs.declared.rows.Row.{Row}
-use Rattle.sc_actor.specs.System.{System, row_of}
-use Rattle.sc_orderly_law.specs.Orderly.{is_born, rest}
-use Rattle.sc_orderly_law.specs.Timely.{AreInTime}
-use Rattle.sc_orderly_law.proofs.InTime.{in_time_before, in_time_tidy, last_in_time}
-use Rattle.sc_orderly_law.proofs.Resting.{TakesFirst, takes_first, is_born-from}
+use Rattle.sc_base.specs.Definitions.{Among, Each, is_member}
+use Rattle.sc_node_table.specs.Values.{Draw, Base, OrderLine, Mail, Seat, Event, Deliver, Row}
+use Rattle.sc_actor.specs.Definitions.{System, row_of}
+use Rattle.sc_orderly_law.specs.Definitions.{is_born, rest, AreInTime}
+use Rattle.sc_orderly_law.proofs.Lemmas.{in_time_before, in_time_tidy, last_in_time, TakesFirst, takes_first, is_born-from}
 use Rattle.sc_scenario.specs.declared.scenarios.Scenario.{Scenario}
-use Rattle.sc_node_table.specs.Node.{group_of_mail}
-use Rattle.sc_node_table.specs.Replica.{ReplicaState, listed, next}
-use Rattle.sc_sound.specs.GroupsOf.{groups_at}
-use Rattle.sc_sound.specs.Players.{Player, player_table, births, as_nodes}
-use Rattle.sc_following_law.specs.Following.{Mark, marks_of, members_at, reached}
-use Rattle.sc_calm_law.specs.Charts.{players}
-use Rattle.sc_calm_law.specs.Totals.{Rows}
-use Rattle.sc_calm_orders_law.specs.Parts.{bond_of}
-use Rattle.sc_calm_orders_law.specs.Scenes.{Bond}
-use Rattle.sc_calm_rows_law.specs.Groups.{view_at, marks_at, next_in}
-use Rattle.sc_calm_rows_law.specs.Turns.{IsSeat, with_event}
-use Rattle.sc_calm_mail_law.specs.Few.{SlotsAreLeft}
-use Rattle.sc_calm_mail_law.specs.Lasting.{IsLater, ReplicasLast}
-use Rattle.sc_calm_logs_law.specs.Logged.{IsGroupOf, ViewsAreReplicas, SlotsHaveRosters, logged_sets}
-use Rattle.sc_calm_answers_law.specs.States.{state_at, ReplicasRunLogs}
-use Rattle.sc_calm_answers_law.specs.Led.{over_at}
-use Rattle.sc_calm_answers_law.specs.Tellers.{AreFew, tellers_at}
-use Rattle.sc_calm_scenes_law.specs.Fresh.{IsThere, IsNowhere}
-use Rattle.sc_calm_scenes_law.proofs.Turning.{calm_is}
-use Rattle.sc_calm_answers_law.specs.Guided.{AreBoundBy, IsGuided, IsNamedGuide, IsReached, IsReachedSo, NewestStay}
-use Rattle.sc_calm_answers_law.specs.SentJournals.{IsQuietWhileYoung, IsSentThrough, IsSentStep, NextRowsAreSent}
-use Rattle.sc_calm_answers_law.specs.KnownFronts.{FrontsAreFound}
-use Rattle.sc_calm_answers_law.specs.Strangers.{NoMailForStrangers}
-use Rattle.sc_calm_answers_law.specs.Journal.{IsCalmJournal, IsFront, AreSent, GoesOnBy, IsNamedGroup}
-use Rattle.sc_calm_answers_law.specs.JournalUnder.{IsUnder, IsYoungAt}
+use Rattle.sc_node_table.specs.Definitions.{group_of_mail, ReplicaState, listed, next}
+use Rattle.sc_sound.specs.Definitions.{groups_at, Player, player_table, births, as_nodes}
+use Rattle.sc_following_law.specs.Definitions.{Mark, marks_of, members_at, reached}
+use Rattle.sc_calm_law.specs.Definitions.{players, Rows}
+use Rattle.sc_calm_orders_law.specs.Definitions.{bond_of, Bond}
+use Rattle.sc_calm_rows_law.specs.Definitions.{view_at, marks_at, next_in, IsSeat, with_event}
+use Rattle.sc_calm_mail_law.specs.Definitions.{SlotsAreLeft, IsLater, ReplicasLast}
+use Rattle.sc_calm_logs_law.specs.Definitions.{IsGroupOf, ViewsAreReplicas, SlotsHaveRosters, logged_sets}
+use Rattle.sc_calm_answers_law.specs.Definitions.{state_at, ReplicasRunLogs, over_at, AreFew, tellers_at, AreBoundBy, IsGuided, IsNamedGuide, IsReached, IsReachedSo, NewestStay, IsQuietWhileYoung, IsSentThrough, IsSentStep, NextRowsAreSent, FrontsAreFound, NoMailForStrangers, IsCalmJournal, IsFront, AreSent, GoesOnBy, IsNamedGroup, IsUnder, IsYoungAt}
+use Rattle.sc_calm_scenes_law.specs.Definitions.{IsThere, IsNowhere}
+use Rattle.sc_calm_scenes_law.proofs.Lemmas.{calm_is}
 use Rattle.sc_calm_answers_law.proofs.Delivering.{there_or}
 use Rattle.sc_calm_answers_law.proofs.Children.{unmarked}
+use Rattle.sc_base.proofs.Lemmas.{at_most_one}
 
 -- ---- marks
 
@@ -58,10 +35,6 @@ no_marks_of name (mail ∷ mails) none = ap (λ (o : Option Mark). listed o ++ m
 some_member : (members : List ℕ) → 1 ≤ length members → (who : ℕ) × (is_member members who ≡ true)
 some_member [] some = absurd (omega (arith, some))
 some_member (m ∷ members) some = (m, or_left (eqb m m) (list_any (λ other. eqb other m) members) (eq-eqb m m refl))
-
-at_most_one : (b : Bool) → cond b 1 0 ≤ 1
-at_most_one true = omega arith
-at_most_one false = omega arith
 
 -- where no mail of a group is under way, some replica of it is at its newest state
 module _ (rosters_law : SlotsHaveRosters) (logs_law : ReplicasRunLogs) (views_law : ViewsAreReplicas) (words : ℕ → ℕ → ℕ × ℕ) (scenario : Scenario) (journal rows more : Rows) (base : Base) (group : IsGroupOf as_nodes words scenario journal base) (split : journal ≡ rows ++ more)

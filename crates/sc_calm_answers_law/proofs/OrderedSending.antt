@@ -1,59 +1,33 @@
 -- What is sent by a delivery while an order is under way is of groups of the journal.
 use Rattle.std.proofs.Common.{◌≡◌, ◌⊎◌, ℕ, zero, suc, Bool, true, false, eqb, List, [], ◌∷◌, drop, Option, Some, None, inl, inr, refl, sym, ◌∙◌, ap, subst}
 use Rattle.std.specs.Option.{option_map}
-use Rattle.std.specs.List.{filter}
 use Rattle.std.proofs.lemmas.Bool.{cases_Bool, cond-true, cond-false}
 use Rattle.std.proofs.lemmas.Option.{none-some}
-use Rattle.sc_base.specs.Among.{Among, Each}
-use Rattle.sc_base.specs.declared.names.Draw.{Draw}
-use Rattle.sc_base.specs.Same.{same_draw}
-use Rattle.sc_base.proofs.NameLemmas.{draw_is, same_name}
-use Rattle.sc_cmd.specs.declared.orders.OrderLine.{OrderLine}
+use Rattle.sc_base.specs.Definitions.{Among, Each, same_draw}
+use Rattle.sc_node_table.specs.Values.{Draw, OrderLine, Refused, Mail, Node, Client, Seat, Deliver, Got, Row}
+use Rattle.sc_base.proofs.Lemmas.{draw_is, same_name}
 use Rattle.sc_cmd.specs.declared.orders.OrderRefusal.TheVariants.{NotLeader}
-use Rattle.sc_cmd.specs.declared.orders.ToldResult.TheVariants.{Refused}
-use Rattle.sc_mail.specs.declared.bodies.Mail.{Mail}
-use Rattle.sc_mail.specs.declared.roles.Role.TheVariants.{Node, Client}
-use Rattle.sc_actor.specs.declared.actors.Seat.{Seat}
-use Rattle.sc_actor.specs.declared.rows.Event.TheVariants.{Deliver, Told}
-use Rattle.sc_actor.specs.declared.rows.Input.TheVariants.{Got, Told as ToldInput}
-use Rattle.sc_actor.specs.declared.rows.Row.{Row}
-use Rattle.sc_actor.specs.Replay.{value}
-use Rattle.sc_actor.specs.System.{System, row_of}
-use Rattle.sc_actor.specs.Walk.{is_quiet}
-use Rattle.sc_orderly_law.specs.Orderly.{is_born, rest, mail_for, taken}
-use Rattle.sc_orderly_law.specs.Timely.{AreInTime}
-use Rattle.sc_orderly_law.proofs.InTime.{in_time_before, in_time_tidy, last_in_time}
-use Rattle.sc_orderly_law.proofs.Resting.{TakesFirst, is_born-from, takes_first, rest-calm, quiet-empty}
-use Rattle.sc_paxos_words.proofs.ListLemmas.{Each-among, Each-append, Each-from}
-use Rattle.sc_names_law.proofs.Lists.{Each-drop}
+use Rattle.sc_actor.specs.declared.rows.Event.TheVariants.{Told}
+use Rattle.sc_actor.specs.declared.rows.Input.TheVariants.{Told as ToldInput}
+use Rattle.sc_actor.specs.Definitions.{value, System, row_of, is_quiet}
+use Rattle.sc_orderly_law.specs.Definitions.{is_born, rest, mail_for, taken, AreInTime}
+use Rattle.sc_orderly_law.proofs.Lemmas.{in_time_before, in_time_tidy, last_in_time, TakesFirst, is_born-from, takes_first, rest-calm, quiet-empty}
+use Rattle.sc_paxos_words.proofs.Lemmas.{Each-among, Each-append, Each-from}
+use Rattle.sc_names_law.proofs.Lemmas.{Each-drop}
 use Rattle.sc_scenario.specs.declared.scenarios.Scenario.{Scenario}
-use Rattle.sc_node_table.specs.Node.{NodeState, replica_of, with_replica, with_children, group_of_mail, may_come, unknown, taken_by, routed, on_mail, group_of_order, ordered_of}
-use Rattle.sc_node_table.specs.Replica.{ReplicaState, Executed, name_of}
-use Rattle.sc_node_table.specs.Mails.{told_desk}
-use Rattle.sc_node_table.specs.Ordering.{ordered_row}
-use Rattle.sc_node_table.specs.Rows.{mailed}
-use Rattle.sc_law_lemmas.proofs.Ways.{either_way}
-use Rattle.sc_sound.specs.Players.{Player, player_table, births, as_nodes}
-use Rattle.sc_calm_law.specs.Charts.{players}
-use Rattle.sc_calm_law.specs.Totals.{Rows}
-use Rattle.sc_calm_orders_law.specs.Stages.{Stage}
-use Rattle.sc_calm_rows_law.specs.Turns.{IsSeat, with_event}
-use Rattle.sc_calm_rows_law.proofs.Mailing.{mailed_keeps, order_keeps}
-use Rattle.sc_calm_rows_law.proofs.Turning.{found_name}
-use Rattle.sc_calm_rows_law.proofs.Viewing.{view_was}
-use Rattle.sc_calm_scenes_law.specs.Fresh.{IsThere, IsNowhere, IsErrandFor, AreUntouched}
-use Rattle.sc_calm_scenes_law.proofs.Fresh.{client_leaves, got_nothing, quiet_errands, unknown_apart}
-use Rattle.sc_calm_scenes_law.proofs.Taking.{all_sent}
-use Rattle.sc_calm_scenes_law.proofs.Turning.{calm_is}
-use Rattle.sc_calm_answers_law.specs.Journal.{IsNamedGroup}
+use Rattle.sc_node_table.specs.Definitions.{NodeState, replica_of, with_replica, with_children, group_of_mail, may_come, unknown, taken_by, routed, on_mail, group_of_order, ordered_of, ReplicaState, Executed, name_of, told_desk, ordered_row, mailed}
+use Rattle.sc_law_lemmas.proofs.Lemmas.{either_way}
+use Rattle.sc_sound.specs.Definitions.{Player, player_table, births, as_nodes}
+use Rattle.sc_calm_law.specs.Definitions.{players, Rows}
+use Rattle.sc_calm_orders_law.specs.Definitions.{Stage}
+use Rattle.sc_calm_rows_law.specs.Definitions.{IsSeat, with_event}
+use Rattle.sc_calm_rows_law.proofs.Lemmas.{mailed_keeps, order_keeps, found_name, view_was}
+use Rattle.sc_calm_scenes_law.specs.Definitions.{IsThere, IsNowhere, IsErrandFor, AreUntouched}
+use Rattle.sc_calm_scenes_law.proofs.Lemmas.{client_leaves, got_nothing, quiet_errands, unknown_apart, all_sent, calm_is}
+use Rattle.sc_calm_answers_law.specs.Definitions.{IsNamedGroup, IsUnanswered, IsOfJournal}
 use Rattle.sc_calm_answers_law.proofs.Delivering.{there_or}
-use Rattle.sc_calm_answers_law.specs.Young.{IsUnanswered}
 use Rattle.sc_calm_answers_law.proofs.Staying.{IsNoneFor, sends_none}
-use Rattle.sc_calm_answers_law.specs.Ordered.{IsOfJournal}
-
-pub each_filter : {X : Type 0} (P : X → Type 0) (test : X → Bool) (xs : List X) → Each P xs → Each P (filter test xs)
-each_filter P test [] e = tt
-each_filter P test (x ∷ xs) e = either_way (Each P) (test x) (x ∷ filter test xs) (filter test xs) (e.0, each_filter P test xs e.1) (each_filter P test xs e.1)
+pub use Rattle.sc_calm_scenes_law.proofs.Fresh.{each_filter}
 
 -- ---- what is sent of other groups
 

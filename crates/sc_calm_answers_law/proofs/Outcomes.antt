@@ -1,64 +1,26 @@
 -- What a coordinator decides its participant can carry out: a boundary that it moves lies in one of two arcs that meet, and a member comes where there is room.
-use Rattle.std.proofs.Common.{◌≡◌, ℕ, ◌+◌, ◌-◌, ◌^◌, ◌<◌, ◌≤◌, Bool, true, false, true≢false, List, [], ◌∷◌, Option, Some, None, inl, inr, option_map, refl, sym, ◌∙◌, ap, subst}
+use Rattle.std.proofs.Common.{◌≡◌, ℕ, ◌+◌, ◌-◌, ◌^◌, ◌<◌, ◌≤◌, Bool, true, false, List, [], ◌∷◌, Option, Some, None, option_map, refl, sym, ◌∙◌, ap, subst}
 use Rattle.std.specs.Prelude.{length, ◌&&◌, ◌==◌, not, nat_le}
 use Rattle.std.specs.FinMap.{entries}
 use Rattle.std.proofs.lemmas.Bool.{and_from, and_parts, cond-true, cond_both, eq-eqb, le-leb}
 use Rattle.std.proofs.lemmas.Option.{same_Some}
-use Rattle.sc_base.specs.Arc.{Arc, end_of, from, holds, before, offset}
-use Rattle.sc_base.specs.Same.{same_draw}
-use Rattle.sc_base.specs.declared.names.Draw.{Draw}
-use Rattle.sc_base.proofs.NameLemmas.{draw_is}
-use Rattle.sc_cmd.specs.Cores.{is_alone}
-use Rattle.sc_cmd.specs.Effects.{decided_in, is_changed}
-use Rattle.sc_cmd.specs.declared.bodies.Body.{Body}
+use Rattle.sc_base.specs.Definitions.{Arc, end_of, from, holds, before, offset, same_draw, is_member, united}
+use Rattle.sc_node_table.specs.Values.{Draw, Body, Offer, Command, Noop, Call, Join, Leave, Split, Begin, Prepared, RecordVote, GiveUp, Finish, Watched, RecordWatch, Lock, Coordinating, Free, Promised, Watching, Effect, Frozen, Gift, Heard, Outcome, Past, Vote}
+use Rattle.sc_base.proofs.Lemmas.{draw_is}
+use Rattle.sc_cmd.specs.Definitions.{is_alone, decided_in, is_changed}
 use Rattle.sc_cmd.specs.declared.bodies.Body.TheVariants as At
-use Rattle.sc_cmd.specs.declared.bodies.Offer.{Offer}
-use Rattle.sc_cmd.specs.declared.commands.Command.{Command}
-use Rattle.sc_cmd.specs.declared.commands.Command.TheVariants.{Noop, Call, Join, Leave, Split, Begin, Prepared, RecordVote, GiveUp, Finish, Watched, RecordWatch}
-use Rattle.sc_cmd.specs.declared.cores.Lock.{Lock}
-use Rattle.sc_cmd.specs.declared.cores.Lock.TheVariants.{Coordinating, Free, Promised, Watching}
-use Rattle.sc_cmd.specs.declared.effects.Effect.{Effect}
 use Rattle.sc_cmd.specs.declared.effects.Effect.TheVariants as Was
-use Rattle.sc_cmd.specs.declared.votes.Frozen.{Frozen}
-use Rattle.sc_cmd.specs.declared.votes.Gift.{Gift}
-use Rattle.sc_cmd.specs.declared.votes.Heard.{Heard}
-use Rattle.sc_cmd.specs.declared.votes.Outcome.{Outcome}
 use Rattle.sc_cmd.specs.declared.votes.Outcome.TheVariants as Is
-use Rattle.sc_cmd.specs.declared.votes.Past.{Past}
 use Rattle.sc_cmd.specs.declared.votes.Past.TheVariants as Cast
-use Rattle.sc_cmd.specs.declared.votes.Vote.{Vote}
 use Rattle.sc_cmd.specs.declared.votes.Vote.TheVariants as Vows
-use Rattle.sc_ideal.specs.IdealStore.{Contents, part_of}
-use Rattle.sc_log_entries.specs.Worlds.{named_group}
+use Rattle.sc_ideal.specs.Definitions.{Contents, part_of}
+use Rattle.sc_log_entries.specs.Definitions.{named_group}
 use Rattle.sc_log_entries.specs.declared.LogEntry.{LogEntry}
-use Rattle.sc_machine_table.specs.Finishes.{can_gain, gained_group, lost_group, participant_after, welcomed_group}
-use Rattle.sc_machine_table.specs.Group.{Group}
-use Rattle.sc_machine_table.specs.Machine.{applied}
-use Rattle.sc_machine_table.specs.Plans.{Plan, can_cut, can_join, can_migrate, can_repart, can_split, closing_group, frozen_of, giving_group, giving_plan, has_key_of, may_merge, merged_group, merged_route, migrated_group, part_gift, taken, taking_group, taking_plan}
-use Rattle.sc_machine_table.specs.Splits.{left_group}
-use Rattle.sc_machine_table.specs.Transactions.{asks_watcher, committed, decided_group, granted, participant_answered, released, vote_recorded, watch_answered, watch_recorded}
-use Rattle.sc_machine_table.specs.Votes.{has_voted}
-use Rattle.sc_base.specs.Roster.{is_member}
-use Rattle.sc_base.specs.Union.{united}
-use Rattle.sc_ring_law.specs.Allowed.{AreAllowed, IsAllowed, IsVoteCast, Sources, ToldWorld, first_told, stories_told, told_after, told_on}
-use Rattle.sc_ring_law.specs.Invariant.{Groups}
-use Rattle.sc_ring_law.specs.Laws.{BeginInPlace, stories_of}
-use Rattle.sc_ring_law.specs.Stories.{Stories, Story, new_story, put, retold, stories_after, unsigned, vote_in, watch_vote_in, with_answer, with_decision, with_vote, with_watch_vote}
-use Rattle.sc_ring_law.proofs.Arcs.{end_right, right_is}
-use Rattle.sc_ring_law.proofs.Commits.{apart_of, mine_old, own_is, part_eff}
-use Rattle.sc_ring_law.proofs.Cuts.{arcs_in}
-use Rattle.sc_ring_law.proofs.Decisions.{mine_open}
-use Rattle.sc_ring_law.proofs.Effects.{Old, arc_of, succ_of, view_of}
-use Rattle.sc_ring_law.proofs.Insides.{inside_part, no_shared, outside_next, room_of}
-use Rattle.sc_ring_law.proofs.Links.{IsPair, pair_meets}
-use Rattle.sc_ring_law.proofs.Moves.{cut_is}
-use Rattle.sc_ring_law.proofs.Reshapes.{Ends, part_is}
-use Rattle.sc_ring_law.proofs.Start.{at_start}
-use Rattle.sc_ring_law.proofs.Steps.{Kept}
-use Rattle.sc_ring_law.proofs.Told.{groups_in}
-use Rattle.sc_ring_law.proofs.View.{IsOnRing, Ring}
-use Rattle.sc_ring_law.proofs.Worlds.{KeptWorld, kept_on}
-use Rattle.sc_calm_answers_law.specs.Outcomes.{HasOwnKeys, IsTakenBy}
+use Rattle.sc_machine_table.specs.Definitions.{can_gain, gained_group, lost_group, participant_after, welcomed_group, Group, applied, Plan, can_cut, can_join, can_migrate, can_repart, can_split, closing_group, giving_group, giving_plan, has_key_of, may_merge, merged_group, merged_route, migrated_group, part_gift, taken, taking_group, taking_plan, left_group, asks_watcher, committed, decided_group, granted, released, vote_recorded, watch_answered, watch_recorded, has_voted}
+use Rattle.sc_ring_law.specs.Definitions.{AreAllowed, IsAllowed, IsVoteCast, Sources, ToldWorld, first_told, stories_told, told_after, told_on, Groups, BeginInPlace, stories_of, Stories, Story, new_story, put, retold, stories_after, unsigned, vote_in, watch_vote_in, with_answer, with_decision, with_vote, with_watch_vote}
+use Rattle.sc_ring_law.proofs.Lemmas.{end_right, right_is, apart_of, mine_old, own_is, part_eff, arcs_in, mine_open, Old, arc_of, succ_of, view_of, inside_part, no_shared, outside_next, room_of, IsPair, pair_meets, cut_is, Ends, part_is, at_start, Kept, groups_in, IsOnRing, Ring, KeptWorld, kept_on, less_room as rest_room}
+use Rattle.sc_calm_answers_law.specs.Definitions.{HasOwnKeys, IsTakenBy}
+use Rattle.sc_whole_law.proofs.Lemmas.{no_vote}
 
 -- ---- what a participant takes
 
@@ -68,9 +30,6 @@ record AreNear (a b : Arc) : Type 0 where
   its_on : IsOnRing b
   meet : b.lo ≡ end_of a
   room : a.len + b.len ≤ 2 ^ 32
-
-rest_room : (a b o : ℕ) → a + b ≤ 2 ^ 32 → o < a → (a - o) + b ≤ 2 ^ 32
-rest_room a b o r h = omega (Rattle.std.proofs.Common.arith, r, h)
 
 -- a part of the arc before its own
 gains : (group : Group) (own : Offer) (at : ℕ) → AreNear own.arc group.core.arc → at < 2 ^ 32 → can_cut own.arc at ≡ true → HasOwnKeys group → (gift : Gift) (m : Contents) → gift.pairs ≡ entries (part_of (from own.arc at) m)
@@ -124,9 +83,6 @@ no_outcome outcome e = cc
 
 no_offer : (offer : Offer) → None ≡ Some offer → ⊥
 no_offer offer e = cc
-
-no_vote : (frozen : Frozen) → None ≡ Some (Vows.Yes frozen) → ⊥
-no_vote frozen e = cc
 
 same_vote : (f frozen : Frozen) → Some (Vows.Yes f) ≡ Some (Vows.Yes frozen) → f ≡ frozen
 same_vote f frozen e = cc

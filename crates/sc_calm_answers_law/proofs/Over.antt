@@ -1,67 +1,32 @@
 -- A calm journal rests again once an order is over and it is quiet.
 use Rattle.std.proofs.Common.{◌≡◌, ℕ, ◌+◌, ◌≤◌, true, List, [], ◌∷◌, map, Some, inl, inr, refl, sym, ◌∙◌, ap, subst, arith}
 use Rattle.std.proofs.lemmas.Bool.{cases_Bool}
-use Rattle.sc_base.specs.Among.{Among}
-use Rattle.sc_base.specs.declared.names.Draw.{Draw}
-use Rattle.sc_cmd.specs.declared.cores.Base.{Base}
-use Rattle.sc_cmd.specs.declared.orders.OrderLine.{OrderLine}
-use Rattle.sc_mail.specs.declared.bodies.Mail.{Mail}
-use Rattle.sc_actor.specs.declared.actors.Seat.{Seat}
-use Rattle.sc_actor.specs.Mail.{mails}
-use Rattle.sc_actor.specs.System.{System, has_gone}
-use Rattle.sc_actor.specs.Walk.{is_quiet}
-use Rattle.sc_orderly_law.specs.Orderly.{is_born, orders}
-use Rattle.sc_orderly_law.specs.Timely.{AreInTime}
-use Rattle.sc_orderly_law.proofs.InTime.{in_time_tidy}
-use Rattle.sc_orderly_law.proofs.Resting.{quiet-empty}
+use Rattle.sc_base.specs.Definitions.{Among, client_actor}
+use Rattle.sc_node_table.specs.Values.{Draw, Base, OrderLine, Mail, Seat, Client}
+use Rattle.sc_actor.specs.Definitions.{mails, System, has_gone, is_quiet, value}
+use Rattle.sc_orderly_law.specs.Definitions.{is_born, orders, AreInTime}
+use Rattle.sc_orderly_law.proofs.Lemmas.{in_time_tidy, quiet-empty, seat_found}
 use Rattle.sc_scenario.specs.declared.scenarios.Scenario.{Scenario}
-use Rattle.sc_node_table.specs.Replica.{ReplicaState}
-use Rattle.sc_sound.specs.GroupsOf.{groups_at}
-use Rattle.sc_scenario.specs.Valid.{ValidScenariosAreBounded}
+use Rattle.sc_node_table.specs.Definitions.{ReplicaState, numbers_from}
+use Rattle.sc_sound.specs.Definitions.{groups_at, Player, player_table, births, as_nodes, node_seat, client_seat, client_seats, route_of}
+use Rattle.sc_scenario.specs.Definitions.{ValidScenariosAreBounded}
 use Rattle.sc_scenario.specs.declared.scenarios.Asks.{Asks}
-use Rattle.sc_base.specs.Limits.{client_actor}
-use Rattle.sc_mail.specs.declared.roles.Role.TheVariants.{Client}
-use Rattle.sc_actor.specs.Replay.{value}
-use Rattle.sc_client_table.specs.Client.{Client as ClientState}
-use Rattle.sc_node_table.specs.Slots.{numbers_from}
-use Rattle.sc_orderly_law.proofs.Seats.{seat_found}
-use Rattle.sc_whole_law.proofs.Seats.{all_apart}
-use Rattle.sc_budget_law.proofs.Lists.{map_among}
-use Rattle.sc_calm_orders_law.proofs.Lists.{among-right}
-use Rattle.sc_calm_rows_law.specs.Turns.{IsSeat}
-use Rattle.sc_sound.specs.Players.{Player, player_table, births, as_nodes, node_seat, client_seat, client_seats, route_of}
-use Rattle.sc_following_law.specs.Following.{marks_of}
-use Rattle.sc_calm_charts_law.specs.Charting.{all_replicas, names_at}
-use Rattle.sc_calm_charts_law.specs.Ends.{GoInTurn}
-use Rattle.sc_calm_law.specs.Charts.{players}
-use Rattle.sc_calm_law.specs.Totals.{Rows}
-use Rattle.sc_calm_orders_law.specs.Parts.{works_in}
-use Rattle.sc_calm_orders_law.specs.Stages.{Still, IsAt}
-use Rattle.sc_calm_rows_law.specs.Groups.{view_at, marks_at}
-use Rattle.sc_calm_mail_law.specs.Few.{SlotsAreLeft}
-use Rattle.sc_calm_groups_law.specs.Kept.{ScenariosAreKeptBorn}
-use Rattle.sc_calm_logs_law.specs.Logged.{IsGroupOf, SlotsHaveRosters, logged_sets}
-use Rattle.sc_calm_answers_law.specs.Led.{over_at}
-use Rattle.sc_calm_answers_law.specs.Tellers.{tellers_at}
-use Rattle.sc_calm_scenes_law.specs.Fresh.{IsThere}
-use Rattle.sc_calm_scenes_law.specs.Quiet.{HasNothing, QuietScenesAreOver}
-use Rattle.sc_calm_scenes_law.specs.Scenes.{scene_at}
-use Rattle.sc_calm_answers_law.specs.Guided.{QuietLeadersHaveNothing}
-use Rattle.sc_calm_answers_law.specs.RiseRounds.{OrdersKeepRounds, RoundsAreSeen}
-use Rattle.sc_calm_answers_law.specs.KnownFronts.{IsQuietFront, FrontsAreFound}
-use Rattle.sc_calm_answers_law.specs.Strangers.{NoMailForStrangers}
-use Rattle.sc_calm_answers_law.specs.Goers.{GoersGoInTurn, IsGoingSince}
-use Rattle.sc_calm_answers_law.specs.NoneWaits.{NoneWaits}
-use Rattle.sc_calm_answers_law.specs.Reached.{FirstGroupsAreReached}
-use Rattle.sc_calm_answers_law.specs.Journal.{AreSent, IsCalmJournal, IsFront, IsNamedGroup}
-use Rattle.sc_calm_answers_law.specs.Resting.{RestsAt}
-use Rattle.sc_calm_answers_law.specs.JournalUnder.{IsUnder}
+use Rattle.sc_client_table.specs.Definitions.{Client as ClientState}
+use Rattle.sc_whole_law.proofs.Lemmas.{all_apart}
+use Rattle.sc_budget_law.proofs.Lemmas.{map_among}
+use Rattle.sc_calm_orders_law.proofs.Lemmas.{among-right}
+use Rattle.sc_calm_rows_law.specs.Definitions.{IsSeat, view_at, marks_at}
+use Rattle.sc_following_law.specs.Definitions.{marks_of}
+use Rattle.sc_calm_charts_law.specs.Definitions.{all_replicas, names_at, GoInTurn}
+use Rattle.sc_calm_law.specs.Definitions.{players, Rows}
+use Rattle.sc_calm_orders_law.specs.Definitions.{works_in, Still, IsAt}
+use Rattle.sc_calm_mail_law.specs.Definitions.{SlotsAreLeft}
+use Rattle.sc_calm_groups_law.specs.Definitions.{ScenariosAreKeptBorn}
+use Rattle.sc_calm_logs_law.specs.Definitions.{IsGroupOf, SlotsHaveRosters, logged_sets}
+use Rattle.sc_calm_answers_law.specs.Definitions.{over_at, tellers_at, QuietLeadersHaveNothing, OrdersKeepRounds, RoundsAreSeen, IsQuietFront, FrontsAreFound, NoMailForStrangers, GoersGoInTurn, IsGoingSince, NoneWaits, FirstGroupsAreReached, AreSent, IsCalmJournal, IsFront, IsNamedGroup, RestsAt, IsUnder, QuietFrontsRest, HomewardGoesToActors, IsOrderedSince, OrdersLeaveResting}
+use Rattle.sc_calm_scenes_law.specs.Definitions.{IsThere, HasNothing, QuietScenesAreOver, scene_at}
 use Rattle.sc_calm_answers_law.proofs.BetweenRequests.{front_timely, front_short}
-use Rattle.sc_calm_answers_law.specs.OverEnding.{QuietFrontsRest}
-use Rattle.sc_calm_answers_law.specs.Homeward.{HomewardGoesToActors}
-use Rattle.sc_calm_answers_law.specs.Ordered.{IsOrderedSince}
 use Rattle.sc_calm_answers_law.proofs.OrderedKnown.{named_there}
-use Rattle.sc_calm_answers_law.specs.Over.{OrdersLeaveResting}
 
 module _ (all_bounded : ValidScenariosAreBounded) (few_law : SlotsAreLeft) (born_law : ScenariosAreKeptBorn) (rosters_law : SlotsHaveRosters) (over_law : QuietScenesAreOver) (nothing_law : QuietLeadersHaveNothing) (rounds_law : OrdersKeepRounds) (seen_law : RoundsAreSeen) (found_law : FrontsAreFound) (no_law : NoMailForStrangers) (rest_law : QuietFrontsRest) (actors_law : HomewardGoesToActors) (turn_law : GoersGoInTurn) (waits_law : NoneWaits) (reached_law : FirstGroupsAreReached)
     (words : ℕ → ℕ → ℕ × ℕ) (scenario : Scenario) (first : Base) (others : List Base) (journal quiet rows : Rows) (groups : scenario.groups ≡ first ∷ others) (calm : IsCalmJournal words scenario journal) (o : IsOrderedSince words scenario first journal quiet rows) (still : is_quiet (players words (births as_nodes scenario)) rows ≡ true) where

@@ -2,57 +2,28 @@
 use Rattle.std.proofs.Common.{◌≡◌, ℕ, ◌<◌, ◌≤◌, true, false, true≢false, [], Option, Some, None, ◌⊎◌, inl, inr, sym, ◌∙◌, ap, subst, arith}
 use Rattle.std.specs.Prelude.{is_some}
 use Rattle.std.proofs.lemmas.Bool.{cases_Bool, cases_lt}
-use Rattle.sc_base.specs.Among.{Among}
-use Rattle.sc_base.specs.declared.names.Ballot.{Ballot}
-use Rattle.sc_base.specs.declared.names.Draw.{Draw}
-use Rattle.sc_cmd.specs.declared.commands.Command.{Command}
-use Rattle.sc_cmd.specs.declared.cores.Base.{Base}
-use Rattle.sc_cmd.specs.declared.cores.Lock.TheVariants.{Free}
-use Rattle.sc_cmd.specs.declared.orders.OrderLine.{OrderLine}
-use Rattle.sc_mail.specs.declared.bodies.Mail.{Mail}
-use Rattle.sc_machine_table.specs.Group.{Group}
-use Rattle.sc_paxos_words.specs.Ballots.{IsAtLeast}
-use Rattle.sc_paxos_words.specs.declared.reports.Report.{Report}
-use Rattle.sc_paxos_words.proofs.ListLemmas.{Each-weaker}
-use Rattle.sc_actor.specs.System.{System}
-use Rattle.sc_orderly_law.specs.Orderly.{is_born, rest}
-use Rattle.sc_orderly_law.proofs.InTime.{in_time_tidy}
-use Rattle.sc_orderly_law.proofs.Resting.{quiet-empty}
-use Rattle.sc_node_table.specs.Replica.{ReplicaState}
+use Rattle.sc_base.specs.Definitions.{Among}
+use Rattle.sc_node_table.specs.Values.{Ballot, Draw, Command, Base, Free, OrderLine, Mail, Report}
+use Rattle.sc_machine_table.specs.Definitions.{Group}
+use Rattle.sc_paxos_words.specs.Definitions.{IsAtLeast}
+use Rattle.sc_paxos_words.proofs.Lemmas.{Each-weaker}
+use Rattle.sc_actor.specs.Definitions.{System}
+use Rattle.sc_orderly_law.specs.Definitions.{is_born, rest}
+use Rattle.sc_orderly_law.proofs.Lemmas.{in_time_tidy, quiet-empty}
+use Rattle.sc_node_table.specs.Definitions.{ReplicaState}
 use Rattle.sc_scenario.specs.declared.scenarios.Scenario.{Scenario}
-use Rattle.sc_scenario.specs.Valid.{ValidScenariosAreBounded}
-use Rattle.sc_sound.specs.GroupsOf.{groups_at}
-use Rattle.sc_sound.specs.Players.{Player, births, as_nodes}
-use Rattle.sc_calm_law.specs.Charts.{players}
-use Rattle.sc_calm_law.specs.Laws.{MayPump}
-use Rattle.sc_calm_law.specs.Quiet.{HasReplica, StandsQuiet, IsGoneQuiet, IsAtRest, RisesAt}
-use Rattle.sc_calm_law.specs.Totals.{Rows}
-use Rattle.sc_following_law.specs.Following.{Course, marks_of}
-use Rattle.sc_following_law.specs.Leading.{IsLeadOf}
-use Rattle.sc_calm_rows_law.specs.Groups.{marks_at, progress_at}
-use Rattle.sc_calm_groups_law.specs.Tops.{NodesKeepTops, NodesAreBornTopped}
-use Rattle.sc_calm_groups_law.specs.Rests.{QuietGroupsAreLed, IsLedQuietly}
-use Rattle.sc_calm_logs_law.specs.Logged.{logged_sets}
-use Rattle.sc_calm_answers_law.specs.Led.{over_at}
-use Rattle.sc_calm_answers_law.specs.States.{state_at}
-use Rattle.sc_calm_answers_law.specs.Tellers.{tellers_at}
-use Rattle.sc_calm_answers_law.specs.Rests.{replicas_at, SawNoMore, QuietGroupsStand, QuietGroupsAreGone, QuietReplicasRest, QuietReplicasAreKept}
+use Rattle.sc_scenario.specs.Definitions.{ValidScenariosAreBounded}
+use Rattle.sc_sound.specs.Definitions.{groups_at, Player, births, as_nodes}
+use Rattle.sc_calm_law.specs.Definitions.{players, MayPump, HasReplica, StandsQuiet, IsGoneQuiet, IsAtRest, RisesAt, Rows}
+use Rattle.sc_following_law.specs.Definitions.{Course, marks_of, IsLeadOf}
+use Rattle.sc_calm_rows_law.specs.Definitions.{marks_at, progress_at}
+use Rattle.sc_calm_groups_law.specs.Definitions.{NodesKeepTops, NodesAreBornTopped, QuietGroupsAreLed, IsLedQuietly}
+use Rattle.sc_calm_logs_law.specs.Definitions.{logged_sets}
+use Rattle.sc_calm_answers_law.specs.Definitions.{over_at, state_at, tellers_at, replicas_at, SawNoMore, QuietGroupsStand, QuietGroupsAreGone, QuietReplicasRest, QuietReplicasAreKept, IsSentThrough, SentReplicas, IsQuietFront, IsKnownGroup, IsFoundFront, FrontsAreFound, QuietFrontsHaveGroups, QuietLogsAreExecuted, FrontsAreKnown, FrontsAreReachable, FrontsAreTakenIn, FrontsAreLinked, StillFrontsAreFree, AreAllFree, FrontsAreNoted, QuietHintsRise, RoundsAreSeen, NoMailForStrangers, FrontsAreThere, FrontsHaveMembers, RestsAt, EndsQuietly, QuietFrontsRest}
 use Rattle.sc_calm_answers_law.proofs.Facts.{even, has_one}
-use Rattle.sc_calm_answers_law.specs.SentJournals.{IsSentThrough, SentReplicas}
-use Rattle.sc_budget_law.specs.AskingQuiet.{replicas_after, IsQuietJournal}
-use Rattle.sc_budget_law.specs.AtRest.{IsKept}
-use Rattle.sc_calm_answers_law.specs.KnownFronts.{IsQuietFront, IsKnownGroup, IsFoundFront, FrontsAreFound, QuietFrontsHaveGroups, QuietLogsAreExecuted}
-use Rattle.sc_calm_answers_law.specs.Known.{FrontsAreKnown, FrontsAreReachable, FrontsAreTakenIn, FrontsAreLinked, StillFrontsAreFree}
-use Rattle.sc_calm_answers_law.specs.Links.{AreAllFree}
-use Rattle.sc_calm_answers_law.specs.Noted.{FrontsAreNoted}
-use Rattle.sc_calm_answers_law.specs.Hinting.{QuietHintsRise}
-use Rattle.sc_calm_answers_law.specs.RiseRounds.{RoundsAreSeen}
-use Rattle.sc_calm_answers_law.specs.Strangers.{NoMailForStrangers}
-use Rattle.sc_calm_answers_law.specs.There.{FrontsAreThere, FrontsHaveMembers}
+use Rattle.sc_budget_law.specs.Definitions.{replicas_after, IsQuietJournal, IsKept}
 use Rattle.sc_calm_answers_law.proofs.Known.{newest_state}
-use Rattle.sc_calm_answers_law.specs.Resting.{RestsAt}
 use Rattle.sc_calm_answers_law.proofs.BetweenRequests.{front_timely}
-use Rattle.sc_calm_answers_law.specs.OverEnding.{EndsQuietly, QuietFrontsRest}
 use Rattle.sc_calm_answers_law.proofs.Viewing.{stands_as, gone_as}
 use Rattle.sc_calm_answers_law.proofs.Desk.{desk_marks}
 use Rattle.sc_calm_answers_law.proofs.Nodes.{node_value}

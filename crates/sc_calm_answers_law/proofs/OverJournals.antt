@@ -1,32 +1,20 @@
 -- A quiet front of a calm journal rests, where its players are as a quiet journal asks it.
 use Rattle.std.proofs.Common.{◌≡◌, ◌⊎◌, inl, inr, ℕ, Bool, true, false, cond, List, [], ◌∷◌, Option, Some, None, refl, ◌∙◌, ap}
 use Rattle.std.specs.Prelude.{nat_le}
-use Rattle.sc_base.specs.declared.names.Draw.{Draw}
-use Rattle.sc_cmd.specs.declared.cores.Base.{Base}
-use Rattle.sc_cmd.specs.declared.orders.OrderLine.{OrderLine}
-use Rattle.sc_mail.specs.declared.bodies.Mail.{Mail}
-use Rattle.sc_actor.specs.Mail.{mails, copies}
-use Rattle.sc_actor.specs.System.{System, numbers_of}
-use Rattle.sc_orderly_law.proofs.InTime.{in_time_tidy}
-use Rattle.sc_orderly_law.proofs.Resting.{quiet-empty}
+use Rattle.sc_node_table.specs.Values.{Draw, Base, OrderLine, Mail}
+use Rattle.sc_actor.specs.Definitions.{mails, copies, System, numbers_of}
+use Rattle.sc_orderly_law.proofs.Lemmas.{in_time_tidy, quiet-empty}
 use Rattle.sc_scenario.specs.declared.scenarios.Scenario.{Scenario}
-use Rattle.sc_node_table.specs.Replica.{ReplicaState, next}
-use Rattle.sc_sound.specs.Players.{Player, births, as_nodes}
-use Rattle.sc_calm_law.specs.Charts.{players}
-use Rattle.sc_calm_law.specs.Quiet.{IsAtRest}
-use Rattle.sc_calm_law.specs.Totals.{Rows}
-use Rattle.sc_calm_orders_law.specs.Parts.{bond_in, errands_for}
-use Rattle.sc_calm_orders_law.specs.Scenes.{Bond, Unbound, Work, Errand, Here, free}
-use Rattle.sc_calm_orders_law.specs.Stages.{Still, IsAt}
-use Rattle.sc_calm_rows_law.specs.Groups.{view_at}
-use Rattle.sc_calm_scenes_law.specs.Scenes.{later, newest_of, lead_of, bond_there, bond_by, works_of, work_at, left_after, scene_at}
-use Rattle.sc_calm_scenes_law.proofs.Over.{none_left}
-use Rattle.sc_calm_answers_law.specs.KnownFronts.{IsQuietFront, FrontsAreFound}
+use Rattle.sc_node_table.specs.Definitions.{ReplicaState, next}
+use Rattle.sc_sound.specs.Definitions.{Player, births, as_nodes}
+use Rattle.sc_calm_law.specs.Definitions.{players, IsAtRest, Rows}
+use Rattle.sc_calm_orders_law.specs.Definitions.{bond_in, errands_for, Bond, Unbound, Work, Errand, Here, free, Still, IsAt}
+use Rattle.sc_calm_rows_law.specs.Definitions.{view_at}
+use Rattle.sc_calm_scenes_law.specs.Definitions.{later, newest_of, lead_of, bond_there, bond_by, works_of, work_at, left_after, scene_at}
+use Rattle.sc_calm_scenes_law.proofs.Lemmas.{none_left}
+use Rattle.sc_calm_answers_law.specs.Definitions.{IsQuietFront, FrontsAreFound, RestsAt, QuietFrontsRest, RestsBesides, QuietJournalsRest}
 use Rattle.sc_calm_answers_law.proofs.BetweenRequests.{front_timely}
-use Rattle.sc_budget_law.specs.AskingQuiet.{IsQuietJournal, replicas_after}
-use Rattle.sc_calm_answers_law.specs.Resting.{RestsAt}
-use Rattle.sc_calm_answers_law.specs.OverEnding.{QuietFrontsRest}
-use Rattle.sc_calm_answers_law.specs.OverJournals.{RestsBesides, QuietJournalsRest}
+use Rattle.sc_budget_law.specs.Definitions.{IsQuietJournal, replicas_after}
 use Rattle.sc_calm_answers_law.proofs.KeptTelling.{no_works}
 
 -- ---- replicas that rest

@@ -1,21 +1,14 @@
 -- A quiet front of a calm journal rests, since whose last quiet front clients asked alone.
 use Rattle.std.proofs.Common.{◌++◌}
-use Rattle.sc_orderly_law.proofs.InTime.{in_time_tidy}
-use Rattle.sc_orderly_law.proofs.Resting.{quiet-empty}
-use Rattle.sc_scenario.specs.Valid.{ValidScenariosAreBounded}
-use Rattle.sc_sound.specs.Players.{births, as_nodes}
-use Rattle.sc_calm_law.specs.Charts.{players}
-use Rattle.sc_calm_charts_law.specs.Charting.{chart_at}
-use Rattle.sc_budget_law.specs.AskingQuiet.{QuietJournalsAsk}
-use Rattle.sc_calm_answers_law.specs.OneLog.{LawfulLinesLeaveQuiet}
-use Rattle.sc_calm_answers_law.specs.Cuts.{QuietGroupsHaveCuts}
-use Rattle.sc_calm_answers_law.specs.Round.{StandingGroupsAreRound}
-use Rattle.sc_calm_answers_law.specs.Settings.{frames_after, QuietJournalsHaveFrames, QuietSettingsAreLinked}
-use Rattle.sc_calm_answers_law.specs.KnownFronts.{FrontsAreFound}
-use Rattle.sc_calm_answers_law.specs.KeptRising.{ChartHintsRise}
+use Rattle.sc_orderly_law.proofs.Lemmas.{in_time_tidy, quiet-empty}
+use Rattle.sc_scenario.specs.Definitions.{ValidScenariosAreBounded}
+use Rattle.sc_sound.specs.Definitions.{births, as_nodes}
+use Rattle.sc_calm_law.specs.Definitions.{players}
+use Rattle.sc_calm_charts_law.specs.Definitions.{chart_at}
+use Rattle.sc_budget_law.specs.Definitions.{QuietJournalsAsk}
+use Rattle.sc_calm_answers_law.specs.Definitions.{LawfulLinesLeaveQuiet, QuietGroupsHaveCuts, StandingGroupsAreRound, frames_after, QuietJournalsHaveFrames, QuietSettingsAreLinked, FrontsAreFound, ChartHintsRise, QuietJournalsRest, RequestsLeaveResting}
 use Rattle.sc_calm_answers_law.proofs.BetweenRequests.{front_timely}
 use Rattle.sc_calm_answers_law.proofs.Setting as quiet_of
-use Rattle.sc_calm_answers_law.specs.OverJournals.{QuietJournalsRest, RequestsLeaveResting}
 
 pub requests_leave_resting : ValidScenariosAreBounded → QuietJournalsHaveFrames → ChartHintsRise → QuietJournalsAsk → QuietGroupsHaveCuts → StandingGroupsAreRound → QuietSettingsAreLinked → LawfulLinesLeaveQuiet → FrontsAreFound → QuietJournalsRest → RequestsLeaveResting
 requests_leave_resting all_bounded frames_law rise_law ask_law cuts_law round_law linked_law leave_law found_law rest_law words scenario first others far sent journal quiet after groups rests known asked q besides =

@@ -1,20 +1,15 @@
 -- What the parties of an order are, by what they executed since the quiet before it.
 use Rattle.std.proofs.Common.{◌≡◌, ℕ, Bool, false, List, [], ◌∷◌, Some, ◌∙◌, ap}
-use Rattle.sc_base.specs.declared.names.Draw.{Draw}
-use Rattle.sc_cmd.specs.declared.commands.Command.{Command}
-use Rattle.sc_cmd.specs.declared.cores.Lock.TheVariants.{Free}
-use Rattle.sc_actor.specs.declared.actors.Seat.{Seat}
-use Rattle.sc_actor.specs.System.{numbers_of}
-use Rattle.sc_machine_table.specs.Group.{Group}
-use Rattle.sc_machine_table.specs.Logs.{state_after}
-use Rattle.sc_node_table.specs.Replica.{ReplicaState}
-use Rattle.sc_sound.specs.Players.{Player}
-use Rattle.sc_calm_law.specs.Totals.{Rows}
-use Rattle.sc_calm_orders_law.specs.Parts.{bond_of}
-use Rattle.sc_calm_orders_law.specs.Scenes.{Asking, Bound, Turn, First, Lone, Next}
-use Rattle.sc_calm_rows_law.specs.Groups.{view_at}
-use Rattle.sc_calm_scenes_law.specs.Scenes.{bond_by, bond_there, scene_at}
-use Rattle.sc_calm_answers_law.specs.Deeds.{AreDeeds, Promising, Voting, opened}
+use Rattle.sc_node_table.specs.Values.{Draw, Command, Free, Seat}
+use Rattle.sc_actor.specs.Definitions.{numbers_of}
+use Rattle.sc_machine_table.specs.Definitions.{Group, state_after}
+use Rattle.sc_node_table.specs.Definitions.{ReplicaState}
+use Rattle.sc_sound.specs.Definitions.{Player}
+use Rattle.sc_calm_law.specs.Definitions.{Rows}
+use Rattle.sc_calm_orders_law.specs.Definitions.{bond_of, Asking, Bound, Turn, First, Lone, Next}
+use Rattle.sc_calm_rows_law.specs.Definitions.{view_at}
+use Rattle.sc_calm_scenes_law.specs.Definitions.{bond_by, bond_there, scene_at}
+use Rattle.sc_calm_answers_law.specs.Definitions.{AreDeeds, Promising, Voting, opened}
 use Rattle.sc_calm_answers_law.proofs.Opened.{HasBoth, IsBoundBy, IsOpened, both_by, opened_by, voted_by}
 
 -- the bond of a group that is led, by its leader

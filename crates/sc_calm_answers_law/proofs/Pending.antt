@@ -1,29 +1,19 @@
 -- Of which stage an errand is that is delivered.
 use Rattle.std.proofs.Common.{◌≡◌, ℕ, Bool, List, [], ◌∷◌, ◌++◌, Some, inl, inr, refl, sym, ◌∙◌, ap, subst}
 use Rattle.std.proofs.lemmas.Bool.{cond-true}
-use Rattle.sc_base.specs.Among.{Among}
-use Rattle.sc_base.specs.Same.{same_draw}
-use Rattle.sc_base.specs.declared.names.Draw.{Draw}
-use Rattle.sc_base.proofs.NameLemmas.{same_name}
-use Rattle.sc_mail.specs.declared.bodies.Mail.{Mail}
-use Rattle.sc_actor.specs.declared.actors.Seat.{Seat}
-use Rattle.sc_actor.specs.declared.rows.Event.TheVariants.{Deliver}
-use Rattle.sc_actor.specs.Mail.{mails, numbered}
-use Rattle.sc_actor.specs.System.{row_of}
-use Rattle.sc_orderly_law.specs.Timely.{AreInTime}
-use Rattle.sc_orderly_law.proofs.InTime.{last_in_time}
-use Rattle.sc_sound.specs.Players.{Player, player_table}
-use Rattle.sc_calm_law.specs.Charts.{players}
-use Rattle.sc_calm_law.specs.Totals.{Rows}
-use Rattle.sc_calm_orders_law.specs.Parts.{errand_by, errand_for, errands_for}
-use Rattle.sc_calm_orders_law.specs.Scenes.{Turn, Errand, Question, Elsewhere, Reply, Result, Scene}
-use Rattle.sc_calm_orders_law.specs.Stages.{Asks, Closes, ClosesBoth, Deal, IsAt, Leg, Ordered, Recorded, Replied, SentOn, Stage, Still, Weighs, closing, parties_of}
-use Rattle.sc_calm_orders_law.proofs.Lists.{among-left, among-right, found, tagged, tokens}
-use Rattle.sc_calm_orders_law.proofs.Moves.{closing-errand, errands_of, no-errand}
-use Rattle.sc_calm_rows_law.specs.Turns.{with_event}
-use Rattle.sc_calm_scenes_law.specs.Scenes.{left_after, scene_at}
-use Rattle.sc_calm_scenes_law.proofs.Left.{errands-append, takes_one}
-use Rattle.sc_calm_scenes_law.proofs.Turning.{calm_is}
+use Rattle.sc_base.specs.Definitions.{Among, same_draw}
+use Rattle.sc_node_table.specs.Values.{Draw, Mail, Seat, Deliver}
+use Rattle.sc_base.proofs.Lemmas.{same_name}
+use Rattle.sc_actor.specs.Definitions.{mails, numbered, row_of}
+use Rattle.sc_orderly_law.specs.Definitions.{AreInTime}
+use Rattle.sc_orderly_law.proofs.Lemmas.{last_in_time}
+use Rattle.sc_sound.specs.Definitions.{Player, player_table}
+use Rattle.sc_calm_law.specs.Definitions.{players, Rows}
+use Rattle.sc_calm_orders_law.specs.Definitions.{errand_by, errand_for, errands_for, Errand, Question, Elsewhere, Reply, Result, Scene, Asks, Closes, ClosesBoth, Deal, IsAt, Leg, Ordered, Recorded, Replied, SentOn, Stage, Still, Weighs, closing, parties_of}
+use Rattle.sc_calm_orders_law.proofs.Lemmas.{among-left, among-right, found, tagged, tokens, closing-errand, errands_of, no-errand}
+use Rattle.sc_calm_rows_law.specs.Definitions.{with_event}
+use Rattle.sc_calm_scenes_law.specs.Definitions.{left_after, scene_at}
+use Rattle.sc_calm_scenes_law.proofs.Lemmas.{errands-append, takes_one, calm_is}
 
 -- ---- mail
 

@@ -4,46 +4,20 @@ use Rattle.std.specs.Prelude.{is_some}
 use Rattle.std.specs.Option.{option_map}
 use Rattle.std.specs.List.{filter, list_any}
 use Rattle.std.proofs.lemmas.Bool.{cond_both, and_parts}
-use Rattle.sc_base.specs.Among.{Among, Each}
-use Rattle.sc_base.specs.declared.names.Ballot.{Ballot}
-use Rattle.sc_base.specs.declared.names.Draw.{Draw}
-use Rattle.sc_cmd.specs.declared.commands.Command.{Command}
-use Rattle.sc_cmd.specs.declared.commands.Command.TheVariants.{Call}
-use Rattle.sc_cmd.specs.declared.cores.Base.{Base}
-use Rattle.sc_cmd.specs.declared.effects.Effect.{Effect}
-use Rattle.sc_cmd.specs.declared.links.Route.{Route}
-use Rattle.sc_cmd.specs.declared.orders.ToldResult.{ToldResult}
-use Rattle.sc_mail.specs.declared.bodies.AnswerBody.{AnswerBody}
+use Rattle.sc_base.specs.Definitions.{Among, Each, is_member, least_of}
+use Rattle.sc_node_table.specs.Values.{Ballot, Draw, Command, Call, Base, Effect, Route, ToldResult, AnswerBody, Mail, Prepare, Accept, Learn, Install, Must, Flight, Report}
 use Rattle.sc_mail.specs.declared.bodies.AnswerBody.TheVariants as Answers
-use Rattle.sc_mail.specs.declared.bodies.Mail.{Mail}
-use Rattle.sc_mail.specs.declared.bodies.MailBody.TheVariants.{Prepare, Accept, Learn, Install}
-use Rattle.sc_base.specs.Roster.{is_member, least_of}
-use Rattle.sc_hist_law.proofs.Logs.{applied_same}
-use Rattle.sc_machine_table.specs.Children.{child_by}
-use Rattle.sc_machine_table.specs.Group.{Group, base_of}
-use Rattle.sc_machine_table.specs.Machine.{applied}
-use Rattle.sc_names_law.specs.Names.{Opt}
-use Rattle.sc_names_law.proofs.Lists.{opt_find, opt_map, opt_either, opt_slot, slot_without, flight_without}
-use Rattle.sc_paxos_law.proofs.Among.{among-member}
-use Rattle.sc_paxos_words.specs.declared.answers.Must.{Must}
+use Rattle.sc_hist_law.proofs.Lemmas.{applied_same}
+use Rattle.sc_machine_table.specs.Definitions.{child_by, Group, base_of, applied}
+use Rattle.sc_names_law.specs.Definitions.{Opt}
+use Rattle.sc_names_law.proofs.Lemmas.{opt_find, opt_map, opt_either, opt_slot, slot_without, flight_without}
+use Rattle.sc_paxos_law.proofs.Lemmas.{among-member}
 use Rattle.sc_paxos_words.specs.declared.answers.Must.TheVariants.{Free as Open}
-use Rattle.sc_paxos_words.specs.declared.flights.Flight.{Flight}
-use Rattle.sc_paxos_words.specs.declared.reports.Report.{Report}
-use Rattle.sc_paxos_words.specs.Ballots.{below}
-use Rattle.sc_paxos_words.specs.Leaders.{LeaderState, must, must_without, flight_at, without_flight_at}
-use Rattle.sc_paxos_words.specs.Choice.{names_above, chosen_value}
-use Rattle.sc_paxos_words.proofs.ListLemmas.{Each-append}
-use Rattle.sc_node_table.specs.Election.{open_nodes, elected, ended, stopped, saw}
-use Rattle.sc_node_table.specs.Execute.{entered, answer_of, told_call, order_result, told_effect, announced, learnt_to, welcomed, slot_lost, landed, left_gone, left, is_among, looked_for, looked, executed_one, child_at, next_child, has_room, next_ready, ending, executed_ready, executed}
-use Rattle.sc_node_table.specs.Install.{install_to, asked_to_promise, welcomed_all}
-use Rattle.sc_node_table.specs.Mails.{sent, answered_all, sent_others, order_number}
-use Rattle.sc_node_table.specs.Pump.{Found, is_act, next_call, from_calls, from_acts, from_queues, found_by, found_for, offered, pumped_from, pumped}
-use Rattle.sc_node_table.specs.Replica.{ReplicaState, Place, Executed, childless, name_of, next, members, flying, settled, may_offer, first_set, listed, taken_at, taken_from, under_way, is_idle, open_slots, last_slot, forgotten}
-use Rattle.sc_node_table.specs.Slots.{at_slot, without_slot}
-use Rattle.sc_node_table.specs.Spoken.{before_of, spoken}
+use Rattle.sc_paxos_words.specs.Definitions.{below, LeaderState, must, must_without, flight_at, without_flight_at, names_above, chosen_value}
+use Rattle.sc_paxos_words.proofs.Lemmas.{Each-append}
+use Rattle.sc_node_table.specs.Definitions.{open_nodes, elected, ended, stopped, saw, entered, answer_of, told_call, order_result, told_effect, announced, learnt_to, welcomed, slot_lost, landed, left_gone, left, is_among, looked_for, looked, executed_one, child_at, next_child, has_room, next_ready, ending, executed_ready, executed, install_to, asked_to_promise, welcomed_all, sent, answered_all, sent_others, order_number, Found, is_act, next_call, from_calls, from_acts, from_queues, found_by, found_for, offered, pumped_from, pumped, ReplicaState, Place, Executed, childless, name_of, next, members, flying, settled, may_offer, first_set, listed, taken_at, taken_from, under_way, is_idle, open_slots, last_slot, forgotten, at_slot, without_slot, before_of, spoken}
 use Rattle.sc_node_table.specs.declared.Before.{Before}
-use Rattle.sc_law_lemmas.proofs.Places.{executed_place}
-use Rattle.sc_law_lemmas.proofs.Ways.{either_way}
+use Rattle.sc_law_lemmas.proofs.Lemmas.{executed_place, either_way}
 use Rattle.sc_calm_answers_law.proofs.Affairs.{Affair, AreGood}
 use Rattle.sc_calm_answers_law.proofs.WorkSaying.{one_sent, all_sent, others_sent, desk_told, all_answered, none_dismissed, spoken_said}
 

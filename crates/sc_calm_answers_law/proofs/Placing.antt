@@ -1,35 +1,23 @@
 -- Each replica that a player has is seen at that player, by its group's name.
 use Rattle.std.proofs.Common.{◌≡◌, ℕ, ◌≤◌, eqb, cond, true, false, Bool, List, [], ◌∷◌, ◌++◌, map, Option, Some, None, inl, inr, refl, sym, ◌∙◌, ap, subst, arith}
-use Rattle.sc_base.specs.Among.{Among}
-use Rattle.sc_cmd.specs.declared.cores.Base.{Base}
-use Rattle.sc_cmd.specs.declared.orders.OrderLine.{OrderLine}
-use Rattle.sc_mail.specs.declared.bodies.Mail.{Mail}
-use Rattle.sc_mail.specs.declared.roles.Role.TheVariants.{Client}
-use Rattle.sc_actor.specs.declared.actors.Seat.{Seat}
-use Rattle.sc_actor.specs.declared.rows.Input.{Input}
-use Rattle.sc_actor.specs.Replay.{value, acted, replay, input_of}
-use Rattle.sc_client_table.specs.Client.{Client as ClientState, born_client}
-use Rattle.sc_cmd.specs.declared.links.Route.{Route}
-use Rattle.sc_base.specs.Limits.{client_actor}
-use Rattle.sc_client_table.specs.Table.{table}
-use Rattle.sc_scenario.specs.Valid.{IsValid, ValidScenariosAreBounded}
+use Rattle.sc_base.specs.Definitions.{Among, client_actor}
+use Rattle.sc_node_table.specs.Values.{Base, OrderLine, Mail, Client, Seat, Input, Route}
+use Rattle.sc_actor.specs.Definitions.{value, acted, replay, input_of}
+use Rattle.sc_client_table.specs.Definitions.{Client as ClientState, born_client, table}
+use Rattle.sc_scenario.specs.Definitions.{IsValid, ValidScenariosAreBounded}
 use Rattle.sc_scenario.specs.declared.scenarios.Asks.{Asks}
 use Rattle.sc_scenario.specs.declared.scenarios.Scenario.{Scenario}
-use Rattle.sc_node_table.specs.Node.{replica_of, born_node}
-use Rattle.sc_node_table.specs.Replica.{ReplicaState, name_of}
-use Rattle.sc_node_table.specs.Slots.{numbers_from, slots_ahead}
-use Rattle.sc_sound.specs.Players.{Player, player_table, births, as_nodes, node_seat, client_seat, client_seats, route_of, Lawful}
-use Rattle.sc_calm_law.specs.Totals.{Rows}
-use Rattle.sc_calm_rows_law.specs.Groups.{view_at}
-use Rattle.sc_calm_answers_law.specs.Starts.{LawfulReplicasAreNamedOnce}
-use Rattle.sc_calm_charts_law.specs.Charting.{replicas_of as chart_replicas, all_replicas}
-use Rattle.sc_calm_answers_law.specs.Settings.{AreAtNodes}
-use Rattle.sc_budget_law.specs.AskingQuiet.{replicas_after}
-use Rattle.sc_budget_law.proofs.BetweenSteps.{in_numbers}
-use Rattle.sc_calm_answers_law.specs.Viewing.{ViewsAgree}
+use Rattle.sc_node_table.specs.Definitions.{replica_of, born_node, ReplicaState, name_of, numbers_from, slots_ahead}
+use Rattle.sc_sound.specs.Definitions.{Player, player_table, births, as_nodes, node_seat, client_seat, client_seats, route_of, Lawful}
+use Rattle.sc_calm_law.specs.Definitions.{Rows}
+use Rattle.sc_calm_rows_law.specs.Definitions.{view_at}
+use Rattle.sc_calm_answers_law.specs.Definitions.{LawfulReplicasAreNamedOnce, AreAtNodes, ViewsAgree}
+use Rattle.sc_calm_charts_law.specs.Definitions.{replicas_of as chart_replicas, all_replicas}
+use Rattle.sc_budget_law.specs.Definitions.{replicas_after}
+use Rattle.sc_budget_law.proofs.Lemmas.{in_numbers}
 use Rattle.sc_calm_answers_law.proofs.Nodes.{node_replays}
 use Rattle.sc_calm_answers_law.proofs.Following.{split_among}
-use Rattle.sc_paxos_law.proofs.Among.{from_map}
+use Rattle.sc_paxos_law.proofs.Lemmas.{from_map}
 use Rattle.sc_calm_answers_law.proofs.Frames.{found_once, nodes_numbered}
 
 -- ---- a client stays a client

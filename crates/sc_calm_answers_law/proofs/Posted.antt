@@ -1,14 +1,8 @@
 -- Whose offers and watches are sent.
 use Rattle.std.proofs.Common.{List, subst, sym, ℕ, ◌∙◌, ◌≡◌}
-use Rattle.sc_actor.specs.declared.actors.Seat.{Seat}
-use Rattle.sc_base.specs.declared.names.Draw.{Draw}
-use Rattle.sc_calm_mail_law.specs.Posted.{IsClientsBody, IsNodesBody, IsPlayers, IsPosted}
-use Rattle.sc_cmd.specs.declared.bodies.Offer.{Offer}
-use Rattle.sc_cmd.specs.declared.bodies.Watch.{Watch}
-use Rattle.sc_mail.specs.declared.bodies.Mail.{Mail}
-use Rattle.sc_mail.specs.declared.bodies.MailBody.TheVariants.{TxPrepare, TxWatch}
-use Rattle.sc_mail.specs.declared.roles.Role.TheVariants.{Client, Node}
-use Rattle.sc_sound.specs.Players.{Player}
+use Rattle.sc_node_table.specs.Values.{Seat, Draw, Offer, Watch, Mail, TxPrepare, TxWatch, Client, Node}
+use Rattle.sc_calm_mail_law.specs.Definitions.{IsClientsBody, IsNodesBody, IsPlayers, IsPosted}
+use Rattle.sc_sound.specs.Definitions.{Player}
 
 offer_by : (who : ℕ) (player : Player) (mail : Mail) (tx : Draw) (offer : Offer) → mail.body ≡ TxPrepare tx offer → mail.from ≡ who → IsPlayers who player mail → offer.by ≡ mail.from
 offer_by who (Node node) mail tx offer e from p = (let own : IsNodesBody who mail.to (TxPrepare tx offer) = subst (IsNodesBody who mail.to) e p in own ∙ sym from)

@@ -2,13 +2,10 @@
 use Rattle.std.proofs.Common.{◌≡◌, ℕ, ◌+◌, ◌&&◌, nat_le, Bool, true, false, cond, List, [], ◌∷◌, Option, Some, None, refl, ◌∙◌, ap}
 use Rattle.std.specs.Prelude.{is_some}
 use Rattle.std.specs.List.{list_any}
-use Rattle.sc_cmd.specs.declared.commands.Command.{Command}
-use Rattle.sc_paxos_words.specs.Logs.{LogState, next_of}
-use Rattle.sc_paxos_words.specs.declared.answers.Must.{Must}
-use Rattle.sc_paxos_words.specs.declared.answers.Must.TheVariants.{Value, Gap, Free as Open}
-use Rattle.sc_paxos_words.specs.Leaders.{must}
-use Rattle.sc_node_table.specs.Pump.{Found, is_act, from_calls, from_acts, from_queues, found_by, found_for, offered, pumped_from, pumped}
-use Rattle.sc_node_table.specs.Replica.{Place, next, settled, may_offer, taken_at, under_way, is_idle, last_slot}
+use Rattle.sc_node_table.specs.Values.{Command, Must, Gap}
+use Rattle.sc_paxos_words.specs.Definitions.{LogState, next_of, must}
+use Rattle.sc_paxos_words.specs.declared.answers.Must.TheVariants.{Value, Free as Open}
+use Rattle.sc_node_table.specs.Definitions.{Found, is_act, from_calls, from_acts, from_queues, found_by, found_for, offered, pumped_from, pumped, Place, next, settled, may_offer, taken_at, under_way, is_idle, last_slot}
 
 -- the log of a place
 abbrev log_of : Place → LogState Command

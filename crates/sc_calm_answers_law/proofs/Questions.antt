@@ -1,12 +1,9 @@
 -- What a stage says of a question, and of one that is sent elsewhere.
 use Rattle.std.proofs.Common.{◌≡◌, ℕ, Bool, List, [], ◌++◌, inl, inr, refl}
-use Rattle.sc_base.specs.Among.{Among}
-use Rattle.sc_base.specs.declared.names.Draw.{Draw}
-use Rattle.sc_calm_orders_law.specs.Scenes.{is_watch, Errand, Question, Elsewhere, Reply, Result, Here, Scene}
-use Rattle.sc_calm_orders_law.specs.Stages.{Deal, Leg, closing, parties_of, Stage, Still, Ordered, Asks, SentOn, Weighs, Replied, Recorded, Closes, ClosesBoth, IsAt}
-use Rattle.sc_calm_orders_law.proofs.Begun.{first, second}
-use Rattle.sc_calm_orders_law.proofs.Lists.{tokens, tagged, found}
-use Rattle.sc_calm_orders_law.proofs.Moves.{no-errand, closing-errand}
+use Rattle.sc_base.specs.Definitions.{Among}
+use Rattle.sc_node_table.specs.Values.{Draw}
+use Rattle.sc_calm_orders_law.specs.Definitions.{is_watch, Errand, Question, Elsewhere, Reply, Result, Here, Scene, Deal, Leg, closing, parties_of, Stage, Still, Ordered, Asks, SentOn, Weighs, Replied, Recorded, Closes, ClosesBoth, IsAt}
+use Rattle.sc_calm_orders_law.proofs.Lemmas.{first, second, tokens, tagged, found, no-errand, closing-errand}
 
 abbrev errands_of : Here → List Errand
 errands_of h = h.errands

@@ -1,40 +1,20 @@
 -- A line of requests leaves a quiet journal.
 use Rattle.std.proofs.Common.{◌≡◌, ℕ, Bool, true, false, List, [], ◌∷◌, ◌++◌, length, map, ◌⊎◌, inl, inr, refl, sym, ◌∙◌, ap, subst, append-nil}
 use Rattle.std.proofs.lemmas.Bool.{both_ways}
-use Rattle.sc_base.specs.Among.{Among, Each}
-use Rattle.sc_base.specs.Limits.{client_actor}
-use Rattle.sc_base.specs.declared.names.Draw.{Draw}
-use Rattle.sc_cmd.specs.declared.cores.Base.{Base}
-use Rattle.sc_mail.specs.declared.bodies.Mail.{Mail}
-use Rattle.sc_mail.specs.declared.roles.Role.TheVariants.{Node, Client}
-use Rattle.sc_base.specs.Roster.{least_of}
-use Rattle.sc_actor.specs.Replay.{value}
-use Rattle.sc_actor.specs.System.{has_gone}
-use Rattle.sc_client_table.specs.Client.{Client as ClientState, born_client}
-use Rattle.sc_paxos_words.proofs.ListLemmas.{Each-among}
+use Rattle.sc_base.specs.Definitions.{Among, Each, client_actor, least_of}
+use Rattle.sc_node_table.specs.Values.{Draw, Base, Mail, Node, Client}
+use Rattle.sc_actor.specs.Definitions.{value, has_gone}
+use Rattle.sc_client_table.specs.Definitions.{Client as ClientState, born_client}
+use Rattle.sc_paxos_words.proofs.Lemmas.{Each-among}
 use Rattle.sc_scenario.specs.declared.scenarios.Asks.{Asks}
 use Rattle.sc_scenario.specs.declared.scenarios.Scenario.{Scenario}
-use Rattle.sc_scenario.specs.Valid.{ValidScenariosAreBounded}
-use Rattle.sc_sound.specs.Players.{Player, player_table, client_seat, route_of, system_of, as_nodes}
-use Rattle.sc_orderly_law.specs.Orderly.{rest, is_born}
-use Rattle.sc_calm_law.specs.Owed.{Ways}
-use Rattle.sc_calm_law.specs.Quiet.{StandsQuiet, IsGoneQuiet, IsAnswered}
-use Rattle.sc_budget_law.specs.Asking.{IsAsking}
-use Rattle.sc_budget_law.specs.AskingLines.{AreSeated, NobodyWaits, HaveAllReplies}
-use Rattle.sc_budget_law.specs.AskingQuiet.{replicas_after, setting_at, AreFramesOf, IsQuietJournal}
-use Rattle.sc_budget_law.specs.AtRest.{frame_at_rest}
-use Rattle.sc_budget_law.specs.Between.{Other, mark}
-use Rattle.sc_budget_law.specs.CalmNode.{Setting, IsSetting}
-use Rattle.sc_budget_law.specs.Frames.{Frame}
-use Rattle.sc_budget_law.specs.PlainClient.{IsBegun}
-use Rattle.sc_budget_law.specs.PlainNode.{IsPlainGroup, IsPlainAt}
-use Rattle.sc_budget_law.proofs.AskingBegins.{quiet_ask}
-use Rattle.sc_budget_law.proofs.AskingLines.{lines_answered}
-use Rattle.sc_budget_law.proofs.BetweenStage.{IsStage, stage}
-use Rattle.sc_budget_law.proofs.BetweenViews.{Journal}
-use Rattle.sc_budget_law.proofs.Lists.{map_among}
-use Rattle.sc_budget_law.proofs.QuietTurns.{client_is}
-use Rattle.sc_calm_answers_law.specs.QuietLines.{HaveOneLog, AreReplicasQuiet, LinesLeaveQuiet}
+use Rattle.sc_scenario.specs.Definitions.{ValidScenariosAreBounded}
+use Rattle.sc_sound.specs.Definitions.{Player, player_table, client_seat, route_of, system_of, as_nodes}
+use Rattle.sc_orderly_law.specs.Definitions.{rest, is_born}
+use Rattle.sc_calm_law.specs.Definitions.{Ways, StandsQuiet, IsGoneQuiet, IsAnswered}
+use Rattle.sc_budget_law.specs.Definitions.{IsAsking, AreSeated, NobodyWaits, HaveAllReplies, replicas_after, setting_at, AreFramesOf, IsQuietJournal, frame_at_rest, Other, mark, Setting, IsSetting, Frame, IsBegun, IsPlainGroup, IsPlainAt}
+use Rattle.sc_budget_law.proofs.Lemmas.{quiet_ask, lines_answered, IsStage, stage, Journal, map_among, client_is}
+use Rattle.sc_calm_answers_law.specs.Definitions.{HaveOneLog, AreReplicasQuiet, LinesLeaveQuiet}
 use Rattle.sc_calm_answers_law.proofs.EndAll as all_of
 use Rattle.sc_calm_answers_law.proofs.EndStands as ends
 use Rattle.sc_calm_answers_law.proofs.LinesEnd.{line_ends}

@@ -1,25 +1,20 @@
 -- The groups of a scenario have replicas at their first members from birth on.
 use Rattle.std.proofs.Common.{◌≡◌, ℕ, ◌≤◌, true, List, [], ◌∷◌, ◌++◌, length, Some, None, inl, refl, sym, ◌∙◌, ap, subst, append_assoc}
 use Rattle.std.proofs.lemmas.Bool.{cond-true}
-use Rattle.sc_base.specs.Among.{Among}
-use Rattle.sc_cmd.specs.declared.cores.Base.{Base}
-use Rattle.sc_base.specs.Roster.{is_member, least_of}
-use Rattle.sc_orderly_law.specs.Timely.{AreInTime}
-use Rattle.sc_scenario.specs.Valid.{IsBounded, ValidScenariosAreBounded}
+use Rattle.sc_base.specs.Definitions.{Among, is_member, least_of}
+use Rattle.sc_node_table.specs.Values.{Base}
+use Rattle.sc_orderly_law.specs.Definitions.{AreInTime}
+use Rattle.sc_scenario.specs.Definitions.{IsBounded, ValidScenariosAreBounded}
 use Rattle.sc_scenario.specs.declared.scenarios.Scenario.{Scenario}
-use Rattle.sc_node_table.specs.Replica.{born_replica}
-use Rattle.sc_node_table.specs.Slots.{slots_ahead}
-use Rattle.sc_sound.specs.Players.{births, as_nodes}
-use Rattle.sc_calm_law.specs.Charts.{players}
-use Rattle.sc_calm_law.specs.Quiet.{HasReplica}
-use Rattle.sc_log_law.specs.Descent.{Rows}
-use Rattle.sc_following_law.proofs.Leads.{least_in}
-use Rattle.sc_calm_rows_law.proofs.Beginning.{view_born}
-use Rattle.sc_calm_mail_law.proofs.Lasting.{replicas_last}
-use Rattle.sc_budget_law.specs.AskingQuiet.{replicas_after}
-use Rattle.sc_calm_answers_law.specs.Journal.{IsCalmJournal, IsFront}
-use Rattle.sc_calm_answers_law.specs.KnownFronts.{FrontsAreFound}
-use Rattle.sc_calm_answers_law.specs.Reached.{FirstGroupsAreReached}
+use Rattle.sc_node_table.specs.Definitions.{born_replica, slots_ahead}
+use Rattle.sc_sound.specs.Definitions.{births, as_nodes}
+use Rattle.sc_calm_law.specs.Definitions.{players, HasReplica}
+use Rattle.sc_log_law.specs.Definitions.{Rows}
+use Rattle.sc_following_law.proofs.Lemmas.{least_in}
+use Rattle.sc_calm_rows_law.proofs.Lemmas.{view_born}
+use Rattle.sc_calm_mail_law.proofs.Lemmas.{replicas_last}
+use Rattle.sc_budget_law.specs.Definitions.{replicas_after}
+use Rattle.sc_calm_answers_law.specs.Definitions.{IsCalmJournal, IsFront, FrontsAreFound, FirstGroupsAreReached}
 use Rattle.sc_calm_answers_law.proofs.LinkFronts.{of_up_to}
 
 module _ (bounded : ValidScenariosAreBounded) (finds : FrontsAreFound) (words : ℕ → ℕ → ℕ × ℕ) (scenario : Scenario) (journal front : Rows) (calm : IsCalmJournal words scenario journal) (is : IsFront journal front) where

@@ -1,57 +1,27 @@
 -- A vote that a coordinator has in flight is true: what was voted is what the participant had, which fits.
 use Rattle.std.proofs.Common.{◌≡◌, ℕ, ◌≤◌, Bool, true, false, true≢false, List, [], ◌∷◌, Some, None, inl, inr, refl, sym, ◌∙◌, ap, subst}
 use Rattle.std.specs.Prelude.{length, not, ◌&&◌}
-use Rattle.sc_base.specs.Among.{Among, Each}
-use Rattle.sc_base.specs.declared.names.Draw.{Draw}
-use Rattle.sc_base.specs.Arc.{holds}
-use Rattle.sc_actor.specs.declared.actors.Seat.{Seat}
-use Rattle.sc_actor.proofs.WalkLemmas.{lawful-prefix}
-use Rattle.sc_budget_law.specs.AskingQuiet.{replicas_after}
-use Rattle.sc_cmd.specs.Cores.{is_alone}
-use Rattle.sc_cmd.specs.declared.bodies.Body.{Body}
+use Rattle.sc_base.specs.Definitions.{Among, Each, holds, is_member, united}
+use Rattle.sc_node_table.specs.Values.{Draw, Seat, Body, Offer, Command, Noop, Call, Join, Leave, Split, Begin, Prepared, RecordVote, GiveUp, Finish, Watched, RecordWatch, Base, Coordinating, Free, Promised, Frozen, Past, Flight}
+use Rattle.sc_actor.proofs.Lemmas.{lawful-prefix}
+use Rattle.sc_budget_law.specs.Definitions.{replicas_after}
+use Rattle.sc_cmd.specs.Definitions.{is_alone}
 use Rattle.sc_cmd.specs.declared.bodies.Body.TheVariants as At
-use Rattle.sc_cmd.specs.declared.bodies.Offer.{Offer}
-use Rattle.sc_cmd.specs.declared.commands.Command.{Command}
-use Rattle.sc_cmd.specs.declared.commands.Command.TheVariants.{Noop, Call, Join, Leave, Split, Begin, Prepared, RecordVote, GiveUp, Finish, Watched, RecordWatch}
-use Rattle.sc_cmd.specs.declared.cores.Base.{Base}
-use Rattle.sc_cmd.specs.declared.cores.Lock.TheVariants.{Coordinating, Free, Promised}
-use Rattle.sc_cmd.specs.declared.votes.Frozen.{Frozen}
-use Rattle.sc_cmd.specs.declared.votes.Past.{Past}
 use Rattle.sc_cmd.specs.declared.votes.Vote.TheVariants as Vows
-use Rattle.sc_machine_table.specs.Group.{Group}
-use Rattle.sc_machine_table.specs.Orders.{limit_refused}
-use Rattle.sc_machine_table.specs.Plans.{can_migrate, can_repart, frozen_of, has_key_of, may_merge, merged_link, taken}
-use Rattle.sc_machine_table.specs.Transactions.{begun_group, heard_group}
-use Rattle.sc_machine_table.specs.Votes.{vote_of}
-use Rattle.sc_machine_table.specs.Logs.{state_after}
-use Rattle.sc_base.specs.Roster.{is_member}
-use Rattle.sc_base.specs.Union.{united}
-use Rattle.sc_node_table.specs.Replica.{ReplicaState}
-use Rattle.sc_node_table.specs.Spoken.{before_in}
-use Rattle.sc_paxos_words.specs.declared.flights.Flight.{Flight}
-use Rattle.sc_paxos_words.proofs.ListLemmas.{Each-among}
-use Rattle.sc_ring_law.specs.Stories.{offer_with, unsigned, watch_with}
+use Rattle.sc_machine_table.specs.Definitions.{Group, limit_refused, can_migrate, can_repart, frozen_of, has_key_of, may_merge, merged_link, taken, begun_group, heard_group, vote_of, state_after}
+use Rattle.sc_node_table.specs.Definitions.{ReplicaState, before_in}
+use Rattle.sc_paxos_words.proofs.Lemmas.{Each-among}
+use Rattle.sc_ring_law.specs.Definitions.{offer_with, unsigned, watch_with}
 use Rattle.sc_scenario.specs.declared.scenarios.Scenario.{Scenario}
-use Rattle.sc_sound.specs.GroupsOf.{world_at}
-use Rattle.sc_sound.specs.Players.{Lawful, Player, as_nodes, births, schedule, system_of}
-use Rattle.sc_sound.specs.Soundness.{IsOneMap}
-use Rattle.sc_whole_law.specs.Valid.{ValidEntriesAreLogs, ValidJournalsAreSound}
-use Rattle.sc_log_law.specs.Findings.{AreItsLogs}
-use Rattle.sc_calm_law.specs.Quiet.{StandsQuiet}
-use Rattle.sc_calm_law.specs.Totals.{Rows}
-use Rattle.sc_calm_answers_law.specs.Votes.{IsTrueEntry}
-use Rattle.sc_calm_orders_law.specs.Parts.{bond_of, is_cast_yes, turn_of, work_by}
-use Rattle.sc_calm_orders_law.specs.Scenes.{Answers, Asking, Bound, Ends, First, Here, Lone, Next, Records, Turn, Work, is_watch}
-use Rattle.sc_calm_orders_law.specs.Stages.{Deal, IsAt, IsOrder, Recorded, Stage, bound_by, heard, heard_lead}
-use Rattle.sc_calm_rows_law.specs.Groups.{view_at}
-use Rattle.sc_calm_scenes_law.specs.Fresh.{IsThere}
-use Rattle.sc_calm_scenes_law.specs.Scenes.{scene_at}
-use Rattle.sc_calm_scenes_law.proofs.Viewing.{tell}
-use Rattle.sc_calm_answers_law.specs.Deeds.{Doer, HasDone, Promising, doer, heard_doer, opened, voted}
-use Rattle.sc_calm_answers_law.specs.TrueEntries.{LeadsSince}
-use Rattle.sc_calm_answers_law.specs.Recorded.{IsRecord, RecordsAreTrue}
-use Rattle.sc_calm_answers_law.specs.Told.{IsAllowedBy, LockTells, ReplicasTell}
-use Rattle.sc_calm_answers_law.specs.TrueUnder.{IsTrueSince}
+use Rattle.sc_sound.specs.Definitions.{world_at, Lawful, Player, as_nodes, births, schedule, system_of, IsOneMap}
+use Rattle.sc_whole_law.specs.Definitions.{ValidEntriesAreLogs, ValidJournalsAreSound}
+use Rattle.sc_log_law.specs.Definitions.{AreItsLogs}
+use Rattle.sc_calm_law.specs.Definitions.{StandsQuiet, Rows}
+use Rattle.sc_calm_answers_law.specs.Definitions.{IsTrueEntry, Doer, HasDone, Promising, doer, heard_doer, opened, voted, LeadsSince, IsRecord, RecordsAreTrue, IsAllowedBy, LockTells, ReplicasTell, IsTrueSince}
+use Rattle.sc_calm_orders_law.specs.Definitions.{bond_of, is_cast_yes, turn_of, work_by, Answers, Asking, Bound, Ends, First, Here, Lone, Next, Records, Turn, Work, is_watch, Deal, IsAt, IsOrder, Recorded, Stage, bound_by, heard, heard_lead}
+use Rattle.sc_calm_rows_law.specs.Definitions.{view_at}
+use Rattle.sc_calm_scenes_law.specs.Definitions.{IsThere, scene_at}
+use Rattle.sc_calm_scenes_law.proofs.Lemmas.{tell}
 use Rattle.sc_calm_answers_law.proofs.Fits.{Agrees, Meets, gives, merges, migrates, none_of, takes}
 use Rattle.sc_calm_answers_law.proofs.Grants.{lone_true, merge_true, migrate_true, next_true, repart_true}
 use Rattle.sc_calm_answers_law.proofs.Leads.{IsWorkAt, OfOrder, OfOutcome, OfQuestion, OfVote, at_stage, stands_in, was_there}

@@ -3,39 +3,15 @@ use Rattle.std.proofs.Common.{◌≡◌, ℕ, ◌≤◌, ◌&&◌, eqb, not, con
 use Rattle.std.specs.Prelude.{nat_le, nat_lt}
 use Rattle.std.specs.Option.{option_map}
 use Rattle.std.proofs.lemmas.Bool.{cond_both, cond-true, cond-false, lt-leb, le-ltb, eq-eqb}
-use Rattle.sc_base.specs.declared.names.Ballot.{Ballot}
-use Rattle.sc_base.specs.declared.names.Draw.{Draw}
-use Rattle.sc_base.specs.declared.ops.Op.{Op}
-use Rattle.sc_cmd.specs.declared.commands.Command.{Command}
-use Rattle.sc_cmd.specs.declared.commands.Command.TheVariants.{Call}
-use Rattle.sc_cmd.specs.declared.cores.Core.{Core}
-use Rattle.sc_mail.specs.declared.bodies.Mail.{Mail}
-use Rattle.sc_mail.specs.declared.bodies.MailBody.TheVariants.{Accepted}
-use Rattle.sc_base.specs.Roster.{is_member}
-use Rattle.sc_paxos_words.specs.declared.answers.AcceptAnswer.{AcceptAnswer}
+use Rattle.sc_node_table.specs.Values.{Ballot, Draw, Op, Command, Call, Core, Mail, Accepted, AcceptAnswer, Flight, Report}
+use Rattle.sc_base.specs.Definitions.{is_member}
 use Rattle.sc_paxos_words.specs.declared.answers.AcceptAnswer.TheVariants as Asked
-use Rattle.sc_paxos_words.specs.declared.flights.Flight.{Flight}
-use Rattle.sc_paxos_words.specs.declared.reports.Report.{Report}
-use Rattle.sc_paxos_words.specs.Acceptors.{AcceptorState, may_accept, after_accept}
-use Rattle.sc_paxos_words.specs.Accepting.{accepted as accepted_by}
-use Rattle.sc_paxos_words.specs.Ballots.{below}
-use Rattle.sc_paxos_words.specs.Leaders.{flight_at}
-use Rattle.sc_machine_table.specs.Machine.{applied}
-use Rattle.sc_node_table.specs.Election.{saw, stopped}
-use Rattle.sc_node_table.specs.Execute.{entered, executed_one, is_among, all_ready, executed}
-use Rattle.sc_node_table.specs.Install.{install_to}
-use Rattle.sc_node_table.specs.Pump.{pumped}
-use Rattle.sc_node_table.specs.Replica.{ReplicaState, Place, Executed, childless, name_of, next, members, flying, forgotten, last_slot}
-use Rattle.sc_node_table.specs.Rows.{learn_row}
-use Rattle.sc_node_table.specs.Voting.{hinted, accepted_to, took, accept_row}
-use Rattle.sc_law_lemmas.proofs.Entries.{idle_ready, idle_pump}
-use Rattle.sc_law_lemmas.proofs.Places.{cleared}
-use Rattle.sc_budget_law.specs.Frames.{Frame, IsFrame}
-use Rattle.sc_budget_law.specs.PlainMail.{Requests, IsPlainCall}
-use Rattle.sc_budget_law.specs.PlainNode.{IsPlainFollower, IsPlainVoter, IsPlainReplica}
-use Rattle.sc_budget_law.proofs.Entry.{learnt_call}
-use Rattle.sc_budget_law.proofs.Sends.{mail_of}
-use Rattle.sc_budget_law.proofs.Served.{IsServed, call_plain}
+use Rattle.sc_paxos_words.specs.Definitions.{AcceptorState, may_accept, after_accept, accepted as accepted_by, below, flight_at}
+use Rattle.sc_machine_table.specs.Definitions.{applied}
+use Rattle.sc_node_table.specs.Definitions.{saw, stopped, entered, executed_one, is_among, all_ready, executed, install_to, pumped, ReplicaState, Place, Executed, childless, name_of, next, members, flying, forgotten, last_slot, learn_row, hinted, accepted_to, took, accept_row}
+use Rattle.sc_law_lemmas.proofs.Lemmas.{idle_ready, idle_pump, cleared}
+use Rattle.sc_budget_law.specs.Definitions.{Frame, IsFrame, Requests, IsPlainCall, IsPlainFollower, IsPlainVoter, IsPlainReplica}
+use Rattle.sc_budget_law.proofs.Lemmas.{learnt_call, mail_of, IsServed, call_plain}
 use Rattle.sc_calm_answers_law.proofs.Calls.{Leaves, leaves_itself, leaves_entry}
 
 -- ---- Accept

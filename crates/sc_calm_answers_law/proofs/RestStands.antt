@@ -2,34 +2,23 @@
 use Rattle.std.proofs.Common.{◌≡◌, ℕ, ◌+◌, ◌<◌, ◌≤◌, true, false, true≢false, List, Option, Some, None, inl, inr, refl, sym, ◌∙◌, ap, subst, arith}
 use Rattle.std.specs.Prelude.{is_some}
 use Rattle.std.proofs.lemmas.Bool.{cases_eq, cases_lt}
-use Rattle.sc_base.specs.Among.{Among}
-use Rattle.sc_base.specs.declared.names.Ballot.{Ballot}
-use Rattle.sc_cmd.specs.declared.commands.Command.{Command}
-use Rattle.sc_cmd.specs.declared.cores.Base.{Base}
-use Rattle.sc_cmd.specs.declared.links.Route.{Route}
-use Rattle.sc_base.specs.Roster.{is_member, least_of}
-use Rattle.sc_machine_table.specs.Group.{Group}
-use Rattle.sc_paxos_words.specs.declared.reports.Report.{Report}
-use Rattle.sc_paxos_words.specs.Ballots.{below}
-use Rattle.sc_paxos_words.proofs.ListLemmas.{Each-weaker}
+use Rattle.sc_base.specs.Definitions.{Among, is_member, least_of}
+use Rattle.sc_node_table.specs.Values.{Ballot, Command, Base, Route, Report}
+use Rattle.sc_machine_table.specs.Definitions.{Group}
+use Rattle.sc_paxos_words.specs.Definitions.{below}
+use Rattle.sc_paxos_words.proofs.Lemmas.{Each-weaker}
 use Rattle.sc_scenario.specs.declared.scenarios.Scenario.{Scenario}
-use Rattle.sc_node_table.specs.Replica.{ReplicaState, next, members}
-use Rattle.sc_sound.specs.Players.{as_nodes}
-use Rattle.sc_calm_law.specs.Quiet.{IsLinked, IsBelow, MayVote, IsUpToDate, StandsQuiet, IsGoneQuiet}
-use Rattle.sc_log_law.specs.Descent.{Rows}
-use Rattle.sc_following_law.specs.Following.{Sets, Course, Progress, members_at, IsOpen, IsEvenLed}
-use Rattle.sc_following_law.specs.Hints.{Tellers}
-use Rattle.sc_following_law.specs.Leading.{IsLeadOf}
-use Rattle.sc_following_law.specs.Offers.{AreAt}
-use Rattle.sc_following_law.proofs.Leads.{least_in}
-use Rattle.sc_calm_rows_law.specs.Groups.{promise_in}
-use Rattle.sc_calm_rows_law.proofs.Keeping.{same_some}
-use Rattle.sc_calm_groups_law.specs.Cleared.{RestsCleared}
-use Rattle.sc_calm_groups_law.specs.Rests.{IsLedQuietly}
-use Rattle.sc_calm_groups_law.proofs.Keeping.{kept_leaders_rest, scenarios_kept_born}
-use Rattle.sc_calm_groups_law.proofs.Resting.{quiet_groups_led}
-use Rattle.sc_calm_answers_law.specs.States.{state_at, ReplicasRunLogs}
-use Rattle.sc_calm_answers_law.specs.Rests.{replicas_at, IsQuietGroup, SawNoMore, QuietGroupsStand, IsTakenIn, QuietGroupsAreGone}
+use Rattle.sc_node_table.specs.Definitions.{ReplicaState, next, members}
+use Rattle.sc_sound.specs.Definitions.{as_nodes}
+use Rattle.sc_calm_law.specs.Definitions.{IsLinked, IsBelow, MayVote, IsUpToDate, StandsQuiet, IsGoneQuiet}
+use Rattle.sc_log_law.specs.Definitions.{Rows}
+use Rattle.sc_following_law.specs.Definitions.{Sets, Course, Progress, members_at, IsOpen, IsEvenLed, Tellers, IsLeadOf, AreAt}
+use Rattle.sc_following_law.proofs.Lemmas.{least_in}
+use Rattle.sc_calm_rows_law.specs.Definitions.{promise_in}
+use Rattle.sc_calm_rows_law.proofs.Lemmas.{same_some}
+use Rattle.sc_calm_groups_law.specs.Definitions.{RestsCleared, IsLedQuietly}
+use Rattle.sc_calm_groups_law.proofs.Lemmas.{kept_leaders_rest, scenarios_kept_born, quiet_groups_led}
+use Rattle.sc_calm_answers_law.specs.Definitions.{state_at, ReplicasRunLogs, replicas_at, IsQuietGroup, SawNoMore, QuietGroupsStand, IsTakenIn, QuietGroupsAreGone}
 use Rattle.sc_calm_answers_law.proofs.Facts.{opens_same, set_slot, at, over, all, now, view, even, place, has_one, newest_next, members_have, states, kept, room, same_state, ran}
 use Rattle.sc_calm_answers_law.proofs.KnownGroups.{none_taken}
 

@@ -1,25 +1,20 @@
 -- Each replica of a quiet group is at rest, where the newest state is locked in no transaction.
 use Rattle.std.proofs.Common.{◌≡◌, ℕ, suc, ◌-◌, ◌<◌, ◌≤◌, true, false, true≢false, Some, inl, inr, sym, ◌∙◌, ap, subst, arith}
 use Rattle.std.proofs.lemmas.Bool.{cases_Bool, cases_lt}
-use Rattle.sc_cmd.specs.declared.cores.Base.{Base}
-use Rattle.sc_cmd.specs.declared.cores.Lock.TheVariants.{Free}
-use Rattle.sc_machine_table.specs.Group.{Group}
-use Rattle.sc_base.specs.Roster.{is_member}
+use Rattle.sc_node_table.specs.Values.{Base, Free}
+use Rattle.sc_machine_table.specs.Definitions.{Group}
+use Rattle.sc_base.specs.Definitions.{is_member}
 use Rattle.sc_scenario.specs.declared.scenarios.Scenario.{Scenario}
-use Rattle.sc_node_table.specs.Replica.{ReplicaState, next}
-use Rattle.sc_sound.specs.Players.{as_nodes}
-use Rattle.sc_calm_law.specs.Quiet.{IsAtRest}
-use Rattle.sc_log_law.specs.Descent.{Rows}
-use Rattle.sc_following_law.specs.Following.{Sets, Course, members_at}
-use Rattle.sc_following_law.specs.Hints.{Tellers}
-use Rattle.sc_following_law.specs.Taught.{IsMemberBy}
-use Rattle.sc_calm_groups_law.specs.Cleared.{RestsCleared}
-use Rattle.sc_calm_groups_law.specs.Slots.{IsSlotKept}
-use Rattle.sc_calm_groups_law.proofs.Keeping.{kept_leaders_rest, scenarios_kept_born}
-use Rattle.sc_calm_answers_law.specs.States.{state_at, ReplicasRunLogs}
+use Rattle.sc_node_table.specs.Definitions.{ReplicaState, next}
+use Rattle.sc_sound.specs.Definitions.{as_nodes}
+use Rattle.sc_calm_law.specs.Definitions.{IsAtRest}
+use Rattle.sc_log_law.specs.Definitions.{Rows}
+use Rattle.sc_following_law.specs.Definitions.{Sets, Course, members_at, Tellers, IsMemberBy}
+use Rattle.sc_calm_groups_law.specs.Definitions.{RestsCleared, IsSlotKept}
+use Rattle.sc_calm_groups_law.proofs.Lemmas.{kept_leaders_rest, scenarios_kept_born}
+use Rattle.sc_calm_answers_law.specs.Definitions.{state_at, ReplicasRunLogs, replicas_at, IsQuietGroup, IsDone, QuietReplicasRest}
 use Rattle.sc_calm_answers_law.proofs.Freeing.{leavers_free}
-use Rattle.sc_calm_mail_law.specs.Idle.{IsPlainlyKept}
-use Rattle.sc_calm_answers_law.specs.Rests.{replicas_at, IsQuietGroup, IsDone, QuietReplicasRest}
+use Rattle.sc_calm_mail_law.specs.Definitions.{IsPlainlyKept}
 use Rattle.sc_calm_answers_law.proofs.Facts.{at, over, all, view, even, knows, place, kept, plain, room, ran}
 
 module _ (run : ReplicasRunLogs) (by : Tellers) (words : ℕ → ℕ → ℕ × ℕ) (scenario : Scenario) (journal front : Rows) (base : Base) (course : Course) (q : IsQuietGroup by words scenario journal front base course)

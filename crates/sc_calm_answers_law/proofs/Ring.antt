@@ -3,35 +3,23 @@ use Rattle.std.proofs.Common.{◌≡◌, ℕ, ◌+◌, ◌-◌, ◌/◌, ◌%◌
 use Rattle.std.specs.Prelude.{IsTrue, find, ◌&&◌, cond, option_map, is_none}
 use Rattle.std.proofs.lemmas.Option.{same_Some}
 use Rattle.std.proofs.lemmas.Bool.{cases_Bool, lt-ltb}
-use Rattle.sc_base.proofs.NameLemmas.{draw_is, same_name}
-use Rattle.sc_base.specs.Among.{Among}
-use Rattle.sc_base.specs.Arc.{Arc, IsArc, end_of, holds, offset}
-use Rattle.sc_base.specs.Same.{same_draw}
-use Rattle.sc_base.specs.Text.{pos_of}
-use Rattle.sc_base.specs.declared.names.Draw.{Draw}
-use Rattle.sc_cmd.specs.declared.cores.Base.{Base}
-use Rattle.sc_cmd.specs.declared.cores.Lock.TheVariants.{Free}
-use Rattle.sc_ideal.specs.IdealStore.{holds_key}
-use Rattle.sc_log_entries.specs.Effective.{effective, effective_by, is_open, serves}
-use Rattle.sc_log_entries.specs.Parts.{IsPlaced}
-use Rattle.sc_log_entries.specs.Worlds.{StoreWorld, is_named, named_group}
+use Rattle.sc_base.proofs.Lemmas.{draw_is, same_name}
+use Rattle.sc_base.specs.Definitions.{Among, Arc, IsArc, end_of, holds, offset, same_draw, pos_of}
+use Rattle.sc_node_table.specs.Values.{Draw, Base, Free}
+use Rattle.sc_ideal.specs.Definitions.{holds_key, contents_after}
+use Rattle.sc_log_entries.specs.Definitions.{effective, effective_by, is_open, serves, IsPlaced, StoreWorld, is_named, named_group}
 use Rattle.sc_log_entries.specs.declared.Cut.{Cut}
-use Rattle.sc_log_law.specs.Findings.{AreItsLogs}
-use Rattle.sc_machine_table.specs.Group.{Group}
-use Rattle.sc_node_table.specs.Replica.{ReplicaState, next}
-use Rattle.sc_paxos_words.proofs.ListLemmas.{find_found}
+use Rattle.sc_log_law.specs.Definitions.{AreItsLogs}
+use Rattle.sc_machine_table.specs.Definitions.{Group}
+use Rattle.sc_node_table.specs.Definitions.{ReplicaState, next}
+use Rattle.sc_paxos_words.proofs.Lemmas.{find_found}
 use Rattle.sc_scenario.specs.declared.scenarios.Scenario.{Scenario}
-use Rattle.sc_sound.specs.GroupsOf.{groups_at, is_birth_of, world_at}
-use Rattle.sc_sound.specs.Players.{as_nodes}
-use Rattle.sc_sound.specs.Soundness.{IsOneMap}
-use Rattle.sc_calm_law.specs.Quiet.{IsNewest, StandsQuiet}
-use Rattle.sc_calm_law.specs.Totals.{Rows}
-use Rattle.sc_budget_law.specs.AskingQuiet.{IsQuietJournal, replicas_after}
-use Rattle.sc_calm_answers_law.specs.Cuts.{AreKnown, state_of}
+use Rattle.sc_sound.specs.Definitions.{groups_at, is_birth_of, world_at, as_nodes, IsOneMap}
+use Rattle.sc_calm_law.specs.Definitions.{IsNewest, StandsQuiet, Rows}
+use Rattle.sc_budget_law.specs.Definitions.{IsQuietJournal, replicas_after}
+use Rattle.sc_calm_answers_law.specs.Definitions.{AreKnown, state_of}
 use Rattle.std.specs.FinMap.{empty}
-use Rattle.sc_ideal.specs.History.{contents_after}
-use Rattle.sc_ring_law.proofs.Insides.{InsideOf, inside_part, room_of}
-use Rattle.sc_ring_law.proofs.View.{Holds, IsOnRing}
+use Rattle.sc_ring_law.proofs.Lemmas.{InsideOf, inside_part, room_of, Holds, IsOnRing}
 use Rattle.sc_calm_answers_law.proofs.Fits.{Meets}
 use Rattle.sc_calm_answers_law.proofs.Cuts.{first_held}
 

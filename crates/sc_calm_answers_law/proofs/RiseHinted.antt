@@ -2,62 +2,27 @@
 use Rattle.std.proofs.Common.{◌≡◌, ℕ, suc, ◌+◌, ◌-◌, ◌^◌, ◌<◌, ◌≤◌, ◌&&◌, true, false, true≢false, List, [], ◌∷◌, ◌++◌, Option, Some, None, ◌⊎◌, inl, inr, refl, sym, ◌∙◌, ap, subst, arith}
 use Rattle.std.specs.Prelude.{is_some}
 use Rattle.std.proofs.lemmas.Bool.{cond-false}
-use Rattle.sc_base.specs.Same.{same_ballot}
-use Rattle.sc_base.specs.declared.names.Ballot.{Ballot}
-use Rattle.sc_base.specs.declared.names.Draw.{Draw}
-use Rattle.sc_cmd.specs.declared.commands.Command.{Command}
-use Rattle.sc_cmd.specs.declared.cores.Base.{Base}
-use Rattle.sc_cmd.specs.declared.links.Route.{Route}
-use Rattle.sc_cmd.specs.declared.orders.OrderLine.{OrderLine}
-use Rattle.sc_mail.specs.declared.bodies.Mail.{Mail}
-use Rattle.sc_mail.specs.declared.bodies.MailBody.{MailBody}
-use Rattle.sc_mail.specs.declared.bodies.MailBody.TheVariants.{Request, Answer, Prepare, Promise, Accept, Accepted, Nack, Learn, Ask, Install, TxPrepare, TxVote, TxOutcome, TxElsewhere, TxWatch, TxWatched, Told as ToldMail}
-use Rattle.sc_base.specs.Roster.{is_member}
-use Rattle.sc_actor.specs.declared.actors.Seat.{Seat}
-use Rattle.sc_actor.specs.declared.rows.Event.{Event}
-use Rattle.sc_actor.specs.Mail.{mails}
-use Rattle.sc_actor.specs.System.{row_of}
-use Rattle.sc_orderly_law.specs.Orderly.{IsCalmEvent}
-use Rattle.sc_orderly_law.specs.Timely.{AreInTime}
-use Rattle.sc_orderly_law.proofs.InTime.{in_time_before}
-use Rattle.sc_paxos_words.specs.Ballots.{IsAtLeast}
-use Rattle.sc_paxos_words.specs.Leaders.{promise_counted}
-use Rattle.sc_paxos_words.specs.declared.reports.Report.{Report}
-use Rattle.sc_paxos_words.proofs.ListLemmas.{Each-among}
+use Rattle.sc_base.specs.Definitions.{same_ballot, is_member}
+use Rattle.sc_node_table.specs.Values.{Ballot, Draw, Command, Base, Route, OrderLine, Mail, MailBody, Request, Answer, Prepare, Promise, Accept, Accepted, Nack, Learn, Ask, Install, TxPrepare, TxVote, TxOutcome, TxElsewhere, TxWatch, TxWatched, Told as ToldMail, Seat, Event, Report}
+use Rattle.sc_actor.specs.Definitions.{mails, row_of}
+use Rattle.sc_orderly_law.specs.Definitions.{IsCalmEvent, AreInTime}
+use Rattle.sc_orderly_law.proofs.Lemmas.{in_time_before}
+use Rattle.sc_paxos_words.specs.Definitions.{IsAtLeast, promise_counted}
+use Rattle.sc_paxos_words.proofs.Lemmas.{Each-among}
 use Rattle.sc_scenario.specs.declared.scenarios.Scenario.{Scenario}
-use Rattle.sc_node_table.specs.Execute.{entered}
-use Rattle.sc_node_table.specs.Node.{NodeState, group_of_mail}
-use Rattle.sc_node_table.specs.Pump.{pumped}
-use Rattle.sc_node_table.specs.Replica.{ReplicaState, Place, Executed, childless, listed, name_of, next, set_at}
-use Rattle.sc_node_table.specs.Rows.{mailed}
-use Rattle.sc_node_table.specs.Voting.{leads, promise_row, voted, accepted_row}
-use Rattle.sc_group_law.proofs.RowSteps.{number_among}
-use Rattle.sc_law_lemmas.specs.Steps.{GoesOn}
-use Rattle.sc_law_lemmas.proofs.Entries.{entered_next}
-use Rattle.sc_sound.specs.Players.{Player, player_table, births, as_nodes}
-use Rattle.sc_calm_law.specs.Charts.{players}
-use Rattle.sc_calm_law.specs.Totals.{Rows}
-use Rattle.sc_following_law.specs.Dated.{from_slot_of}
-use Rattle.sc_following_law.specs.Following.{next_by, Mark, Asks, Votes, Tells, Installs, Prepares, Promises, mark_of, Course, Progress, Sets, members_at, IsFit}
-use Rattle.sc_following_law.specs.Hints.{Tellers, hint_by, AreHeeded, GoesBy}
-use Rattle.sc_following_law.specs.Tables.{StepsBy, Stays, MayElect}
-use Rattle.sc_following_law.proofs.Dated.{prepares_are_known}
-use Rattle.sc_following_law.proofs.Elected.{tables_elect}
-use Rattle.sc_following_law.proofs.Nodes.{same_mark}
-use Rattle.sc_following_law.proofs.TableHints.{hints_follow}
-use Rattle.sc_calm_rows_law.specs.Groups.{view_at, mark_in, taken_mark, next_in, promise_in, progress_at}
-use Rattle.sc_calm_rows_law.specs.Mailed.{IsScene}
-use Rattle.sc_calm_rows_law.specs.Senders.{IsOwnMail, IsOwnAsking}
-use Rattle.sc_calm_rows_law.specs.Turns.{IsSeat, with_event, IsReplicasRow}
-use Rattle.sc_calm_rows_law.proofs.Electing.{entered_name}
-use Rattle.sc_calm_rows_law.proofs.OwnJournal.{ballots_own}
-use Rattle.sc_calm_rows_law.proofs.Scenes.{apart_off, head, within, fit, known}
-use Rattle.sc_calm_groups_law.specs.Led.{Ends, hint_in, hints_at, dated_at, IsWellLed}
-use Rattle.sc_calm_groups_law.specs.Logged.{IsOfLog}
-use Rattle.sc_calm_groups_law.specs.Through.{AreWellBorn, HasOneLog, IsSentSo}
-use Rattle.sc_calm_groups_law.proofs.Dating.{rows_dated}
-use Rattle.sc_calm_groups_law.proofs.Mails.{scene}
-use Rattle.sc_calm_mail_law.specs.Idle.{JournalsKeepIdle}
+use Rattle.sc_node_table.specs.Definitions.{entered, NodeState, group_of_mail, pumped, ReplicaState, Place, Executed, childless, listed, name_of, next, set_at, mailed, leads, promise_row, voted, accepted_row}
+use Rattle.sc_group_law.proofs.Lemmas.{number_among}
+use Rattle.sc_law_lemmas.specs.Definitions.{GoesOn}
+use Rattle.sc_law_lemmas.proofs.Lemmas.{entered_next}
+use Rattle.sc_sound.specs.Definitions.{Player, player_table, births, as_nodes}
+use Rattle.sc_calm_law.specs.Definitions.{players, Rows}
+use Rattle.sc_following_law.specs.Definitions.{from_slot_of, next_by, Mark, Asks, Votes, Tells, Installs, Prepares, Promises, mark_of, Course, Progress, Sets, members_at, IsFit, Tellers, hint_by, AreHeeded, GoesBy, StepsBy, Stays, MayElect}
+use Rattle.sc_following_law.proofs.Lemmas.{prepares_are_known, tables_elect, same_mark, hints_follow}
+use Rattle.sc_calm_rows_law.specs.Definitions.{view_at, mark_in, taken_mark, next_in, promise_in, progress_at, IsScene, IsOwnMail, IsOwnAsking, IsSeat, with_event, IsReplicasRow}
+use Rattle.sc_calm_rows_law.proofs.Lemmas.{entered_name, ballots_own, apart_off, head, within, fit, known}
+use Rattle.sc_calm_groups_law.specs.Definitions.{Ends, hint_in, hints_at, dated_at, IsWellLed, IsOfLog, AreWellBorn, HasOneLog, IsSentSo}
+use Rattle.sc_calm_groups_law.proofs.Lemmas.{rows_dated, scene}
+use Rattle.sc_calm_mail_law.specs.Definitions.{JournalsKeepIdle}
 use Rattle.sc_calm_answers_law.proofs.Asked.{kept_of, turn, s, named_is, own_name, marked, dated_is, most, goes}
 use Rattle.sc_calm_answers_law.proofs.Seeing.{stays_or_may, entered_top}
 use Rattle.sc_calm_answers_law.proofs.Turned.{TurnsMail, IsTurn, TurnRests, TurnBears, TurnTakes, TurnMakes, TurnTold}

@@ -2,65 +2,36 @@
 use Rattle.std.proofs.Common.{◌≡◌, ℕ, zero, suc, ◌+◌, eqb, true, false, List, [], ◌∷◌, ◌++◌, Option, Some, None, inl, inr, refl, sym, ◌∙◌, ap, subst}
 use Rattle.std.specs.Option.{option_map}
 use Rattle.std.proofs.lemmas.Bool.{cases_eq}
-use Rattle.sc_base.specs.Among.{Each}
-use Rattle.sc_base.specs.declared.names.Ballot.{Ballot}
-use Rattle.sc_base.specs.declared.names.Draw.{Draw}
-use Rattle.sc_cmd.specs.declared.cores.Base.{Base}
-use Rattle.sc_cmd.specs.declared.orders.OrderLine.{OrderLine}
-use Rattle.sc_mail.specs.declared.bodies.Mail.{Mail}
-use Rattle.sc_mail.specs.declared.bodies.MailBody.{MailBody}
-use Rattle.sc_mail.specs.declared.bodies.MailBody.TheVariants.{Request, Answer, Prepare, Promise, Accept, Accepted, Nack, Learn, Ask, Install, TxPrepare, TxVote, TxOutcome, TxElsewhere, TxWatch, TxWatched, Told as ToldMail}
-use Rattle.sc_mail.specs.declared.roles.Role.TheVariants.{Node}
-use Rattle.sc_base.specs.Roster.{is_member}
-use Rattle.sc_actor.specs.declared.actors.Seat.{Seat}
-use Rattle.sc_actor.specs.declared.rows.Event.{Event}
-use Rattle.sc_actor.specs.declared.rows.Event.TheVariants.{Deliver, Tick as TickEvent, Go, Told, Crash, Drop, Again}
-use Rattle.sc_actor.specs.declared.rows.Input.{Input}
-use Rattle.sc_actor.specs.declared.rows.Input.TheVariants.{Got, Tick}
-use Rattle.sc_actor.specs.declared.rows.Row.{Row}
-use Rattle.sc_actor.specs.Mail.{mails, numbered}
-use Rattle.sc_actor.specs.Replay.{value, acted, input_of}
-use Rattle.sc_actor.specs.System.{row_of}
-use Rattle.sc_actor.proofs.ReplayLemmas.{mails-snoc}
-use Rattle.sc_group_law.proofs.RowSteps.{number_among}
-use Rattle.sc_orderly_law.specs.Orderly.{IsCalmEvent}
-use Rattle.sc_orderly_law.specs.Timely.{AreInTime}
-use Rattle.sc_orderly_law.proofs.InTime.{in_time_before, in_time_tidy}
-use Rattle.sc_orderly_law.proofs.Resting.{takes_first, is_born-from}
-use Rattle.sc_paxos_words.specs.Ballots.{below, IsAtLeast}
-use Rattle.sc_paxos_words.proofs.BallotLemmas.{at_least_itself, at_least_trans, same_from_at_least}
-use Rattle.sc_paxos_words.proofs.ListLemmas.{Each-among, Each-append, Each-weaker}
+use Rattle.sc_base.specs.Definitions.{Each, is_member}
+use Rattle.sc_node_table.specs.Values.{Ballot, Draw, Base, OrderLine, Mail, MailBody, Request, Answer, Prepare, Promise, Accept, Accepted, Nack, Learn, Ask, Install, TxPrepare, TxVote, TxOutcome, TxElsewhere, TxWatch, TxWatched, Told as ToldMail, Node, Seat, Event, Deliver, Tick as TickEvent, Go, Crash, Drop, Again, Input, Got, Row}
+use Rattle.sc_actor.specs.declared.rows.Event.TheVariants.{Told}
+use Rattle.sc_actor.specs.declared.rows.Input.TheVariants.{Tick}
+use Rattle.sc_actor.specs.Definitions.{mails, numbered, value, acted, input_of, row_of}
+use Rattle.sc_actor.proofs.Lemmas.{mails-snoc}
+use Rattle.sc_group_law.proofs.Lemmas.{number_among}
+use Rattle.sc_orderly_law.specs.Definitions.{IsCalmEvent, AreInTime}
+use Rattle.sc_orderly_law.proofs.Lemmas.{in_time_before, in_time_tidy, takes_first, is_born-from}
+use Rattle.sc_paxos_words.specs.Definitions.{below, IsAtLeast}
+use Rattle.sc_paxos_words.proofs.Lemmas.{at_least_itself, at_least_trans, same_from_at_least, Each-among, Each-append, Each-weaker}
 use Rattle.sc_scenario.specs.declared.scenarios.Scenario.{Scenario}
-use Rattle.sc_node_table.specs.Node.{NodeState, replica_of, group_of_mail}
-use Rattle.sc_node_table.specs.Replica.{ReplicaState, listed, first_ballot}
-use Rattle.sc_sound.specs.Players.{Player, player_table, births, as_nodes}
-use Rattle.sc_law_lemmas.proofs.Ways.{either_way}
-use Rattle.sc_calm_law.specs.Charts.{players}
-use Rattle.sc_calm_law.specs.Totals.{Rows}
-use Rattle.sc_following_law.specs.Following.{Mark, Asks, Votes, Tells, Installs, Prepares, Promises, promise_by, pledged, mark_of, AreFit, Course, Progress, Sets, members_at}
-use Rattle.sc_following_law.specs.Hints.{Tellers}
-use Rattle.sc_following_law.specs.Rows.{IsRow, IsLast, answered, welcome, told_of, told_from, IsOffer}
-use Rattle.sc_following_law.specs.Tables.{marks_for}
-use Rattle.sc_following_law.proofs.Marks.{count-pledged}
-use Rattle.sc_following_law.proofs.Nodes.{same_mark}
-use Rattle.sc_calm_rows_law.specs.Groups.{view_at, marks_at, taken_mark, promise_in, progress_at}
-use Rattle.sc_calm_rows_law.specs.Senders.{IsOwnMail, IsOwnAsking}
-use Rattle.sc_calm_rows_law.specs.Steps.{led_course}
-use Rattle.sc_calm_rows_law.specs.Turns.{IsSeat, with_event}
-use Rattle.sc_calm_rows_law.proofs.Marking.{rows_are}
-use Rattle.sc_calm_rows_law.proofs.OwnJournal.{ballots_own, births_alone}
-use Rattle.sc_calm_rows_law.proofs.Viewing.{view_others, view_was}
-use Rattle.sc_calm_groups_law.specs.Kinds.{IsGroupRow, RowPasses, RowRests, RowTakes, RowMakes, RowLeads, RowElects, IsLedStep}
-use Rattle.sc_calm_groups_law.specs.Led.{Ends, IsWellLed}
-use Rattle.sc_calm_groups_law.proofs.Keeping.{replicas_kept, scenarios_kept_born}
-use Rattle.sc_calm_mail_law.proofs.Lasting.{replicas_last}
-use Rattle.sc_calm_answers_law.specs.RiseHomes.{top_in, IsSeen, AsksSeen, RefusesSeen, AreSeen}
+use Rattle.sc_node_table.specs.Definitions.{NodeState, replica_of, group_of_mail, ReplicaState, listed, first_ballot}
+use Rattle.sc_sound.specs.Definitions.{Player, player_table, births, as_nodes}
+use Rattle.sc_law_lemmas.proofs.Lemmas.{either_way}
+use Rattle.sc_calm_law.specs.Definitions.{players, Rows}
+use Rattle.sc_following_law.specs.Definitions.{Mark, Asks, Votes, Tells, Installs, Prepares, Promises, promise_by, pledged, mark_of, AreFit, Course, Progress, Sets, members_at, Tellers, IsRow, answered, welcome, told_of, told_from, IsOffer, marks_for}
+use Rattle.sc_following_law.proofs.Lemmas.{count-pledged, same_mark, last_promise as last_pledged}
+use Rattle.sc_calm_rows_law.specs.Definitions.{view_at, marks_at, taken_mark, promise_in, progress_at, IsOwnMail, IsOwnAsking, led_course, IsSeat, with_event}
+use Rattle.sc_calm_rows_law.proofs.Lemmas.{rows_are, ballots_own, births_alone, view_others, view_was, found_name}
+use Rattle.sc_calm_groups_law.specs.Definitions.{IsGroupRow, RowPasses, RowRests, RowTakes, RowMakes, RowLeads, RowElects, IsLedStep, Ends, IsWellLed}
+use Rattle.sc_calm_groups_law.proofs.Lemmas.{replicas_kept, scenarios_kept_born}
+use Rattle.sc_calm_mail_law.proofs.Lemmas.{replicas_last}
+use Rattle.sc_calm_answers_law.specs.Definitions.{top_in, IsSeen, AsksSeen, RefusesSeen}
+use Rattle.sc_calm_answers_law.specs.RiseHomes.{AreSeen}
 use Rattle.sc_calm_answers_law.proofs.Lists.{pledged_rises}
 use Rattle.sc_calm_answers_law.proofs.Said.{IsRefusal, AreSaid}
 use Rattle.sc_calm_answers_law.proofs.SaidNodes.{MayRefuse, input_said}
 use Rattle.sc_calm_answers_law.proofs.SaidRows.{Refuses}
 use Rattle.std.proofs.lemmas.Option.{same_Some}
-use Rattle.sc_calm_rows_law.proofs.Turning.{found_name}
 
 -- a refusal that an event delivers to a replica of the group names no later ballot than that saw
 abbrev pub RefusesOld : List (Seat Player) → Rows → Seat Player → Event OrderLine → Base → Type 0
@@ -68,9 +39,6 @@ RefusesOld births rows seat event base =
     (number : ℕ) (mail : Mail) (promised : Ballot) (r : ReplicaState) → event ≡ Deliver number → numbered (mails rows) number ≡ Some mail → mail.body ≡ Nack base.core.id promised → view_at births rows base.core.id seat.who ≡ Some r → below r.top promised ≡ false
 
 -- ---- lists
-
-last_pledged : (newest : ℕ) (promise : Ballot) (mark : Mark) → IsLast newest mark → promise_by promise mark ≡ promise
-last_pledged newest promise mark last = elim (last.2) [ inl told ↦ ap (promise_by promise) told | inr sent ↦ ap (promise_by promise) sent ]
 
 module _ (births : List (Seat Player)) (rows : Rows) (base : Base) where
   abbrev Seen : Ballot → Type 0

@@ -1,41 +1,24 @@
 -- Hints rise through a calm journal, from the births on and row by row.
 use Rattle.std.proofs.Common.{◌≡◌, ℕ, ◌+◌, ◌<◌, ◌≤◌, true, List, [], Some, None, inl, inr, sym, ◌∙◌, ap, subst, arith}
 use Rattle.std.proofs.lemmas.Bool.{cases_Bool, cond-true, cond-false}
-use Rattle.sc_base.specs.declared.names.Ballot.{Ballot}
-use Rattle.sc_cmd.specs.declared.cores.Base.{Base}
-use Rattle.sc_cmd.specs.declared.orders.OrderLine.{OrderLine}
-use Rattle.sc_mail.specs.declared.bodies.Mail.{Mail}
-use Rattle.sc_base.specs.Roster.{is_member, least_of}
-use Rattle.sc_actor.specs.declared.actors.Seat.{Seat}
-use Rattle.sc_actor.specs.declared.rows.Event.{Event}
-use Rattle.sc_actor.specs.declared.rows.Row.{Row}
-use Rattle.sc_actor.specs.System.{row_of}
-use Rattle.sc_orderly_law.specs.Orderly.{IsCalmEvent}
-use Rattle.sc_orderly_law.specs.Timely.{AreInTime}
-use Rattle.sc_orderly_law.proofs.InTime.{last_in_time}
-use Rattle.sc_paxos_words.specs.Ballots.{IsAtLeast}
-use Rattle.sc_paxos_words.proofs.BallotLemmas.{at_least_itself}
+use Rattle.sc_node_table.specs.Values.{Ballot, Base, OrderLine, Mail, Seat, Event, Row}
+use Rattle.sc_base.specs.Definitions.{is_member, least_of}
+use Rattle.sc_actor.specs.Definitions.{row_of}
+use Rattle.sc_orderly_law.specs.Definitions.{IsCalmEvent, AreInTime}
+use Rattle.sc_orderly_law.proofs.Lemmas.{last_in_time}
+use Rattle.sc_paxos_words.specs.Definitions.{IsAtLeast}
+use Rattle.sc_paxos_words.proofs.Lemmas.{at_least_itself}
 use Rattle.sc_scenario.specs.declared.scenarios.Scenario.{Scenario}
-use Rattle.sc_node_table.specs.Replica.{ReplicaState, first_ballot, born_replica}
-use Rattle.sc_node_table.specs.Slots.{slots_ahead}
-use Rattle.sc_sound.specs.Players.{Player, player_table, births, as_nodes}
-use Rattle.sc_calm_law.specs.Charts.{players}
-use Rattle.sc_calm_law.specs.Totals.{Rows}
-use Rattle.sc_following_law.specs.Following.{Course, Progress, Sets, members_at, IsOpen, IsFollowing}
-use Rattle.sc_following_law.specs.Hints.{Tellers}
-use Rattle.sc_following_law.proofs.Leads.{least_in}
-use Rattle.sc_calm_rows_law.specs.Groups.{view_at, marks_at, next_in, promise_in, progress_at}
-use Rattle.sc_calm_rows_law.specs.Turns.{with_event}
-use Rattle.sc_calm_groups_law.specs.Led.{Ends, hint_in, hints_at}
-use Rattle.sc_calm_groups_law.specs.Through.{ScenariosAreWellBorn}
-use Rattle.sc_calm_logs_law.specs.Logged.{logged_sets}
-use Rattle.sc_calm_answers_law.specs.Led.{over_at}
-use Rattle.sc_calm_answers_law.specs.Tellers.{tellers_at}
-use Rattle.sc_calm_mail_law.specs.Idle.{JournalsKeepIdle}
-use Rattle.sc_calm_answers_law.specs.SentJournals.{AreBornAsBegun, GroupsAreBornAsBegun, IsSentThrough}
-use Rattle.sc_calm_answers_law.specs.RiseHomes.{top_in, IsSeen}
-use Rattle.sc_calm_answers_law.specs.Hinting.{GroupsBeginRising, NextRowsRise}
-use Rattle.sc_calm_answers_law.specs.RiseRising.{IsRisingOn}
+use Rattle.sc_node_table.specs.Definitions.{ReplicaState, first_ballot, born_replica, slots_ahead}
+use Rattle.sc_sound.specs.Definitions.{Player, player_table, births, as_nodes}
+use Rattle.sc_calm_law.specs.Definitions.{players, Rows}
+use Rattle.sc_following_law.specs.Definitions.{Course, Progress, Sets, members_at, IsOpen, IsFollowing, Tellers}
+use Rattle.sc_following_law.proofs.Lemmas.{least_in}
+use Rattle.sc_calm_rows_law.specs.Definitions.{view_at, marks_at, next_in, promise_in, progress_at, with_event}
+use Rattle.sc_calm_groups_law.specs.Definitions.{Ends, hint_in, hints_at, ScenariosAreWellBorn}
+use Rattle.sc_calm_logs_law.specs.Definitions.{logged_sets}
+use Rattle.sc_calm_answers_law.specs.Definitions.{over_at, tellers_at, AreBornAsBegun, GroupsAreBornAsBegun, IsSentThrough, top_in, IsSeen, GroupsBeginRising, NextRowsRise, IsRisingOn}
+use Rattle.sc_calm_mail_law.specs.Definitions.{JournalsKeepIdle}
 use Rattle.sc_calm_answers_law.proofs.RiseHomes.{refuses_old, seen_then}
 use Rattle.sc_calm_answers_law.proofs.Lists.{member_open}
 use Rattle.sc_calm_answers_law.proofs.RiseRising.{fated_then}

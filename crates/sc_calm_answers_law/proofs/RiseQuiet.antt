@@ -2,30 +2,19 @@
 use Rattle.std.proofs.Common.{◌≡◌, ℕ, ◌<◌, ◌≤◌, true, false, true≢false, List, [], Option, Some, None, ◌⊎◌, inl, inr, refl, sym, ◌∙◌, ap, subst, arith, append-nil}
 use Rattle.std.specs.Prelude.{is_some}
 use Rattle.std.proofs.lemmas.Bool.{cases_Bool}
-use Rattle.sc_base.specs.declared.names.Ballot.{Ballot}
-use Rattle.sc_base.specs.declared.names.Draw.{Draw}
-use Rattle.sc_cmd.specs.declared.cores.Base.{Base}
-use Rattle.sc_cmd.specs.declared.links.Route.{Route}
-use Rattle.sc_base.specs.Roster.{is_member}
-use Rattle.sc_actor.specs.declared.actors.Seat.{Seat}
-use Rattle.sc_paxos_words.specs.Ballots.{IsAtLeast}
-use Rattle.sc_paxos_words.proofs.BallotLemmas.{same_from_at_least}
+use Rattle.sc_node_table.specs.Values.{Ballot, Draw, Base, Route, Seat}
+use Rattle.sc_base.specs.Definitions.{is_member}
+use Rattle.sc_paxos_words.specs.Definitions.{IsAtLeast}
+use Rattle.sc_paxos_words.proofs.Lemmas.{same_from_at_least}
 use Rattle.sc_scenario.specs.declared.scenarios.Scenario.{Scenario}
-use Rattle.sc_node_table.specs.Replica.{ReplicaState, next}
-use Rattle.sc_sound.specs.Players.{Player, births, as_nodes}
-use Rattle.sc_calm_law.specs.Charts.{players}
-use Rattle.sc_calm_law.specs.Quiet.{HasReplica, RisesAt}
-use Rattle.sc_calm_law.specs.Totals.{Rows}
-use Rattle.sc_following_law.specs.Following.{Mark, reached, pledged, Course, Progress, Sets, IsOpen, IsFollowing}
-use Rattle.sc_following_law.specs.Hints.{Tellers, hinted}
-use Rattle.sc_calm_rows_law.specs.Groups.{view_at, marks_at, next_in, promise_in, progress_at}
-use Rattle.sc_calm_groups_law.specs.Led.{Ends, hint_in, hints_at}
-use Rattle.sc_calm_groups_law.specs.Tops.{IsTopKept}
-use Rattle.sc_calm_groups_law.proofs.Keeping.{replicas_kept, scenarios_kept_born}
-use Rattle.sc_calm_answers_law.specs.SentJournals.{IsSentThrough}
-use Rattle.sc_calm_answers_law.specs.Fates.{IsPassed, IsFated}
-use Rattle.sc_calm_answers_law.specs.Hinting.{QuietHintsRise}
-use Rattle.sc_calm_answers_law.specs.RiseRising.{IsRisingOn}
+use Rattle.sc_node_table.specs.Definitions.{ReplicaState, next}
+use Rattle.sc_sound.specs.Definitions.{Player, births, as_nodes}
+use Rattle.sc_calm_law.specs.Definitions.{players, HasReplica, RisesAt, Rows}
+use Rattle.sc_following_law.specs.Definitions.{Mark, reached, pledged, Course, Progress, Sets, IsOpen, IsFollowing, Tellers, hinted}
+use Rattle.sc_calm_rows_law.specs.Definitions.{view_at, marks_at, next_in, promise_in, progress_at}
+use Rattle.sc_calm_groups_law.specs.Definitions.{Ends, hint_in, hints_at, IsTopKept}
+use Rattle.sc_calm_groups_law.proofs.Lemmas.{replicas_kept, scenarios_kept_born}
+use Rattle.sc_calm_answers_law.specs.Definitions.{IsSentThrough, IsPassed, IsFated, QuietHintsRise, IsRisingOn}
 use Rattle.sc_calm_answers_law.proofs.Even.{has_one as even_has, leader as even_leader, over_then as even_over}
 use Rattle.sc_calm_answers_law.proofs.Lists.{round_most, open_or}
 use Rattle.std.proofs.lemmas.Option.{same_Some}
@@ -144,5 +133,6 @@ module _ (words : ℕ → ℕ → ℕ × ℕ) (at : Sets) (over : Ends) (by : Te
       | inl opened ↦ elim (cases_Bool course.runs) [ inl runs ↦ open_rises runs opened | inr off_ ↦ closed_rises (λ o. over_then off_) ]
     ]
 
+-- So where none of the group's mail is under way, and its first members have made their replicas, hints rise.
 pub quiet_hints_rise : QuietHintsRise
 quiet_hints_rise words at over by scenario front base t rising none born node r here off stands = rises words at over by scenario front base t rising none (born (node, r, here)) node r here off stands

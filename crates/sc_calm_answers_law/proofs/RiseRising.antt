@@ -1,59 +1,27 @@
 -- Hints rise after one row more of a calm journal.
 use Rattle.std.proofs.Common.{◌≡◌, ℕ, ◌+◌, ◌<◌, ◌≤◌, Bool, true, false, cond, true≢false, List, [], ◌∷◌, ◌++◌, Some, None, inl, inr, refl, sym, ◌∙◌, ap, subst, arith}
-use Rattle.sc_base.specs.Among.{Each}
-use Rattle.sc_base.specs.Same.{same_draw}
-use Rattle.sc_base.specs.declared.names.Ballot.{Ballot}
-use Rattle.sc_base.specs.declared.names.Draw.{Draw}
-use Rattle.sc_base.proofs.NameLemmas.{draw_is}
-use Rattle.sc_cmd.specs.declared.commands.Command.{Command}
-use Rattle.sc_cmd.specs.declared.cores.Base.{Base}
-use Rattle.sc_cmd.specs.declared.orders.OrderLine.{OrderLine}
-use Rattle.sc_mail.specs.declared.bodies.Mail.{Mail}
-use Rattle.sc_mail.specs.declared.bodies.MailBody.{MailBody}
-use Rattle.sc_mail.specs.declared.bodies.MailBody.TheVariants.{Request, Answer, Prepare, Promise, Accept, Accepted, Nack, Learn, Ask, Install, TxPrepare, TxVote, TxOutcome, TxElsewhere, TxWatch, TxWatched, Told as ToldMail}
-use Rattle.sc_base.specs.Roster.{is_member}
-use Rattle.sc_actor.specs.declared.actors.Seat.{Seat}
-use Rattle.sc_actor.specs.declared.rows.Event.{Event}
-use Rattle.sc_actor.specs.declared.rows.Row.{Row}
-use Rattle.sc_actor.specs.Mail.{mails}
-use Rattle.sc_actor.specs.System.{row_of}
-use Rattle.sc_orderly_law.specs.Orderly.{IsCalmEvent}
-use Rattle.sc_orderly_law.specs.Timely.{AreInTime}
-use Rattle.sc_paxos_words.specs.Ballots.{IsAtLeast}
+use Rattle.sc_base.specs.Definitions.{same_draw, is_member}
+use Rattle.sc_node_table.specs.Values.{Ballot, Draw, Command, Base, OrderLine, Mail, MailBody, Request, Answer, Prepare, Promise, Accept, Accepted, Nack, Learn, Ask, Install, TxPrepare, TxVote, TxOutcome, TxElsewhere, TxWatch, TxWatched, Told as ToldMail, Seat, Event, Row}
+use Rattle.sc_base.proofs.Lemmas.{draw_is}
+use Rattle.sc_actor.specs.Definitions.{mails, row_of}
+use Rattle.sc_orderly_law.specs.Definitions.{IsCalmEvent, AreInTime}
+use Rattle.sc_paxos_words.specs.Definitions.{IsAtLeast}
 use Rattle.sc_scenario.specs.declared.scenarios.Scenario.{Scenario}
-use Rattle.sc_node_table.specs.Replica.{ReplicaState, Place, listed, next}
-use Rattle.sc_node_table.specs.Rows.{mailed, made_by}
-use Rattle.sc_sound.specs.Players.{Player, player_table, births, as_nodes}
-use Rattle.sc_calm_law.specs.Charts.{players}
-use Rattle.sc_calm_law.specs.Totals.{Rows}
-use Rattle.sc_following_law.specs.Following.{Mark, Asks, Votes, Tells, Installs, Prepares, Promises, mark_of, pledged, Course, Progress, Sets, members_at, IsOpen}
-use Rattle.sc_following_law.specs.Hints.{Tellers, hint_by, AreHeeded, GoesBy}
-use Rattle.sc_following_law.specs.Owning.{AreToldLast}
-use Rattle.sc_following_law.specs.Dated.{IsNoPrepare}
-use Rattle.sc_following_law.specs.Rows.{IsRow}
-use Rattle.sc_following_law.specs.Tables.{marks_for, next_ballot}
-use Rattle.sc_following_law.proofs.Elected.{tables_elect}
-use Rattle.sc_following_law.proofs.Leads.{least_in}
-use Rattle.sc_following_law.proofs.TableHints.{hints_follow}
-use Rattle.sc_calm_rows_law.specs.Groups.{view_at, marks_at, mark_in, taken_mark, promise_in, progress_at}
-use Rattle.sc_calm_rows_law.specs.Steps.{led_course, elected_course}
-use Rattle.sc_calm_rows_law.specs.Turns.{IsSeat, with_event, IsReplicasRow}
-use Rattle.sc_calm_rows_law.proofs.Electing.{entered_name}
-use Rattle.sc_calm_rows_law.proofs.Marking.{rows_are}
-use Rattle.sc_calm_rows_law.proofs.Viewing.{view_others}
-use Rattle.sc_calm_groups_law.specs.Kinds.{IsGroupRow, RowPasses, RowRests, RowTakes, RowMakes, RowLeads, RowElects}
-use Rattle.sc_calm_groups_law.specs.Led.{Ends, hint_in, hints_at, IsWellLed}
-use Rattle.sc_calm_groups_law.specs.Logged.{IsLogsState}
-use Rattle.sc_calm_groups_law.specs.Rows.{ElectsWell}
-use Rattle.sc_calm_groups_law.specs.Through.{AreWellBorn, HasOneLog, IsSentSo}
-use Rattle.sc_calm_groups_law.specs.Tops.{IsTopKept}
-use Rattle.sc_calm_groups_law.proofs.Keeping.{replicas_kept, scenarios_kept_born}
-use Rattle.sc_calm_mail_law.specs.Idle.{JournalsKeepIdle}
+use Rattle.sc_node_table.specs.Definitions.{ReplicaState, Place, listed, next, mailed, made_by}
+use Rattle.sc_sound.specs.Definitions.{Player, player_table, births, as_nodes}
+use Rattle.sc_calm_law.specs.Definitions.{players, Rows}
+use Rattle.sc_following_law.specs.Definitions.{Mark, Asks, Votes, Tells, Installs, Prepares, Promises, mark_of, pledged, Course, Progress, Sets, members_at, IsOpen, Tellers, hint_by, AreHeeded, GoesBy, AreToldLast, IsRow, marks_for, next_ballot}
+use Rattle.sc_following_law.proofs.Lemmas.{tables_elect, least_in, hints_follow}
+use Rattle.sc_calm_rows_law.specs.Definitions.{view_at, marks_at, mark_in, taken_mark, promise_in, progress_at, led_course, elected_course, IsSeat, with_event, IsReplicasRow}
+use Rattle.sc_calm_rows_law.proofs.Lemmas.{entered_name, rows_are, view_others}
+use Rattle.sc_calm_groups_law.specs.Definitions.{IsGroupRow, RowPasses, RowRests, RowTakes, RowMakes, RowLeads, RowElects, Ends, hint_in, hints_at, IsWellLed, IsLogsState, ElectsWell, AreWellBorn, HasOneLog, IsSentSo, IsTopKept}
+use Rattle.sc_calm_groups_law.proofs.Lemmas.{replicas_kept, scenarios_kept_born, pledged_none}
+use Rattle.sc_calm_mail_law.specs.Definitions.{JournalsKeepIdle}
 use Rattle.sc_calm_answers_law.proofs.Above.{MovesLast}
 use Rattle.sc_calm_answers_law.proofs.Asked.{turn, leader_last}
 use Rattle.sc_calm_answers_law.proofs.Seeing.{told_idly}
 use Rattle.sc_calm_answers_law.proofs.Turned.{IsTurn, TurnRests, TurnBears, TurnTakes, TurnMakes, TurnTold}
-use Rattle.sc_calm_answers_law.specs.Fates.{AreFated}
+use Rattle.sc_calm_answers_law.specs.Definitions.{AreFated}
 use Rattle.sc_calm_answers_law.proofs.Fates.{idle_fates, takes_fates, leads_fates, elects_fates}
 use Rattle.sc_calm_answers_law.proofs.RiseHinted.{told_fit, own_body, none_flies, told_or, takes_by}
 use Rattle.sc_calm_answers_law.proofs.Lists.{round_most, member_open}
@@ -89,16 +57,6 @@ module _ (name : Draw) (slot : ℕ) where
   entry_of from (TxWatch tx watch) e = cc
   entry_of from (TxWatched tx coord part vote) e = cc
   entry_of from (ToldMail order result) e = cc
-
--- what asks for no promise leaves the ballot that is promised
-pledged_none : (promise : Ballot) (marks : List Mark) → Each IsNoPrepare marks → pledged promise marks ≡ promise
-pledged_none promise [] e = refl
-pledged_none promise (Prepares ballot ∷ marks) e = absurd e.0
-pledged_none promise (Asks ballot slot ∷ marks) e = pledged_none promise marks e.1
-pledged_none promise (Votes node ballot slot ∷ marks) e = pledged_none promise marks e.1
-pledged_none promise (Tells slot ∷ marks) e = pledged_none promise marks e.1
-pledged_none promise (Installs slot ∷ marks) e = pledged_none promise marks e.1
-pledged_none promise (Promises node ballot ∷ marks) e = pledged_none promise marks e.1
 
 module _ (words : ℕ → ℕ → ℕ × ℕ) (at : Sets) (over : Ends) (by : Tellers) (scenario : Scenario) (rows : Rows) (seat : Seat Player) (event : Event OrderLine) (base : Base) (course : Course) (idle : JournalsKeepIdle) (wb : AreWellBorn (births as_nodes scenario))
     (one : HasOneLog at over by (births as_nodes scenario) (with_event rows seat event) base) (so : IsSentSo (births as_nodes scenario) (with_event rows seat event) base) (timely : AreInTime (players words (births as_nodes scenario)) (with_event rows seat event))

@@ -1,44 +1,25 @@
 -- Each group begins one round more at most while an order is under way.
 use Rattle.std.proofs.Common.{◌≡◌, ℕ, ◌+◌, ◌≤◌, true, false, true≢false, List, [], Option, Some, None, ◌⊎◌, inl, inr, refl, sym, ◌∙◌, ap, subst, arith}
 use Rattle.std.proofs.lemmas.Bool.{cases_Bool}
-use Rattle.sc_base.specs.Among.{Among}
-use Rattle.sc_base.specs.declared.names.Ballot.{Ballot}
-use Rattle.sc_base.specs.declared.names.Draw.{Draw}
-use Rattle.sc_cmd.specs.declared.cores.Base.{Base}
-use Rattle.sc_cmd.specs.declared.orders.OrderLine.{OrderLine}
-use Rattle.sc_actor.specs.declared.actors.Seat.{Seat}
-use Rattle.sc_actor.specs.declared.rows.Event.{Event}
-use Rattle.sc_actor.specs.declared.rows.Event.TheVariants.{Deliver, Tick, Go, Told, Crash, Drop, Again}
-use Rattle.sc_actor.specs.Mail.{mails}
-use Rattle.sc_actor.specs.System.{numbers_of}
-use Rattle.sc_orderly_law.specs.Orderly.{IsCalmEvent}
-use Rattle.sc_orderly_law.specs.Timely.{AreInTime}
+use Rattle.sc_base.specs.Definitions.{Among}
+use Rattle.sc_node_table.specs.Values.{Ballot, Draw, Base, OrderLine, Seat, Event, Deliver, Tick, Go, Crash, Drop, Again}
+use Rattle.sc_actor.specs.declared.rows.Event.TheVariants.{Told}
+use Rattle.sc_actor.specs.Definitions.{mails, numbers_of}
+use Rattle.sc_orderly_law.specs.Definitions.{IsCalmEvent, AreInTime}
 use Rattle.sc_scenario.specs.declared.scenarios.Scenario.{Scenario}
-use Rattle.sc_node_table.specs.Replica.{ReplicaState, Place}
-use Rattle.sc_sound.specs.Players.{Player, births, as_nodes}
-use Rattle.sc_calm_law.specs.Charts.{players}
-use Rattle.sc_calm_law.specs.Totals.{Rows}
-use Rattle.sc_following_law.specs.Following.{Course, Sets}
-use Rattle.sc_following_law.specs.Hints.{Tellers}
-use Rattle.sc_calm_orders_law.specs.Parts.{works}
-use Rattle.sc_calm_orders_law.specs.Scenes.{Work}
-use Rattle.sc_calm_orders_law.specs.Stages.{Deal, Stage, Still, Asks, IsAt}
-use Rattle.sc_calm_rows_law.specs.Groups.{view_at, taken_mark}
-use Rattle.sc_calm_rows_law.specs.Steps.{led_course, elected_course}
-use Rattle.sc_calm_rows_law.specs.Turns.{IsSeat, with_event, IsReplicasRow}
-use Rattle.sc_calm_groups_law.specs.Kinds.{IsGroupRow, RowPasses, RowRests, RowTakes, RowMakes, RowLeads, RowElects}
-use Rattle.sc_calm_groups_law.specs.Led.{Ends}
-use Rattle.sc_calm_groups_law.specs.Rows.{LeadsWell, ElectsWell}
-use Rattle.sc_calm_groups_law.specs.Through.{AreWellBorn, ScenariosAreWellBorn}
-use Rattle.sc_calm_mail_law.specs.Idle.{JournalsKeepIdle}
-use Rattle.sc_calm_scenes_law.specs.Kept.{IsTelling, GoesBy}
-use Rattle.sc_calm_scenes_law.specs.Scenes.{is_running, lead_of, works_of, work_at, scene_at}
-use Rattle.sc_calm_scenes_law.proofs.Newest.{lead_found, lead_runs}
-use Rattle.sc_calm_scenes_law.proofs.Viewing.{seat_among}
-use Rattle.sc_calm_answers_law.specs.SentJournals.{IsSentThrough, IsSentStep}
+use Rattle.sc_node_table.specs.Definitions.{ReplicaState, Place}
+use Rattle.sc_sound.specs.Definitions.{Player, births, as_nodes}
+use Rattle.sc_calm_law.specs.Definitions.{players, Rows}
+use Rattle.sc_following_law.specs.Definitions.{Course, Sets, Tellers}
+use Rattle.sc_calm_orders_law.specs.Definitions.{works, Work, Deal, Stage, Still, Asks, IsAt}
+use Rattle.sc_calm_rows_law.specs.Definitions.{view_at, taken_mark, led_course, elected_course, IsSeat, with_event, IsReplicasRow}
+use Rattle.sc_calm_groups_law.specs.Definitions.{IsGroupRow, RowPasses, RowRests, RowTakes, RowMakes, RowLeads, RowElects, Ends, LeadsWell, ElectsWell, AreWellBorn, ScenariosAreWellBorn}
+use Rattle.sc_calm_mail_law.specs.Definitions.{JournalsKeepIdle}
+use Rattle.sc_calm_scenes_law.specs.Definitions.{IsTelling, GoesBy, is_running, lead_of, works_of, work_at, scene_at}
+use Rattle.sc_calm_scenes_law.proofs.Lemmas.{lead_found, lead_runs, seat_among}
+use Rattle.sc_calm_answers_law.specs.Definitions.{IsSentThrough, IsSentStep, MustLead, HasOneRound, StaysGone, RowsKeepRound}
 use Rattle.sc_calm_answers_law.proofs.Asked.{leader_moves}
 use Rattle.sc_calm_answers_law.proofs.Comers.{HasAct}
-use Rattle.sc_calm_answers_law.specs.RiseRounds.{MustLead, HasOneRound, StaysGone, RowsKeepRound}
 use Rattle.sc_calm_answers_law.proofs.Acts.{has_work}
 use Rattle.sc_calm_answers_law.proofs.RiseJournals.{calm_of}
 use Rattle.sc_calm_answers_law.proofs.Lists.{round_most}

@@ -1,31 +1,23 @@
 -- The rounds of a group since a quiet front: the ballot that it had there, and what its replicas saw.
 use Rattle.std.proofs.Common.{◌≡◌, ℕ, ◌+◌, ◌≤◌, true, false, List, [], ◌∷◌, Option, Some, None, inl, inr, refl, sym, ◌∙◌, ap, subst, arith}
 use Rattle.std.proofs.lemmas.Bool.{cases_Bool}
-use Rattle.sc_base.specs.Among.{Among}
-use Rattle.sc_base.specs.declared.names.Ballot.{Ballot}
-use Rattle.sc_cmd.specs.declared.cores.Base.{Base}
-use Rattle.sc_base.specs.Roster.{least_of}
-use Rattle.sc_actor.specs.declared.rows.Event.TheVariants.{Deliver, Told}
+use Rattle.sc_base.specs.Definitions.{Among, least_of}
+use Rattle.sc_node_table.specs.Values.{Ballot, Base, Deliver}
+use Rattle.sc_actor.specs.declared.rows.Event.TheVariants.{Told}
 use Rattle.sc_scenario.specs.declared.scenarios.Scenario.{Scenario}
-use Rattle.sc_node_table.specs.Replica.{ReplicaState}
-use Rattle.sc_sound.specs.Players.{births, as_nodes}
-use Rattle.sc_calm_law.specs.Charts.{players}
-use Rattle.sc_calm_law.specs.Totals.{Rows}
-use Rattle.sc_following_law.specs.Following.{pledged, Course, Sets, members_at, IsOpen}
-use Rattle.sc_following_law.specs.Hints.{Tellers}
-use Rattle.sc_following_law.proofs.Leads.{least_in}
-use Rattle.sc_calm_orders_law.specs.Scenes.{Work}
-use Rattle.sc_calm_orders_law.specs.Stages.{Deal, Stage, Still, Asks}
-use Rattle.sc_calm_rows_law.specs.Groups.{view_at, marks_at, promise_in}
-use Rattle.sc_calm_groups_law.specs.Led.{Ends}
-use Rattle.sc_calm_groups_law.specs.Through.{ScenariosAreWellBorn}
-use Rattle.sc_calm_groups_law.proofs.Keeping.{replicas_kept, scenarios_kept_born}
-use Rattle.sc_calm_mail_law.specs.Idle.{JournalsKeepIdle}
-use Rattle.sc_calm_scenes_law.specs.Fresh.{IsThere, IsFresh, AreUntouched}
-use Rattle.sc_calm_scenes_law.proofs.Untouched.{asked_fresh}
-use Rattle.sc_calm_answers_law.specs.SentJournals.{IsSentThrough}
-use Rattle.sc_calm_answers_law.specs.RiseHomes.{top_in}
-use Rattle.sc_calm_answers_law.specs.RiseRounds.{HasMembers, StaysGone, OrdersKeepRounds, RequestsKeepBallots, SameViewsKeepBallot, RoundsAreSeen}
+use Rattle.sc_node_table.specs.Definitions.{ReplicaState}
+use Rattle.sc_sound.specs.Definitions.{births, as_nodes}
+use Rattle.sc_calm_law.specs.Definitions.{players, Rows}
+use Rattle.sc_following_law.specs.Definitions.{pledged, Course, Sets, members_at, IsOpen, Tellers}
+use Rattle.sc_following_law.proofs.Lemmas.{least_in}
+use Rattle.sc_calm_orders_law.specs.Definitions.{Work, Deal, Stage, Still, Asks}
+use Rattle.sc_calm_rows_law.specs.Definitions.{view_at, marks_at, promise_in}
+use Rattle.sc_calm_groups_law.specs.Definitions.{Ends, ScenariosAreWellBorn}
+use Rattle.sc_calm_groups_law.proofs.Lemmas.{replicas_kept, scenarios_kept_born}
+use Rattle.sc_calm_mail_law.specs.Definitions.{JournalsKeepIdle}
+use Rattle.sc_calm_scenes_law.specs.Definitions.{IsThere, IsFresh, AreUntouched}
+use Rattle.sc_calm_scenes_law.proofs.Lemmas.{asked_fresh}
+use Rattle.sc_calm_answers_law.specs.Definitions.{IsSentThrough, top_in, HasMembers, StaysGone, OrdersKeepRounds, RequestsKeepBallots, SameViewsKeepBallot, RoundsAreSeen}
 use Rattle.sc_calm_answers_law.proofs.Even.{leader, has_one, even, over_then}
 use Rattle.sc_calm_answers_law.proofs.RiseJournals.{calm_of}
 use Rattle.sc_calm_answers_law.proofs.Lists.{round_most, member_open}
@@ -74,6 +66,7 @@ module _ (words : ℕ → ℕ → ℕ × ℕ) (at : Sets) (over : Ends) (by : Te
         by_view (Some r) e = there_round (base.core.first, r, e)
         by_view None e = (let first : q.course.ballot.round ≡ 1 = ap (λ (c : Course). c.ballot.round) (q.led.young e) in omega (arith, first, some))
 
+-- No replica saw a later round than its group's ballot has, and each saw the first; and in quiet a group's ballot has no later round than its replicas saw.
 pub rounds_seen : RoundsAreSeen
 rounds_seen = record {
   most = λ at over by words births rows base t node r view. round_most t.course.ballot r.top (t.asked.seen node r view);

@@ -2,20 +2,13 @@
 use Rattle.std.proofs.Common.{◌≡◌, ℕ, ◌+◌, ◌-◌, ◌%◌, ◌<◌, ◌≤◌, ◌^◌, Bool, true, false, arith, true≢false, List, [], ◌∷◌, ◌++◌, inl, inr, refl, sym, ◌∙◌, ap, subst}
 use Rattle.std.specs.Prelude.{IsTrue}
 use Rattle.std.proofs.lemmas.Bool.{lt-ltb}
-use Rattle.sc_base.proofs.NameLemmas.{draw_is, same_name}
-use Rattle.sc_base.specs.Among.{Among, Each}
-use Rattle.sc_base.specs.Arc.{Arc, IsArc, offset, holds, end_of}
-use Rattle.sc_base.specs.Same.{same_draw}
-use Rattle.sc_log_entries.specs.Parts.{IsPlaced}
-use Rattle.sc_log_entries.specs.Rings.{Covers}
-use Rattle.sc_log_entries.specs.Worlds.{StoreWorld}
+use Rattle.sc_base.proofs.Lemmas.{draw_is, same_name}
+use Rattle.sc_base.specs.Definitions.{Among, Each, Arc, IsArc, offset, holds, end_of, same_draw}
+use Rattle.sc_log_entries.specs.Definitions.{IsPlaced, Covers, StoreWorld}
 use Rattle.sc_log_entries.specs.declared.Cut.{Cut}
-use Rattle.sc_paxos_words.proofs.ListLemmas.{Each-among}
-use Rattle.sc_budget_law.specs.CalmAsking.{IsRingOf}
-use Rattle.sc_budget_law.specs.CalmClient.{FollowedBy}
-use Rattle.sc_budget_law.specs.CalmNode.{Setting}
-use Rattle.sc_budget_law.specs.Frames.{Frame}
-use Rattle.sc_calm_answers_law.specs.Round.{IsOfCut, AreOfCuts, StandingGroupsAreRound}
+use Rattle.sc_paxos_words.proofs.Lemmas.{Each-among}
+use Rattle.sc_budget_law.specs.Definitions.{IsRingOf, FollowedBy, Setting, Frame}
+use Rattle.sc_calm_answers_law.specs.Definitions.{IsOfCut, AreOfCuts, StandingGroupsAreRound}
 use Rattle.sc_calm_answers_law.proofs.Cycle.{IsNoneOf, AreDistinct, IsChain, last_from, IsRound, round}
 
 -- ---- chains by their places
@@ -151,5 +144,6 @@ module _ (world : StoreWorld) (set : Setting) (covers : Covers world.ring) (plac
       names_apart one [] apart among here = tt
       names_apart one (z ∷ x) apart among here = (λ e. apart.0 (cuts.apart z one among.0 here e), names_apart one x apart.1 among.1 here)
 
+-- Where the ring covers, and each cut's group is one that stands and names the group of the next cut, the groups that stand are round the ring from each of them on: one is followed by the next, and the last by the first.
 pub standing_round : StandingGroupsAreRound
 standing_round world set covers placed cuts frame a = round_from world set covers placed cuts frame a

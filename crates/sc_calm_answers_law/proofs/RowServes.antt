@@ -1,51 +1,21 @@
 -- What a row of requests leaves of all replicas: one at most serves, and all others stay.
 use Rattle.std.proofs.Common.{◌≡◌, ℕ, ◌+◌, ◌<◌, ◌≤◌, eqb, true, List, [], ◌∷◌, ◌++◌, map, find, Some, ◌⊎◌, inl, inr, sym, ◌∙◌, ap, subst, arith}
 use Rattle.std.proofs.lemmas.Bool.{cond-true, cases_eq}
-use Rattle.sc_base.specs.Among.{Among, Each}
-use Rattle.sc_base.specs.Limits.{client_actor}
-use Rattle.sc_base.specs.Same.{same_draw}
-use Rattle.sc_base.specs.declared.names.Draw.{Draw}
-use Rattle.sc_base.specs.declared.ops.Op.{Op}
-use Rattle.sc_base.proofs.NameLemmas.{draw_is, same_name}
-use Rattle.sc_cmd.specs.declared.cores.Core.{Core}
-use Rattle.sc_cmd.specs.declared.orders.OrderLine.{OrderLine}
-use Rattle.sc_mail.specs.declared.bodies.Mail.{Mail}
-use Rattle.sc_mail.specs.declared.bodies.MailBody.{MailBody}
-use Rattle.sc_mail.specs.declared.roles.Role.TheVariants.{Node}
-use Rattle.sc_actor.specs.declared.actors.Seat.{Seat}
-use Rattle.sc_actor.specs.declared.rows.Event.{Event}
-use Rattle.sc_actor.specs.declared.rows.Event.TheVariants.{Deliver, Tick, Go, Told, Crash, Drop, Again}
-use Rattle.sc_actor.specs.declared.rows.Input.TheVariants.{Got, Go as GoInput}
-use Rattle.sc_actor.specs.declared.rows.Row.{Row}
-use Rattle.sc_actor.specs.Mail.{mails}
-use Rattle.sc_actor.specs.Replay.{value, acted, input_of}
-use Rattle.sc_actor.specs.System.{System, row_of, waiting, kth}
-use Rattle.sc_paxos_words.proofs.ListLemmas.{find_found}
-use Rattle.sc_node_table.specs.Node.{NodeState, is_node, replica_of, node_table}
-use Rattle.sc_node_table.specs.Replica.{ReplicaState, name_of, next, last_slot}
-use Rattle.sc_node_table.specs.Rows.{mailed}
-use Rattle.sc_node_table.specs.Slots.{slots_ahead}
+use Rattle.sc_base.specs.Definitions.{Among, Each, client_actor, same_draw}
+use Rattle.sc_node_table.specs.Values.{Draw, Op, Core, OrderLine, Mail, MailBody, Node, Seat, Event, Deliver, Tick, Go, Crash, Drop, Again, Got, Row}
+use Rattle.sc_base.proofs.Lemmas.{draw_is, same_name}
+use Rattle.sc_actor.specs.declared.rows.Event.TheVariants.{Told}
+use Rattle.sc_actor.specs.declared.rows.Input.TheVariants.{Go as GoInput}
+use Rattle.sc_actor.specs.Definitions.{mails, value, acted, input_of, System, row_of, waiting, kth}
+use Rattle.sc_paxos_words.proofs.Lemmas.{find_found}
+use Rattle.sc_node_table.specs.Definitions.{NodeState, is_node, replica_of, node_table, ReplicaState, name_of, next, last_slot, mailed, slots_ahead}
 use Rattle.sc_scenario.specs.declared.scenarios.Asks.{Asks}
 use Rattle.sc_scenario.specs.declared.scenarios.Scenario.{Scenario}
-use Rattle.sc_sound.specs.Players.{Player, player_table, node_seat, client_seat, route_of, births, system_of, as_nodes}
-use Rattle.sc_orderly_law.specs.Orderly.{IsTidy, IsOrderly, IsInOrder}
-use Rattle.sc_budget_law.specs.Asking.{IsAskingNode, IsAsking, AreFarFromLast}
-use Rattle.sc_budget_law.specs.Between.{Asks as AsksFor, mark, IsBelow}
-use Rattle.sc_budget_law.specs.BetweenJournal.{replica_at, next_in, view_at, IsGroupAt}
-use Rattle.sc_budget_law.specs.CalmNode.{Setting, IsSetting, IsCalmNode, ComesInTime}
-use Rattle.sc_budget_law.specs.Frames.{Frame, IsFrame}
-use Rattle.sc_budget_law.specs.PlainClient.{IsBegun}
-use Rattle.sc_budget_law.specs.PlainMail.{Requests, IsPlainBody}
-use Rattle.sc_budget_law.specs.PlainNode.{IsDue}
+use Rattle.sc_sound.specs.Definitions.{Player, player_table, node_seat, client_seat, route_of, births, system_of, as_nodes}
+use Rattle.sc_orderly_law.specs.Definitions.{IsTidy, IsOrderly, IsInOrder}
+use Rattle.sc_budget_law.specs.Definitions.{IsAskingNode, IsAsking, AreFarFromLast, Asks as AsksFor, mark, IsBelow, replica_at, next_in, view_at, IsGroupAt, Setting, IsSetting, IsCalmNode, ComesInTime, Frame, IsFrame, IsBegun, Requests, IsPlainBody, IsDue}
 use Rattle.sc_budget_law.proofs.AskingTurns as turns_of
-use Rattle.sc_budget_law.proofs.BetweenStage.{IsStage}
-use Rattle.sc_budget_law.proofs.BetweenSteps.{client_number}
-use Rattle.sc_budget_law.proofs.BetweenViews.{Journal, replica_is, replica_none, replica_others}
-use Rattle.sc_budget_law.proofs.BetweenWhole.{of_player}
-use Rattle.sc_budget_law.proofs.CalmNodes.{Turns, step_is}
-use Rattle.sc_budget_law.proofs.NodeRows.{NodeRow, IsFor, for_node, mail_is, others_after}
-use Rattle.sc_budget_law.proofs.Replicas.{put_found}
-use Rattle.sc_budget_law.proofs.ReplicaRows.{replica_row}
+use Rattle.sc_budget_law.proofs.Lemmas.{IsStage, client_number, Journal, replica_is, replica_none, replica_others, of_player, Turns, step_is, NodeRow, IsFor, for_node, mail_is, others_after, put_found, replica_row}
 use Rattle.sc_calm_answers_law.proofs.Serving.{AsksAt, Serves, serves_row}
 
 -- ---- a node

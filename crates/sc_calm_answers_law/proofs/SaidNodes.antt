@@ -1,23 +1,13 @@
 -- A player refuses nothing but what it is asked to promise or to accept.
 use Rattle.std.proofs.Common.{◌≡◌, ℕ, ◌||◌, not, nat_lt, eqb, refl, List, [], length, Option, Some, None, sym, subst}
-use Rattle.sc_base.specs.declared.names.Ballot.{Ballot}
-use Rattle.sc_base.specs.declared.names.Draw.{Draw}
-use Rattle.sc_cmd.specs.declared.orders.OrderLine.{OrderLine}
-use Rattle.sc_mail.specs.declared.bodies.Mail.{Mail}
-use Rattle.sc_mail.specs.declared.bodies.MailBody.{MailBody}
-use Rattle.sc_mail.specs.declared.bodies.MailBody.TheVariants.{Request, Answer, Prepare, Promise, Accept, Accepted, Nack, Learn, Ask, Install, TxPrepare, TxVote, TxOutcome, TxElsewhere, TxWatch, TxWatched, Told}
-use Rattle.sc_mail.specs.declared.roles.Role.TheVariants.{Node, Client}
-use Rattle.sc_actor.specs.declared.rows.Input.{Input}
-use Rattle.sc_actor.specs.declared.rows.Input.TheVariants.{Got, Tick, Go as GoInput, Told as ToldInput}
-use Rattle.sc_client_table.specs.Table.{table}
-use Rattle.sc_node_table.specs.Node.{NodeState, replica_of, group_of_mail, with_made, unknown, may_come, taken_by, routed, on_mail, group_of_order, ordered_of}
-use Rattle.sc_node_table.specs.Replica.{ReplicaState, name_of, last_slot}
-use Rattle.sc_node_table.specs.Rows.{made_by}
-use Rattle.sc_node_table.specs.Slots.{slots_ahead}
-use Rattle.sc_paxos_words.proofs.ListLemmas.{Each-weaker}
-use Rattle.sc_law_lemmas.proofs.Ways.{either_way}
-use Rattle.sc_sound.specs.Players.{Player, player_table}
-use Rattle.sc_calm_mail_law.proofs.Clients.{IsRequestOf, clients_ask}
+use Rattle.sc_node_table.specs.Values.{Ballot, Draw, OrderLine, Mail, MailBody, Request, Answer, Prepare, Promise, Accept, Accepted, Nack, Learn, Ask, Install, TxPrepare, TxVote, TxOutcome, TxElsewhere, TxWatch, TxWatched, Told, Node, Client, Input, Got}
+use Rattle.sc_actor.specs.declared.rows.Input.TheVariants.{Tick, Go as GoInput, Told as ToldInput}
+use Rattle.sc_client_table.specs.Definitions.{table}
+use Rattle.sc_node_table.specs.Definitions.{NodeState, replica_of, group_of_mail, with_made, unknown, may_come, taken_by, routed, on_mail, group_of_order, ordered_of, ReplicaState, name_of, last_slot, made_by, slots_ahead}
+use Rattle.sc_paxos_words.proofs.Lemmas.{Each-weaker}
+use Rattle.sc_law_lemmas.proofs.Lemmas.{either_way}
+use Rattle.sc_sound.specs.Definitions.{Player, player_table}
+use Rattle.sc_calm_mail_law.proofs.Lemmas.{IsRequestOf, clients_ask}
 use Rattle.sc_calm_answers_law.proofs.Said.{IsSaid, AreSaid}
 use Rattle.sc_calm_answers_law.proofs.SaidRows.{Refuses, mailed_keeps, order_keeps, made_keeps}
 

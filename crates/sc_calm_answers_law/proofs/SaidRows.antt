@@ -1,59 +1,16 @@
 -- A replica keeps its group's name in each row of its table, and refuses nothing but what it is asked to promise or to accept, by the ballot that it has promised.
 use Rattle.std.proofs.Common.{◌≡◌, ℕ, zero, suc, ◌+◌, ◌&&◌, ◌||◌, not, nat_le, nat_lt, eqb, refl, true, false, cond, List, [], ◌∷◌, ◌++◌, length, Option, Some, None, sym, ◌∙◌, subst}
-use Rattle.sc_base.specs.Drawing.{Drawer, next_name}
-use Rattle.sc_base.specs.Limits.{client_actor}
-use Rattle.sc_base.specs.declared.names.Ballot.{Ballot}
-use Rattle.sc_base.specs.declared.names.Draw.{Draw}
-use Rattle.sc_base.specs.declared.ops.Op.{Op}
-use Rattle.sc_cmd.specs.declared.bodies.Offer.{Offer}
-use Rattle.sc_cmd.specs.declared.bodies.Watch.{Watch}
-use Rattle.sc_cmd.specs.declared.commands.Command.{Command}
-use Rattle.sc_cmd.specs.declared.commands.Command.TheVariants.{Call, Prepared as PreparedAct, RecordVote, Finish, Watched, RecordWatch}
-use Rattle.sc_cmd.specs.declared.cores.Base.{Base}
-use Rattle.sc_cmd.specs.declared.orders.OrderLine.{OrderLine}
-use Rattle.sc_cmd.specs.declared.orders.OrderRefusal.{OrderRefusal}
-use Rattle.sc_cmd.specs.declared.orders.ToldResult.TheVariants.{Refused}
-use Rattle.sc_cmd.specs.declared.votes.Outcome.{Outcome}
-use Rattle.sc_cmd.specs.declared.votes.Past.{Past}
+use Rattle.sc_base.specs.Definitions.{Drawer, next_name, client_actor, is_member}
+use Rattle.sc_node_table.specs.Values.{Ballot, Draw, Op, Offer, Watch, Command, Call, Prepared as PreparedAct, RecordVote, Finish, Watched, RecordWatch, Base, OrderLine, OrderRefusal, Refused, Outcome, Past, Vote, AnswerBody, Mail, MailBody, Request, Answer, Prepare, Promise, Accept, Accepted, Nack, Learn, Ask, Install, TxPrepare, TxVote, TxOutcome, TxElsewhere, TxWatch, TxWatched, Told, Report, PrepareAnswer, AcceptAnswer, Counted, Chosen, NotYet}
 use Rattle.sc_cmd.specs.declared.votes.Past.TheVariants as Cast
-use Rattle.sc_cmd.specs.declared.votes.Vote.{Vote}
 use Rattle.sc_cmd.specs.declared.votes.Vote.TheVariants as Vows
-use Rattle.sc_mail.specs.declared.bodies.AnswerBody.{AnswerBody}
 use Rattle.sc_mail.specs.declared.bodies.AnswerBody.TheVariants as Says
-use Rattle.sc_mail.specs.declared.bodies.Mail.{Mail}
-use Rattle.sc_mail.specs.declared.bodies.MailBody.{MailBody}
-use Rattle.sc_mail.specs.declared.bodies.MailBody.TheVariants.{Request, Answer, Prepare, Promise, Accept, Accepted, Nack, Learn, Ask, Install, TxPrepare, TxVote, TxOutcome, TxElsewhere, TxWatch, TxWatched, Told}
-use Rattle.sc_base.specs.Roster.{is_member}
-use Rattle.sc_paxos_words.specs.declared.reports.Report.{Report}
-use Rattle.sc_paxos_words.specs.declared.answers.PrepareAnswer.{PrepareAnswer}
 use Rattle.sc_paxos_words.specs.declared.answers.PrepareAnswer.TheVariants as Prepared
-use Rattle.sc_paxos_words.specs.declared.answers.AcceptAnswer.{AcceptAnswer}
 use Rattle.sc_paxos_words.specs.declared.answers.AcceptAnswer.TheVariants as Asked
-use Rattle.sc_paxos_words.specs.declared.answers.Counted.{Counted}
-use Rattle.sc_paxos_words.specs.declared.answers.Counted.TheVariants.{Chosen, NotYet}
-use Rattle.sc_paxos_words.specs.Preparing.{prepared}
-use Rattle.sc_paxos_words.specs.Accepting.{accepted as accepted_by}
-use Rattle.sc_paxos_words.specs.Acceptors.{AcceptorState, may_promise, after_promise, may_accept, after_accept, reports_from}
-use Rattle.sc_paxos_words.specs.Ballots.{below}
-use Rattle.sc_paxos_words.proofs.ListLemmas.{Each-append}
-use Rattle.sc_paxos_words.specs.Leaders.{LeaderState, promise_counted}
-use Rattle.sc_paxos_words.specs.Logs.{entry_at}
-use Rattle.sc_paxos_words.specs.Votes.{counted}
-use Rattle.sc_node_table.specs.Acts.{act_queued}
-use Rattle.sc_node_table.specs.Election.{ended, stopped, saw}
-use Rattle.sc_node_table.specs.Execute.{executed, has_room}
-use Rattle.sc_node_table.specs.Install.{named, jumped}
-use Rattle.sc_node_table.specs.Mails.{sent}
-use Rattle.sc_node_table.specs.Ordering.{ordered_command, untaken, taken_or_told, ordered_row}
-use Rattle.sc_node_table.specs.Pump.{pumped}
-use Rattle.sc_node_table.specs.Queues.{call_of, without_call}
-use Rattle.sc_node_table.specs.Replica.{ReplicaState, Place, Executed, childless, name_of, next, members, settled, set_at, last_slot, forgotten, installed_replica}
-use Rattle.sc_node_table.specs.Rows.{refused_at, queued, requested, request_row, learn_row, taught, most_taught, ask_row, looked_up, took_over, install_row, made_by, mailed}
-use Rattle.sc_node_table.specs.Slots.{with_slot}
-use Rattle.sc_node_table.specs.Transactions.{asked_next, noted_outcome, standing_vote, sent_elsewhere, offered_by, offer_row, watched_by, watch_row, awaits_vote, awaits_watch, vote_queued, vote_met, vote_row, watch_queued, watch_met, watched_row, elsewhere_row, is_bound, outcome_row}
-use Rattle.sc_node_table.specs.Voting.{hinted, promise_to, prepare_row, accepted_to, took, accept_row, leads, promise_row, readied, vote_tallied, voted, accepted_row, nack_row}
-use Rattle.sc_law_lemmas.proofs.Places.{promised_place, asked_place}
-use Rattle.sc_law_lemmas.proofs.Ways.{either_way}
+use Rattle.sc_paxos_words.specs.Definitions.{prepared, accepted as accepted_by, AcceptorState, may_promise, after_promise, may_accept, after_accept, reports_from, below, LeaderState, promise_counted, entry_at, counted}
+use Rattle.sc_paxos_words.proofs.Lemmas.{Each-append}
+use Rattle.sc_node_table.specs.Definitions.{act_queued, ended, stopped, saw, executed, has_room, named, jumped, sent, ordered_command, untaken, taken_or_told, ordered_row, pumped, call_of, without_call, ReplicaState, Place, Executed, childless, name_of, next, members, settled, set_at, last_slot, forgotten, installed_replica, refused_at, queued, requested, request_row, learn_row, taught, most_taught, ask_row, looked_up, took_over, install_row, made_by, mailed, with_slot, asked_next, noted_outcome, standing_vote, sent_elsewhere, offered_by, offer_row, watched_by, watch_row, awaits_vote, awaits_watch, vote_queued, vote_met, vote_row, watch_queued, watch_met, watched_row, elsewhere_row, is_bound, outcome_row, hinted, promise_to, prepare_row, accepted_to, took, accept_row, leads, promise_row, readied, vote_tallied, voted, accepted_row, nack_row}
+use Rattle.sc_law_lemmas.proofs.Lemmas.{promised_place, asked_place, either_way}
 use Rattle.std.proofs.lemmas.Bool.{cond_both}
 use Rattle.sc_calm_answers_law.proofs.Said.{IsSaid, AreSaid, one_sent, vote_told, watch_told, outcome_said, next_one_asked}
 use Rattle.sc_calm_answers_law.proofs.SaidParts.{Keeps, pumped_keeps, queued_act, ended_keeps, saw_keeps, sent_keeps, looked_keeps, executed_keeps}

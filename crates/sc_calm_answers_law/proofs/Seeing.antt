@@ -1,45 +1,14 @@
 -- The greatest ballot that a replica saw after what it takes: one that does not run sees another by what asks it alone, or runs then.
 use Rattle.std.proofs.Common.{◌≡◌, ℕ, ◌-◌, ◌^◌, ◌<◌, ◌≤◌, ◌&&◌, ◌||◌, not, nat_le, nat_lt, eqb, Bool, true, false, true≢false, cond, List, [], ◌∷◌, ◌++◌, length, Option, Some, None, ◌⊎◌, inl, inr, refl, sym, ◌∙◌, ap, subst}
 use Rattle.std.proofs.lemmas.Bool.{cond_both, and_parts, eqb-true, eq-eqb}
-use Rattle.sc_base.specs.Drawing.{Drawer, next_name}
-use Rattle.sc_base.specs.Same.{same_ballot}
-use Rattle.sc_base.specs.declared.names.Ballot.{Ballot}
-use Rattle.sc_base.specs.declared.names.Draw.{Draw}
-use Rattle.sc_base.specs.declared.ops.Op.{Op}
-use Rattle.sc_cmd.specs.declared.bodies.Offer.{Offer}
-use Rattle.sc_cmd.specs.declared.bodies.Watch.{Watch}
-use Rattle.sc_cmd.specs.declared.commands.Command.{Command}
-use Rattle.sc_cmd.specs.declared.commands.Command.TheVariants.{Call, Prepared as PreparedAct, RecordVote, Finish, Watched, RecordWatch}
-use Rattle.sc_cmd.specs.declared.cores.Base.{Base}
-use Rattle.sc_cmd.specs.declared.links.Route.{Route}
-use Rattle.sc_cmd.specs.declared.orders.OrderLine.{OrderLine}
-use Rattle.sc_cmd.specs.declared.orders.OrderRefusal.{OrderRefusal}
-use Rattle.sc_cmd.specs.declared.votes.Outcome.{Outcome}
-use Rattle.sc_cmd.specs.declared.votes.Past.{Past}
+use Rattle.sc_base.specs.Definitions.{Drawer, next_name, same_ballot, is_member, least_of}
+use Rattle.sc_node_table.specs.Values.{Ballot, Draw, Op, Offer, Watch, Command, Call, Prepared as PreparedAct, RecordVote, Finish, Watched, RecordWatch, Base, Route, OrderLine, OrderRefusal, Outcome, Past, Vote, AnswerBody, Mail, MailBody, Request, Answer, Prepare, Promise, Accept, Accepted, Nack, Learn, Ask, Install, TxPrepare, TxVote, TxOutcome, TxElsewhere, TxWatch, TxWatched, Told, Report}
 use Rattle.sc_cmd.specs.declared.votes.Past.TheVariants as Cast
-use Rattle.sc_cmd.specs.declared.votes.Vote.{Vote}
 use Rattle.sc_cmd.specs.declared.votes.Vote.TheVariants as Vows
-use Rattle.sc_mail.specs.declared.bodies.AnswerBody.{AnswerBody}
-use Rattle.sc_mail.specs.declared.bodies.Mail.{Mail}
-use Rattle.sc_mail.specs.declared.bodies.MailBody.{MailBody}
-use Rattle.sc_mail.specs.declared.bodies.MailBody.TheVariants.{Request, Answer, Prepare, Promise, Accept, Accepted, Nack, Learn, Ask, Install, TxPrepare, TxVote, TxOutcome, TxElsewhere, TxWatch, TxWatched, Told}
-use Rattle.sc_base.specs.Roster.{is_member, least_of}
-use Rattle.sc_paxos_words.specs.declared.reports.Report.{Report}
-use Rattle.sc_node_table.specs.Acts.{has_act, with_act, act_queued}
-use Rattle.sc_node_table.specs.Election.{elected, stopped}
-use Rattle.sc_node_table.specs.Execute.{entered, is_among, looked_for, looked, executed_one, executed_ready, executed}
-use Rattle.sc_node_table.specs.Install.{named, jumped}
-use Rattle.sc_node_table.specs.Ordering.{ordered_command, untaken, taken_or_told, ordered_row}
-use Rattle.sc_node_table.specs.Pump.{pumped}
-use Rattle.sc_node_table.specs.Queues.{call_of, without_call}
-use Rattle.sc_node_table.specs.Replica.{ReplicaState, Place, Executed, childless, next, members, set_at, settled, last_slot, forgotten, first_ballot, installed_replica}
-use Rattle.sc_node_table.specs.Rows.{refused_at, queued, requested, request_row, looked_up, took_over, install_row, mailed, made_by}
-use Rattle.sc_node_table.specs.Transactions.{asked_next, noted_outcome, standing_vote, sent_elsewhere, offered_by, offer_row, watched_by, watch_row, awaits_vote, awaits_watch, vote_queued, vote_met, vote_row, watch_queued, watch_met, watched_row, elsewhere_row, is_bound, outcome_row}
-use Rattle.sc_node_table.specs.Voting.{leads, promise_row, voted, accepted_row}
-use Rattle.sc_law_lemmas.proofs.Entries.{idle_ready, idle_pump}
-use Rattle.sc_law_lemmas.proofs.Ways.{either_way}
-use Rattle.sc_following_law.specs.Tables.{Stays, MayElect}
-use Rattle.sc_following_law.proofs.Learn.{looked_same, place2, over, over_off, looks, told_is}
+use Rattle.sc_node_table.specs.Definitions.{has_act, with_act, act_queued, elected, stopped, entered, is_among, looked_for, looked, executed_one, executed_ready, executed, named, jumped, ordered_command, untaken, taken_or_told, ordered_row, pumped, call_of, without_call, ReplicaState, Place, Executed, childless, next, members, set_at, settled, last_slot, forgotten, first_ballot, installed_replica, refused_at, queued, requested, request_row, looked_up, took_over, install_row, mailed, made_by, asked_next, noted_outcome, standing_vote, sent_elsewhere, offered_by, offer_row, watched_by, watch_row, awaits_vote, awaits_watch, vote_queued, vote_met, vote_row, watch_queued, watch_met, watched_row, elsewhere_row, is_bound, outcome_row, leads, promise_row, voted, accepted_row}
+use Rattle.sc_law_lemmas.proofs.Lemmas.{idle_ready, idle_pump, either_way}
+use Rattle.sc_following_law.specs.Definitions.{Stays, MayElect}
+use Rattle.sc_following_law.proofs.Lemmas.{looked_same, place2, over, over_off, looks, told_is}
 
 -- ---- one that looks for a leader keeps what it saw, or runs then
 

@@ -1,39 +1,20 @@
 -- The segments of a calm journal: quiet fronts that rest, requests behind them, and orders.
 use Rattle.std.proofs.Common.{◌≡◌, ℕ, ◌+◌, ◌≤◌, true, false, true≢false, List, [], ◌∷◌, ◌++◌, length, refl, sym, ◌∙◌, ap, subst, arith, append_assoc, append-nil}
-use Rattle.sc_base.specs.Among.{Each}
-use Rattle.sc_cmd.specs.declared.cores.Base.{Base}
-use Rattle.sc_cmd.specs.declared.orders.OrderLine.{OrderLine}
-use Rattle.sc_mail.specs.declared.bodies.Mail.{Mail}
-use Rattle.sc_actor.specs.declared.actors.Seat.{Seat}
-use Rattle.sc_actor.specs.declared.rows.Event.{Event}
-use Rattle.sc_actor.specs.declared.rows.Event.TheVariants.{Deliver, Tick, Go, Told, Crash, Drop, Again}
-use Rattle.sc_actor.specs.declared.rows.Row.{Row}
-use Rattle.sc_actor.specs.Mail.{mails}
-use Rattle.sc_actor.specs.System.{System, row_of}
-use Rattle.sc_orderly_law.specs.Orderly.{IsInOrder, is_told, orders}
-use Rattle.sc_orderly_law.specs.Timely.{AreInTime}
-use Rattle.sc_orderly_law.proofs.InTime.{last_in_time}
-use Rattle.sc_orderly_law.proofs.Paying.{count_push}
+use Rattle.sc_base.specs.Definitions.{Each}
+use Rattle.sc_node_table.specs.Values.{Base, OrderLine, Mail, Seat, Event, Deliver, Tick, Go, Crash, Drop, Again, Row}
+use Rattle.sc_actor.specs.declared.rows.Event.TheVariants.{Told}
+use Rattle.sc_actor.specs.Definitions.{mails, System, row_of}
+use Rattle.sc_orderly_law.specs.Definitions.{IsInOrder, is_told, orders, AreInTime}
+use Rattle.sc_orderly_law.proofs.Lemmas.{last_in_time, count_push}
 use Rattle.sc_scenario.specs.declared.scenarios.Scenario.{Scenario}
-use Rattle.sc_sound.specs.Players.{Player, player_table, births, as_nodes}
-use Rattle.sc_calm_law.specs.Charts.{players}
-use Rattle.sc_calm_law.specs.Keeping.{FindsCalm}
-use Rattle.sc_calm_law.specs.Totals.{Rows}
-use Rattle.sc_calm_orders_law.specs.Stages.{Still}
-use Rattle.sc_calm_scenes_law.specs.Fresh.{IsThere}
-use Rattle.sc_calm_scenes_law.specs.Kept.{StageAfter}
-use Rattle.sc_budget_law.specs.AskingQuiet.{DoHintsRise, replicas_after}
-use Rattle.sc_calm_rows_law.specs.Turns.{IsSeat, with_event}
-use Rattle.sc_calm_charts_law.specs.Charting.{chart_at, names_at}
-use Rattle.sc_calm_charts_law.specs.Fronts.{quiet_front}
-use Rattle.sc_calm_answers_law.specs.Journal.{IsCalmJournal, IsFront, GoesOnBy}
-use Rattle.sc_calm_answers_law.specs.Resting.{RestsAt}
-use Rattle.sc_calm_answers_law.specs.FrontBegins.{JournalsBeginResting}
-use Rattle.sc_calm_answers_law.specs.Homeward.{GoesHome, RequestsSendNoErrands, HomewardGoesToActors}
-use Rattle.sc_calm_answers_law.specs.AskedSince.{IsAskedSince, RequestsBeginAsked, AskedRowsGoOn, AskedRowsFindCalm, RequestsKeepGroups, RequestsRestAgain}
-use Rattle.sc_calm_answers_law.specs.Ordered.{IsOrderedSince, OrdersBeginOrdered, DeliveriesKeepOrdered}
-use Rattle.sc_calm_answers_law.specs.Over.{OrdersLeaveResting}
-use Rattle.sc_calm_answers_law.specs.Near.{HasFewNames, ClientsAreNear, NamesStayFew}
+use Rattle.sc_sound.specs.Definitions.{Player, player_table, births, as_nodes}
+use Rattle.sc_calm_law.specs.Definitions.{players, FindsCalm, Rows}
+use Rattle.sc_calm_orders_law.specs.Definitions.{Still}
+use Rattle.sc_calm_scenes_law.specs.Definitions.{IsThere, StageAfter}
+use Rattle.sc_budget_law.specs.Definitions.{DoHintsRise, replicas_after}
+use Rattle.sc_calm_rows_law.specs.Definitions.{IsSeat, with_event}
+use Rattle.sc_calm_charts_law.specs.Definitions.{chart_at, names_at, quiet_front}
+use Rattle.sc_calm_answers_law.specs.Definitions.{IsCalmJournal, IsFront, GoesOnBy, RestsAt, JournalsBeginResting, GoesHome, RequestsSendNoErrands, HomewardGoesToActors, IsAskedSince, RequestsBeginAsked, AskedRowsGoOn, AskedRowsFindCalm, RequestsKeepGroups, RequestsRestAgain, IsOrderedSince, OrdersBeginOrdered, DeliveriesKeepOrdered, OrdersLeaveResting, HasFewNames, ClientsAreNear, NamesStayFew}
 use Rattle.sc_calm_answers_law.proofs.Segments.{Parts, IsSegment, segments}
 
 -- an order that is told

@@ -1,57 +1,26 @@
 -- Each row of a calm journal finds what keeps it calm, by the chart of the rows before it, and the chart after it follows that.
 use Rattle.std.proofs.Common.{◌≡◌, ℕ, zero, suc, eqb, Bool, true, false, true≢false, cond, List, [], ◌∷◌, ◌++◌, replicate, Option, ◌⊎◌, inl, inr, refl, sym, ◌∙◌, ap, subst, append_assoc, append-nil}
 use Rattle.std.proofs.lemmas.Bool.{cases_Bool, eq-eqb}
-use Rattle.sc_base.specs.Among.{Among, Each}
-use Rattle.sc_base.specs.declared.names.Draw.{Draw}
-use Rattle.sc_cmd.specs.declared.cores.Base.{Base}
-use Rattle.sc_cmd.specs.declared.orders.OrderLine.{OrderLine}
-use Rattle.sc_mail.specs.declared.bodies.Mail.{Mail}
-use Rattle.sc_mail.specs.declared.bodies.MailBody.TheVariants.{TxElsewhere}
-use Rattle.sc_mail.specs.declared.roles.Role.TheVariants.{Node, Client}
-use Rattle.sc_actor.specs.declared.actors.Seat.{Seat}
-use Rattle.sc_actor.specs.declared.rows.Event.{Event}
-use Rattle.sc_actor.specs.declared.rows.Event.TheVariants.{Deliver, Tick, Go, Told, Crash, Drop, Again}
-use Rattle.sc_actor.specs.declared.rows.Row.{Row}
-use Rattle.sc_actor.specs.Mail.{mails, copies}
-use Rattle.sc_actor.specs.Replay.{value}
-use Rattle.sc_actor.specs.System.{System, row_of}
-use Rattle.sc_actor.specs.Walk.{is_quiet}
-use Rattle.sc_orderly_law.specs.Orderly.{IsCalmEvent, IsCalmRow, IsInOrder, is_told, is_born, mail_with, rest}
-use Rattle.sc_orderly_law.specs.Owing.{under_way}
-use Rattle.sc_orderly_law.specs.Timely.{AreInTime, ComesInTime}
-use Rattle.sc_orderly_law.proofs.InTime.{in_time_before, last_in_time}
-use Rattle.sc_paxos_words.proofs.ListLemmas.{Each-among, Each-from, Each-weaker}
-use Rattle.sc_scenario.specs.Valid.{ValidScenariosAreBounded}
+use Rattle.sc_base.specs.Definitions.{Among, Each}
+use Rattle.sc_node_table.specs.Values.{Draw, Base, OrderLine, Mail, TxElsewhere, Node, Client, Seat, Event, Deliver, Tick, Go, Crash, Drop, Again, Row}
+use Rattle.sc_actor.specs.declared.rows.Event.TheVariants.{Told}
+use Rattle.sc_actor.specs.Definitions.{mails, copies, value, System, row_of, is_quiet}
+use Rattle.sc_orderly_law.specs.Definitions.{IsCalmEvent, IsCalmRow, IsInOrder, is_told, is_born, mail_with, rest, under_way, AreInTime, ComesInTime}
+use Rattle.sc_orderly_law.proofs.Lemmas.{in_time_before, last_in_time}
+use Rattle.sc_paxos_words.proofs.Lemmas.{Each-among, Each-from, Each-weaker}
+use Rattle.sc_scenario.specs.Definitions.{ValidScenariosAreBounded}
 use Rattle.sc_scenario.specs.declared.scenarios.Scenario.{Scenario}
-use Rattle.sc_sound.specs.Players.{Player, player_table, births, as_nodes}
-use Rattle.sc_calm_law.specs.Charts.{Chart, players, MayFollow}
-use Rattle.sc_calm_law.specs.Keeping.{FindsCalm, KeepsCalm}
-use Rattle.sc_calm_law.specs.Resting.{IsResting, RestsCalm}
-use Rattle.sc_calm_law.specs.Totals.{Rows}
-use Rattle.sc_calm_rows_law.specs.Turns.{IsSeat}
-use Rattle.sc_calm_mail_law.specs.Lasting.{ReplicasLast}
-use Rattle.sc_calm_orders_law.specs.Stages.{Stage, Still, IsAt}
-use Rattle.sc_calm_orders_law.proofs.Lists.{among-left, among-right}
-use Rattle.sc_budget_law.specs.CalmNode.{Setting, IsAsideBody, IsCalmMail}
-use Rattle.sc_budget_law.specs.PlainMail.{Requests, IsPlainBody}
-use Rattle.sc_calm_scenes_law.specs.Kept.{StageAfter}
-use Rattle.sc_calm_scenes_law.specs.Scenes.{scene_at}
-use Rattle.sc_calm_scenes_law.proofs.Turning.{calm_is}
-use Rattle.sc_calm_charts_law.specs.Charting.{chart_at}
-use Rattle.sc_calm_charts_law.specs.Following.{WaitsForNone, AsksSame, ChartsFollow, QuietChartsRest}
-use Rattle.sc_calm_charts_law.specs.Fronts.{quiet_front}
-use Rattle.sc_budget_law.specs.AskingQuiet.{DoHintsRise, replicas_after}
-use Rattle.sc_calm_answers_law.specs.Following.{OrderChartsFollow}
-use Rattle.sc_calm_answers_law.specs.Guided.{WellLedLeadAlone}
-use Rattle.sc_calm_answers_law.specs.Journal.{IsFront, AreSent}
-use Rattle.sc_calm_answers_law.specs.KeptAsking.{AllLeadAlone}
-use Rattle.sc_calm_answers_law.specs.KeptRising.{ChartHintsRise}
-use Rattle.sc_calm_answers_law.specs.KnownFronts.{FrontsAreFound}
-use Rattle.sc_calm_answers_law.specs.Ordered.{IsOrderedSince}
-use Rattle.sc_calm_answers_law.specs.Resting.{RestsAt}
-use Rattle.sc_calm_answers_law.specs.Settings.{frames_after, QuietJournalsHaveFrames}
-use Rattle.sc_calm_answers_law.specs.Starts.{LawfulReplicasAreNamedOnce}
-use Rattle.sc_calm_answers_law.specs.Viewing.{ViewsAgree}
+use Rattle.sc_sound.specs.Definitions.{Player, player_table, births, as_nodes}
+use Rattle.sc_calm_law.specs.Definitions.{Chart, players, MayFollow, FindsCalm, KeepsCalm, IsResting, RestsCalm, Rows}
+use Rattle.sc_calm_rows_law.specs.Definitions.{IsSeat}
+use Rattle.sc_calm_mail_law.specs.Definitions.{ReplicasLast}
+use Rattle.sc_calm_orders_law.specs.Definitions.{Stage, Still, IsAt}
+use Rattle.sc_calm_orders_law.proofs.Lemmas.{among-left, among-right}
+use Rattle.sc_budget_law.specs.Definitions.{Setting, IsAsideBody, IsCalmMail, Requests, IsPlainBody, DoHintsRise, replicas_after}
+use Rattle.sc_calm_scenes_law.specs.Definitions.{StageAfter, scene_at}
+use Rattle.sc_calm_scenes_law.proofs.Lemmas.{calm_is}
+use Rattle.sc_calm_charts_law.specs.Definitions.{chart_at, WaitsForNone, AsksSame, ChartsFollow, QuietChartsRest, quiet_front}
+use Rattle.sc_calm_answers_law.specs.Definitions.{OrderChartsFollow, WellLedLeadAlone, IsFront, AreSent, AllLeadAlone, ChartHintsRise, FrontsAreFound, IsOrderedSince, RestsAt, frames_after, QuietJournalsHaveFrames, LawfulReplicasAreNamedOnce, ViewsAgree}
 use Rattle.sc_calm_answers_law.proofs.ChartRests.{all_rest, rests_by_chart}
 use Rattle.sc_calm_answers_law.proofs.Lone.{all_lead}
 use Rattle.sc_calm_answers_law.proofs.SegmentParts as parts_of

@@ -1,17 +1,14 @@
 -- Mail of a group finds a replica where it needs one, after each kind of row.
 use Rattle.std.proofs.Common.{◌≡◌, ℕ, suc, zero, ◌+◌, ◌≤◌, ◌&&◌, eqb, true≢false, List, [], ◌∷◌, ◌++◌, Option, Some, ◌⊎◌, inl, inr, refl, sym, ◌∙◌, ap, subst, arith, append-nil}
 use Rattle.std.proofs.lemmas.Bool.{cases_eq, cond_both, cond-false, eqb-true, and_parts}
-use Rattle.sc_base.specs.Among.{Each}
-use Rattle.sc_base.specs.declared.names.Ballot.{Ballot}
-use Rattle.sc_base.specs.Roster.{is_member}
-use Rattle.sc_node_table.specs.Replica.{listed}
-use Rattle.sc_paxos_words.specs.Ballots.{below}
-use Rattle.sc_paxos_words.proofs.ListLemmas.{Each-append, Each-weaker}
-use Rattle.sc_following_law.specs.Following.{Mark, Asks, Votes, Tells, Installs, Prepares, Promises, Course, Progress, Sets, members_at, promise_by, IsFit, AreFit, IsFollowing}
-use Rattle.sc_following_law.specs.Rows.{IsRow, IsIdle, IsOffer, answered, Takes, told_of, told_from, Leads, Elects}
-use Rattle.sc_following_law.proofs.Keeps.{each-row}
-use Rattle.sc_following_law.proofs.Marks.{offers-each, told-each, rises, reached-least}
-use Rattle.sc_calm_answers_law.specs.SentHomes.{IsHeld, FindsOne, IsStranger, IsAtHome, HomesAreKept}
+use Rattle.sc_base.specs.Definitions.{Each, is_member}
+use Rattle.sc_node_table.specs.Values.{Ballot}
+use Rattle.sc_node_table.specs.Definitions.{listed}
+use Rattle.sc_paxos_words.specs.Definitions.{below}
+use Rattle.sc_paxos_words.proofs.Lemmas.{Each-append, Each-weaker}
+use Rattle.sc_following_law.specs.Definitions.{Mark, Asks, Votes, Tells, Installs, Prepares, Promises, Course, Progress, Sets, members_at, promise_by, IsFit, AreFit, IsFollowing, IsRow, IsIdle, IsOffer, answered, Takes, told_of, told_from, Leads, Elects}
+use Rattle.sc_following_law.proofs.Lemmas.{each-row, offers-each, told-each, rises, reached-least}
+use Rattle.sc_calm_answers_law.specs.Definitions.{IsHeld, FindsOne, IsStranger, IsAtHome, HomesAreKept}
 
 -- what a stranger is told: nothing
 told_none : (at : Sets) (course : Course) (who : ℕ) → IsStranger at who → (more slot : ℕ) → told_from at course slot more who ≡ []
@@ -161,6 +158,7 @@ module _ (at : Sets) (now after : Progress) (node : ℕ) (taken : Option Mark) (
         (no_stranger e.mark e.takes)
         (λ who out. elim (e.sends who) [ inl none ↦ none | inr one ↦ absurd (true≢false (sym one.0.decides ∙ out one.0.slot)) ])
 
+-- Votes and promises come to nodes that have a replica, and nothing of a group comes to an actor that is never a member: each kind of row keeps that.
 pub homes_are_kept : HomesAreKept
 homes_are_kept = record {
   idle = λ at now after node taken sent marks marks_after row i was h. idle_homes at now after node taken sent marks marks_after row was h i;

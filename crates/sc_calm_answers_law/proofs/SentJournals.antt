@@ -2,57 +2,28 @@
 use Rattle.std.proofs.Common.{◌≡◌, ℕ, ◌<◌, ◌≤◌, nat_le, true, List, [], ◌∷◌, ◌++◌, Some, None, inl, inr, refl, sym, ◌∙◌, ap, subst, append_assoc, append-nil, arith}
 use Rattle.std.specs.Option.{option_map}
 use Rattle.std.proofs.lemmas.Bool.{cond-true, cond-false, lt-leb, true≢false}
-use Rattle.sc_base.specs.Among.{Each}
-use Rattle.sc_base.specs.declared.names.Ballot.{Ballot}
-use Rattle.sc_base.specs.declared.names.Draw.{Draw}
-use Rattle.sc_cmd.specs.declared.commands.Command.{Command}
-use Rattle.sc_cmd.specs.declared.cores.Base.{Base}
-use Rattle.sc_cmd.specs.declared.orders.OrderLine.{OrderLine}
-use Rattle.sc_mail.specs.declared.bodies.Mail.{Mail}
-use Rattle.sc_mail.specs.declared.bodies.MailBody.{MailBody}
-use Rattle.sc_mail.specs.declared.bodies.MailBody.TheVariants.{Request, Answer, Prepare, Promise, Accept, Accepted, Nack, Learn, Ask, Install, TxPrepare, TxVote, TxOutcome, TxElsewhere, TxWatch, TxWatched, Told}
-use Rattle.sc_base.specs.Roster.{is_member}
-use Rattle.sc_actor.proofs.ReplayLemmas.{mails-snoc}
-use Rattle.sc_actor.specs.declared.actors.Seat.{Seat}
-use Rattle.sc_actor.specs.declared.rows.Event.{Event}
-use Rattle.sc_actor.specs.declared.rows.Row.{Row}
-use Rattle.sc_actor.specs.Mail.{mails}
-use Rattle.sc_actor.specs.System.{row_of}
-use Rattle.sc_orderly_law.specs.Orderly.{IsCalmEvent}
-use Rattle.sc_orderly_law.specs.Timely.{AreInTime}
-use Rattle.sc_orderly_law.proofs.InTime.{by_time, last_in_time}
-use Rattle.sc_node_table.specs.Replica.{ReplicaState, listed, born_replica}
-use Rattle.sc_node_table.specs.Slots.{slots_ahead}
-use Rattle.sc_paxos_words.specs.declared.reports.Report.{Report}
-use Rattle.sc_paxos_words.specs.Acceptors.{reports_from}
-use Rattle.sc_paxos_words.specs.Ballots.{IsAtLeast}
-use Rattle.sc_paxos_words.proofs.BallotLemmas.{at_least_below, at_least_from_below}
-use Rattle.sc_paxos_words.proofs.ListLemmas.{Each-append, Each-weaker}
-use Rattle.sc_scenario.specs.Valid.{ValidScenariosAreBounded}
+use Rattle.sc_base.specs.Definitions.{Each, is_member}
+use Rattle.sc_node_table.specs.Values.{Ballot, Draw, Command, Base, OrderLine, Mail, MailBody, Request, Answer, Prepare, Promise, Accept, Accepted, Nack, Learn, Ask, Install, TxPrepare, TxVote, TxOutcome, TxElsewhere, TxWatch, TxWatched, Told, Seat, Event, Row, Report}
+use Rattle.sc_actor.proofs.Lemmas.{mails-snoc}
+use Rattle.sc_actor.specs.Definitions.{mails, row_of}
+use Rattle.sc_orderly_law.specs.Definitions.{IsCalmEvent, AreInTime}
+use Rattle.sc_orderly_law.proofs.Lemmas.{by_time, last_in_time}
+use Rattle.sc_node_table.specs.Definitions.{ReplicaState, listed, born_replica, slots_ahead}
+use Rattle.sc_paxos_words.specs.Definitions.{reports_from, IsAtLeast}
+use Rattle.sc_paxos_words.proofs.Lemmas.{at_least_below, at_least_from_below, Each-append, Each-weaker}
+use Rattle.sc_scenario.specs.Definitions.{ValidScenariosAreBounded}
 use Rattle.sc_scenario.specs.declared.scenarios.Scenario.{Scenario}
-use Rattle.sc_sound.specs.Players.{Player, player_table, births, as_nodes}
-use Rattle.sc_calm_law.specs.Charts.{players}
-use Rattle.sc_calm_law.specs.Totals.{Rows}
-use Rattle.sc_following_law.specs.Dated.{from_slot_of}
-use Rattle.sc_following_law.specs.Following.{Prepares, mark_of, Course, Progress, Sets}
-use Rattle.sc_following_law.specs.Hints.{Tellers}
-use Rattle.sc_following_law.proofs.Nodes.{same_mark}
-use Rattle.sc_calm_rows_law.specs.Groups.{view_at, marks_at, next_in, promise_in, progress_at}
-use Rattle.sc_calm_rows_law.specs.Steps.{led_course, elected_course}
-use Rattle.sc_calm_rows_law.specs.Turns.{IsSeat, with_event}
-use Rattle.sc_calm_rows_law.proofs.Marking.{rows_are}
-use Rattle.sc_calm_logs_law.specs.Logged.{logged_sets, IsGroupOf}
-use Rattle.sc_calm_groups_law.specs.Kinds.{IsGroupRow, RowPasses, RowRests, RowTakes, RowMakes, RowLeads, RowElects, IsLedStep}
-use Rattle.sc_calm_groups_law.specs.Led.{Ends, IsWellLed}
-use Rattle.sc_calm_groups_law.specs.Through.{HasOneLog, IsSentSo, EventsGoOn, ScenariosAreWellBorn}
-use Rattle.sc_calm_groups_law.proofs.Dating.{dated_in, taken_dated, rows_dated}
-use Rattle.sc_calm_answers_law.specs.Led.{over_at, LedLogsAreOne}
-use Rattle.sc_calm_answers_law.specs.Tellers.{tellers_at, AreFew, GroupsAreLed, GroupsBeginLed}
-use Rattle.sc_calm_mail_law.specs.Idle.{JournalsKeepIdle}
-use Rattle.sc_calm_answers_law.specs.Above.{AreAbove, HasBelow, IsAskedOn}
-use Rattle.sc_calm_answers_law.specs.SentHomes.{IsAtHome}
-use Rattle.sc_calm_answers_law.specs.SentJournals.{IsSentOn, IsQuietWhileYoung, AreBornAsBegun, GroupsAreBornAsBegun, IsSentThrough, IsSentStep, GroupsBeginSent, NextRowsAreSent, SentReplicas, LedJournalsAreSentSo}
-use Rattle.sc_calm_answers_law.specs.Sent.{SaysWell, AreSaidWell}
+use Rattle.sc_sound.specs.Definitions.{Player, player_table, births, as_nodes}
+use Rattle.sc_calm_law.specs.Definitions.{players, Rows}
+use Rattle.sc_following_law.specs.Definitions.{from_slot_of, Prepares, mark_of, Course, Progress, Sets, Tellers}
+use Rattle.sc_following_law.proofs.Lemmas.{same_mark}
+use Rattle.sc_calm_rows_law.specs.Definitions.{view_at, marks_at, next_in, promise_in, progress_at, led_course, elected_course, IsSeat, with_event}
+use Rattle.sc_calm_rows_law.proofs.Lemmas.{rows_are}
+use Rattle.sc_calm_logs_law.specs.Definitions.{logged_sets, IsGroupOf}
+use Rattle.sc_calm_groups_law.specs.Definitions.{IsGroupRow, RowPasses, RowRests, RowTakes, RowMakes, RowLeads, RowElects, IsLedStep, Ends, IsWellLed, HasOneLog, IsSentSo, EventsGoOn, ScenariosAreWellBorn}
+use Rattle.sc_calm_groups_law.proofs.Lemmas.{dated_in, taken_dated, rows_dated}
+use Rattle.sc_calm_answers_law.specs.Definitions.{over_at, LedLogsAreOne, tellers_at, AreFew, GroupsAreLed, GroupsBeginLed, AreAbove, HasBelow, IsAskedOn, IsAtHome, IsSentOn, IsQuietWhileYoung, AreBornAsBegun, GroupsAreBornAsBegun, IsSentThrough, IsSentStep, GroupsBeginSent, NextRowsAreSent, SentReplicas, LedJournalsAreSentSo, SaysWell, AreSaidWell}
+use Rattle.sc_calm_mail_law.specs.Definitions.{JournalsKeepIdle}
 use Rattle.sc_calm_answers_law.proofs.Asked.{asked_then}
 use Rattle.sc_calm_answers_law.proofs.Finds.{next_mail_so}
 use Rattle.sc_calm_answers_law.proofs.SentHomes.{homes_are_kept}
@@ -176,6 +147,7 @@ born_asked words births base course born promised = record {
 
 -- ---- what follows of replicas
 
+-- No replica of such a group saw a later ballot than the leader's, has accepted anything at a slot at which nothing was offered, or has a report that binds it.
 pub sent_replicas : SentReplicas
 sent_replicas = record {
   saw = λ at over by words births rows base t node r view. (

@@ -1,38 +1,19 @@
 -- What a replica says in a row of its table, of a group with some name.
 use Rattle.std.proofs.Common.{◌≡◌, ℕ, ◌<◌, ◌≤◌, cond, List, [], ◌∷◌, refl, sym, ◌∙◌, subst, length, arith}
 use Rattle.std.proofs.lemmas.Bool.{lt-leb}
-use Rattle.sc_base.specs.Among.{Each}
-use Rattle.sc_base.specs.Drawing.{Drawer}
-use Rattle.sc_base.specs.declared.names.Ballot.{Ballot}
-use Rattle.sc_base.specs.declared.names.Draw.{Draw}
-use Rattle.sc_cmd.specs.declared.commands.Command.{Command}
-use Rattle.sc_cmd.specs.declared.cores.Base.{Base}
-use Rattle.sc_cmd.specs.declared.orders.OrderLine.{OrderLine}
-use Rattle.sc_mail.specs.declared.bodies.Mail.{Mail}
-use Rattle.sc_mail.specs.declared.bodies.MailBody.{MailBody}
-use Rattle.sc_mail.specs.declared.bodies.MailBody.TheVariants.{Request, Answer, Prepare, Promise, Accept, Accepted, Nack, Learn, Ask, Install, TxPrepare, TxVote, TxOutcome, TxElsewhere, TxWatch, TxWatched, Told}
-use Rattle.sc_hist_law.proofs.Logs.{applied_same}
-use Rattle.sc_paxos_words.specs.declared.reports.Report.{Report}
-use Rattle.sc_paxos_words.specs.declared.answers.PrepareAnswer.{PrepareAnswer}
+use Rattle.sc_base.specs.Definitions.{Each, Drawer}
+use Rattle.sc_node_table.specs.Values.{Ballot, Draw, Command, Base, OrderLine, Mail, MailBody, Request, Answer, Prepare, Promise, Accept, Accepted, Nack, Learn, Ask, Install, TxPrepare, TxVote, TxOutcome, TxElsewhere, TxWatch, TxWatched, Told, Report, PrepareAnswer}
+use Rattle.sc_hist_law.proofs.Lemmas.{applied_same}
 use Rattle.sc_paxos_words.specs.declared.answers.PrepareAnswer.TheVariants as Prepared
-use Rattle.sc_paxos_words.specs.Acceptors.{AcceptorState, reports_from, may_promise, after_promise}
-use Rattle.sc_paxos_words.specs.Ballots.{IsAtLeast}
-use Rattle.sc_paxos_words.specs.Preparing.{prepared}
-use Rattle.sc_paxos_words.proofs.ListLemmas.{Each-weaker}
-use Rattle.sc_node_table.specs.Install.{named, install_to}
-use Rattle.sc_node_table.specs.Ordering.{ordered_row}
-use Rattle.sc_node_table.specs.Replica.{ReplicaState, Place, name_of, next, first_ballot, forgotten, installed_replica}
-use Rattle.sc_node_table.specs.Rows.{mailed, made_by}
-use Rattle.sc_node_table.specs.Slots.{slots_ahead}
-use Rattle.sc_node_table.specs.Voting.{promise_to, promised, prepare_row}
-use Rattle.sc_law_lemmas.specs.Steps.{GoesOn}
-use Rattle.sc_law_lemmas.proofs.Ways.{either_way}
-use Rattle.sc_following_law.proofs.Nodes.{saw_either}
-use Rattle.sc_calm_mail_law.specs.Idle.{IsPlainlyKept}
-use Rattle.sc_calm_mail_law.proofs.FewWalks.{entered_up, installed_up}
-use Rattle.sc_calm_mail_law.proofs.WalkRows.{takes_mail, orders, looks_up}
-use Rattle.sc_calm_mail_law.proofs.Walks.{Walk, Part, part, next_in, named_in, entered_part, jumped_part, IsReported, Sends, AreSaid, Hears}
-use Rattle.sc_calm_answers_law.specs.Sent.{SaysWell, AreSaidWell}
+use Rattle.sc_paxos_words.specs.Definitions.{AcceptorState, reports_from, may_promise, after_promise, IsAtLeast, prepared}
+use Rattle.sc_paxos_words.proofs.Lemmas.{Each-weaker}
+use Rattle.sc_node_table.specs.Definitions.{named, install_to, ordered_row, ReplicaState, Place, name_of, next, first_ballot, forgotten, installed_replica, mailed, made_by, slots_ahead, promise_to, promised, prepare_row}
+use Rattle.sc_law_lemmas.specs.Definitions.{GoesOn}
+use Rattle.sc_law_lemmas.proofs.Lemmas.{either_way}
+use Rattle.sc_following_law.proofs.Lemmas.{saw_either}
+use Rattle.sc_calm_mail_law.specs.Definitions.{IsPlainlyKept}
+use Rattle.sc_calm_mail_law.proofs.Lemmas.{entered_up, installed_up, takes_mail, orders, looks_up, PartWalk, Part, part, next_in, named_in, entered_part, jumped_part, IsReported, Sends, AreSaid, Hears}
+use Rattle.sc_calm_answers_law.specs.Definitions.{SaysWell, AreSaidWell}
 
 -- the walk of one replica, and a group with this name; if it is the replica's own, it has promised no later ballot and executed these slots
 module _ (name : Draw) (ballot : Ballot) (slots : ℕ) (Own : Type 0) where
@@ -49,7 +30,7 @@ module _ (name : Draw) (ballot : Ballot) (slots : ℕ) (Own : Type 0) where
   jumped_well : (slot : ℕ) (base : Base) (p : Part) → next_in p ≤ slot → Well p → Well (jumped_part slot base p)
   jumped_well slot base p later k is = (let w = k is in let up = installed_up slot in let low = w.2 in (w.0, w.1, omega (arith, up, low, later)))
 
-  abbrev talking : (Base → Type 0) → ℕ → Walk
+  abbrev talking : (Base → Type 0) → ℕ → PartWalk
   talking State who = record {
     me = who;
     Early = λ p. Well p;

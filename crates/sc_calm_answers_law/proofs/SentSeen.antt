@@ -1,58 +1,26 @@
 -- The greatest ballot that each replica saw is no later than the leader's, after one row more.
 use Rattle.std.proofs.Common.{◌≡◌, ℕ, ◌-◌, ◌^◌, ◌<◌, true, false, true≢false, List, [], ◌∷◌, ◌++◌, Some, None, ◌⊎◌, inl, inr, refl, sym, ◌∙◌, ap, subst, arith}
 use Rattle.std.proofs.lemmas.Bool.{cases_Bool, cases_eq}
-use Rattle.sc_base.specs.Among.{Each}
-use Rattle.sc_base.specs.declared.names.Ballot.{Ballot}
-use Rattle.sc_base.specs.declared.names.Draw.{Draw}
-use Rattle.sc_cmd.specs.declared.commands.Command.{Command}
-use Rattle.sc_cmd.specs.declared.cores.Base.{Base}
-use Rattle.sc_cmd.specs.declared.orders.OrderLine.{OrderLine}
-use Rattle.sc_mail.specs.declared.bodies.Mail.{Mail}
-use Rattle.sc_mail.specs.declared.bodies.MailBody.{MailBody}
-use Rattle.sc_mail.specs.declared.bodies.MailBody.TheVariants.{Request, Answer, Prepare, Promise, Accept, Accepted, Nack, Learn, Ask, Install, TxPrepare, TxVote, TxOutcome, TxElsewhere, TxWatch, TxWatched, Told as ToldMail}
-use Rattle.sc_actor.specs.declared.actors.Seat.{Seat}
-use Rattle.sc_actor.specs.declared.rows.Event.{Event}
-use Rattle.sc_actor.specs.declared.rows.Event.TheVariants.{Deliver}
-use Rattle.sc_actor.specs.Mail.{mails, numbered}
-use Rattle.sc_actor.specs.System.{row_of}
-use Rattle.sc_orderly_law.specs.Orderly.{IsCalmEvent}
-use Rattle.sc_orderly_law.specs.Timely.{AreInTime}
-use Rattle.sc_paxos_words.specs.Ballots.{below, IsAtLeast}
-use Rattle.sc_paxos_words.specs.declared.reports.Report.{Report}
-use Rattle.sc_paxos_words.proofs.BallotLemmas.{at_least_itself, at_least_trans}
-use Rattle.sc_paxos_words.proofs.ListLemmas.{Each-among}
+use Rattle.sc_base.specs.Definitions.{Each}
+use Rattle.sc_node_table.specs.Values.{Ballot, Draw, Command, Base, OrderLine, Mail, MailBody, Request, Answer, Prepare, Promise, Accept, Accepted, Nack, Learn, Ask, Install, TxPrepare, TxVote, TxOutcome, TxElsewhere, TxWatch, TxWatched, Told as ToldMail, Seat, Event, Deliver, Report}
+use Rattle.sc_actor.specs.Definitions.{mails, numbered, row_of}
+use Rattle.sc_orderly_law.specs.Definitions.{IsCalmEvent, AreInTime}
+use Rattle.sc_paxos_words.specs.Definitions.{below, IsAtLeast}
+use Rattle.sc_paxos_words.proofs.Lemmas.{at_least_itself, at_least_trans, Each-among}
 use Rattle.sc_scenario.specs.declared.scenarios.Scenario.{Scenario}
-use Rattle.sc_node_table.specs.Execute.{entered}
-use Rattle.sc_node_table.specs.Node.{NodeState, group_of_mail}
-use Rattle.sc_node_table.specs.Ordering.{ordered_row}
-use Rattle.sc_node_table.specs.Replica.{ReplicaState, listed, name_of, next, first_ballot, born_replica}
-use Rattle.sc_node_table.specs.Rows.{mailed, made_by}
-use Rattle.sc_node_table.specs.Slots.{slots_ahead}
-use Rattle.sc_group_law.proofs.RowSteps.{number_among}
-use Rattle.sc_law_lemmas.specs.Steps.{GoesOn}
-use Rattle.sc_sound.specs.Players.{Player, player_table, births, as_nodes}
-use Rattle.sc_calm_law.specs.Charts.{players}
-use Rattle.sc_calm_law.specs.Totals.{Rows}
-use Rattle.sc_following_law.specs.Following.{Mark, Asks, Tells, Prepares, mark_of, Course, Sets, IsKnown, IsFit}
-use Rattle.sc_following_law.specs.Hints.{Tellers}
-use Rattle.sc_following_law.proofs.Elected.{tables_elect}
-use Rattle.sc_following_law.proofs.Nodes.{same_mark}
-use Rattle.sc_calm_rows_law.specs.Groups.{view_at, taken_mark, promise_in}
-use Rattle.sc_calm_rows_law.specs.Turns.{IsSeat, with_event}
-use Rattle.sc_calm_rows_law.proofs.Electing.{entered_name}
-use Rattle.sc_calm_rows_law.proofs.Marking.{rows_are}
-use Rattle.sc_calm_rows_law.proofs.Scenes.{fit, known}
-use Rattle.sc_calm_rows_law.proofs.Viewing.{view_others}
-use Rattle.sc_calm_groups_law.specs.Kinds.{IsGroupRow, RowPasses, RowRests, RowTakes, RowMakes, RowLeads, RowElects, IsLedStep}
-use Rattle.sc_calm_groups_law.specs.Led.{Ends, IsWellLed}
-use Rattle.sc_calm_groups_law.specs.Through.{AreWellBorn, HasOneLog, IsSentSo}
-use Rattle.sc_calm_groups_law.specs.Tops.{IsTopKept}
-use Rattle.sc_calm_groups_law.proofs.Keeping.{replicas_kept, scenarios_kept_born}
-use Rattle.sc_calm_groups_law.proofs.Mails.{scene}
-use Rattle.sc_calm_mail_law.specs.Idle.{JournalsKeepIdle}
-use Rattle.sc_calm_answers_law.specs.Above.{IsAskedOn}
-use Rattle.sc_calm_answers_law.specs.SentJournals.{IsSentOn}
-use Rattle.sc_calm_answers_law.specs.Sent.{SaysWell}
+use Rattle.sc_node_table.specs.Definitions.{entered, NodeState, group_of_mail, ordered_row, ReplicaState, listed, name_of, next, first_ballot, born_replica, mailed, made_by, slots_ahead}
+use Rattle.sc_group_law.proofs.Lemmas.{number_among}
+use Rattle.sc_law_lemmas.specs.Definitions.{GoesOn}
+use Rattle.sc_sound.specs.Definitions.{Player, player_table, births, as_nodes}
+use Rattle.sc_calm_law.specs.Definitions.{players, Rows}
+use Rattle.sc_following_law.specs.Definitions.{Mark, Asks, Tells, Prepares, mark_of, Course, Sets, IsKnown, IsFit, Tellers}
+use Rattle.sc_following_law.proofs.Lemmas.{tables_elect, same_mark}
+use Rattle.sc_calm_rows_law.specs.Definitions.{view_at, taken_mark, promise_in, IsSeat, with_event}
+use Rattle.sc_calm_rows_law.proofs.Lemmas.{entered_name, rows_are, fit, known, view_others}
+use Rattle.sc_calm_groups_law.specs.Definitions.{IsGroupRow, RowPasses, RowRests, RowTakes, RowMakes, RowLeads, RowElects, IsLedStep, Ends, IsWellLed, AreWellBorn, HasOneLog, IsSentSo, IsTopKept}
+use Rattle.sc_calm_groups_law.proofs.Lemmas.{replicas_kept, scenarios_kept_born, scene}
+use Rattle.sc_calm_mail_law.specs.Definitions.{JournalsKeepIdle}
+use Rattle.sc_calm_answers_law.specs.Definitions.{IsAskedOn, IsSentOn, SaysWell}
 use Rattle.sc_calm_answers_law.proofs.Accepting.{IsPlainMail, StandsAt, asked_low, polled_stands, nacked_low, nacked_stands}
 use Rattle.sc_calm_answers_law.proofs.Asked.{kept_of, turn, s, named_is, own_name, marked, most, goes, leader_moves, some_none}
 use Rattle.sc_calm_answers_law.proofs.Ballots.{All_, mail_sees, order_sees}

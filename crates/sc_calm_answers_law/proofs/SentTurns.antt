@@ -1,29 +1,17 @@
 -- What a player says in a row, of a group that is well led.
 use Rattle.std.proofs.Common.{◌≡◌, ℕ, ◌||◌, not, nat_lt, eqb, cond, true, false, List, [], length, Bool, Option, Some, None, ◌⊎◌, inl, inr, refl, sym, ◌∙◌, ap, subst, arith}
 use Rattle.std.proofs.lemmas.Bool.{cond-true, eqb-true}
-use Rattle.sc_base.specs.Same.{same_draw}
-use Rattle.sc_base.specs.declared.names.Draw.{Draw}
-use Rattle.sc_base.specs.declared.names.Ballot.{Ballot}
-use Rattle.sc_base.proofs.NameLemmas.{same_name}
-use Rattle.sc_cmd.specs.declared.cores.Base.{Base}
-use Rattle.sc_cmd.specs.declared.orders.OrderLine.{OrderLine}
-use Rattle.sc_mail.specs.declared.bodies.Mail.{Mail}
-use Rattle.sc_mail.specs.declared.bodies.MailBody.{MailBody}
-use Rattle.sc_mail.specs.declared.bodies.MailBody.TheVariants.{Request, Answer, Prepare, Promise, Accept, Accepted, Nack, Learn, Ask, Install, TxPrepare, TxVote, TxOutcome, TxElsewhere, TxWatch, TxWatched, Told as ToldMail}
-use Rattle.sc_actor.specs.declared.rows.Input.{Input}
-use Rattle.sc_client_table.specs.Client.{Client as ClientState}
-use Rattle.sc_client_table.specs.Table.{table}
-use Rattle.sc_node_table.specs.Node.{NodeState, replica_of, group_of_mail, group_of_order, may_come, unknown, with_made, taken_by, routed, on_mail, ordered_of, on_order}
-use Rattle.sc_node_table.specs.Replica.{ReplicaState, first_ballot, last_slot}
-use Rattle.sc_node_table.specs.Ordering.{ordered_row}
-use Rattle.sc_node_table.specs.Rows.{mailed, made_by}
-use Rattle.sc_node_table.specs.Slots.{slots_ahead}
-use Rattle.sc_following_law.specs.Following.{Mark, Asks, Tells, Installs, Prepares, mark_of}
-use Rattle.sc_paxos_words.specs.Ballots.{IsAtLeast}
-use Rattle.sc_paxos_words.proofs.ListLemmas.{Each-weaker}
-use Rattle.sc_law_lemmas.proofs.Ways.{either_way}
-use Rattle.sc_calm_mail_law.proofs.Clients.{IsRequestOf, clients_ask}
-use Rattle.sc_calm_answers_law.specs.Sent.{SaysWell, AreSaidWell}
+use Rattle.sc_base.specs.Definitions.{same_draw}
+use Rattle.sc_node_table.specs.Values.{Draw, Ballot, Base, OrderLine, Mail, MailBody, Request, Answer, Prepare, Promise, Accept, Accepted, Nack, Learn, Ask, Install, TxPrepare, TxVote, TxOutcome, TxElsewhere, TxWatch, TxWatched, Told as ToldMail, Input}
+use Rattle.sc_base.proofs.Lemmas.{same_name}
+use Rattle.sc_client_table.specs.Definitions.{Client as ClientState, table}
+use Rattle.sc_node_table.specs.Definitions.{NodeState, replica_of, group_of_mail, group_of_order, may_come, unknown, with_made, taken_by, routed, on_mail, ordered_of, on_order, ReplicaState, first_ballot, last_slot, ordered_row, mailed, made_by, slots_ahead}
+use Rattle.sc_following_law.specs.Definitions.{Mark, Asks, Tells, Installs, Prepares, mark_of}
+use Rattle.sc_paxos_words.specs.Definitions.{IsAtLeast}
+use Rattle.sc_paxos_words.proofs.Lemmas.{Each-weaker}
+use Rattle.sc_law_lemmas.proofs.Lemmas.{either_way}
+use Rattle.sc_calm_mail_law.proofs.Lemmas.{IsRequestOf, clients_ask}
+use Rattle.sc_calm_answers_law.specs.Definitions.{SaysWell, AreSaidWell}
 use Rattle.sc_calm_answers_law.proofs.SentSaying.{made_says}
 
 -- a mail that comes to a node, of which the replica of its group says so; where there is none, a mail of this group has no mark, or is a state with no later ballot

@@ -1,37 +1,17 @@
 -- What a row of requests leaves of a replica as it is.
 use Rattle.std.proofs.Common.{◌≡◌, ℕ, ◌+◌, ◌≤◌, true, List, [], ◌∷◌, filter, Some, ◌⊎◌, inl, inr, refl, sym, ◌∙◌, ap, subst, arith}
 use Rattle.std.proofs.lemmas.Bool.{cond_both, cases_lt, both_ways}
-use Rattle.sc_base.specs.Among.{Among}
-use Rattle.sc_base.specs.Limits.{client_actor}
-use Rattle.sc_base.specs.declared.names.Ballot.{Ballot}
-use Rattle.sc_base.specs.declared.names.Draw.{Draw}
-use Rattle.sc_base.specs.declared.ops.Op.{Op}
-use Rattle.sc_cmd.specs.declared.commands.Command.{Command}
-use Rattle.sc_cmd.specs.declared.commands.Command.TheVariants.{Call}
-use Rattle.sc_mail.specs.declared.bodies.MailBody.{MailBody}
-use Rattle.sc_mail.specs.declared.bodies.MailBody.TheVariants.{Request, Answer, Prepare, Promise, Accept, Accepted, Nack, Learn, Ask, Install, TxPrepare, TxVote, TxOutcome, TxElsewhere, TxWatch, TxWatched, Told}
-use Rattle.sc_base.specs.Roster.{is_member}
-use Rattle.sc_paxos_words.specs.declared.reports.Report.{Report}
+use Rattle.sc_base.specs.Definitions.{Among, client_actor, is_member}
+use Rattle.sc_node_table.specs.Values.{Ballot, Draw, Op, Command, Call, MailBody, Request, Answer, Prepare, Promise, Accept, Accepted, Nack, Learn, Ask, Install, TxPrepare, TxVote, TxOutcome, TxElsewhere, TxWatch, TxWatched, Told, Report}
 use Rattle.std.specs.Prelude.{nat_lt}
-use Rattle.sc_paxos_words.specs.Acceptors.{with_report}
-use Rattle.sc_paxos_words.specs.Ballots.{below}
-use Rattle.sc_paxos_words.proofs.ListLemmas.{from_filter}
-use Rattle.sc_node_table.specs.Replica.{ReplicaState, Place, next, last_slot}
-use Rattle.sc_node_table.specs.Rows.{mailed}
-use Rattle.sc_node_table.specs.Slots.{slots_ahead}
-use Rattle.sc_budget_law.specs.Frames.{Frame, IsFrame}
-use Rattle.sc_budget_law.specs.PlainMail.{Requests, IsPlainCall, IsPlainCommand, IsPlainBody}
-use Rattle.sc_budget_law.specs.PlainNode.{AreTaken, IsPlainLeader, IsPlainFollower, IsPlainVoter, IsPlainReplica, IsPlainAt, IsDue}
-use Rattle.sc_budget_law.proofs.Accepting.{as_voter, learn_is, learnt_plain, learnt_follower, learnt_next}
-use Rattle.sc_budget_law.proofs.Counts.{one_yes, one_no}
-use Rattle.sc_budget_law.proofs.Executing.{IsRun}
-use Rattle.sc_budget_law.proofs.Leading.{in_range, range_yes, range_behind}
-use Rattle.sc_budget_law.proofs.Pumping.{call_is}
-use Rattle.sc_budget_law.proofs.ReplicaRows.{DidRefuse, DidQueue, DidCount, following_at, none_stops, replica_row}
+use Rattle.sc_paxos_words.specs.Definitions.{with_report, below}
+use Rattle.sc_paxos_words.proofs.Lemmas.{from_filter}
+use Rattle.sc_node_table.specs.Definitions.{ReplicaState, Place, next, last_slot, mailed, slots_ahead}
+use Rattle.sc_budget_law.specs.Definitions.{Frame, IsFrame, Requests, IsPlainCall, IsPlainCommand, IsPlainBody, AreTaken, IsPlainLeader, IsPlainFollower, IsPlainVoter, IsPlainReplica, IsPlainAt, IsDue}
+use Rattle.sc_budget_law.proofs.Lemmas.{as_voter, learn_is, learnt_plain, learnt_follower, learnt_next, one_yes, one_no, IsRun, in_range, range_yes, range_behind, call_is, DidRefuse, DidQueue, DidCount, following_at, none_stops, replica_row, taken_once}
 use Rattle.sc_calm_answers_law.proofs.Calls.{knows, Leaves, leaves_itself, leaves_bare, request_kept, vote_goes}
 use Rattle.sc_calm_answers_law.proofs.RequestsTaking.{takes_it, accept_takes, learn_leaves}
 use Rattle.sc_calm_answers_law.proofs.Following.{split_among}
-use Rattle.sc_budget_law.proofs.BetweenDoes.{taken_once}
 
 -- ---- how many slots are taken
 

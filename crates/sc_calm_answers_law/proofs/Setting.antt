@@ -1,38 +1,20 @@
 -- The setting that a quiet front gives.
 use Rattle.std.proofs.Common.{◌≡◌, ℕ, ◌-◌, ◌≤◌, true, Option, List, ◌∷◌, Some, None, refl, sym, ◌∙◌, ap, subst}
 use Rattle.std.specs.Prelude.{slice_get, unwrap_or}
-use Rattle.sc_base.specs.Among.{Among}
-use Rattle.sc_base.specs.declared.names.Draw.{Draw}
-use Rattle.sc_cmd.specs.declared.cores.Base.{Base}
-use Rattle.sc_actor.specs.Walk.{is_quiet}
-use Rattle.sc_actor.proofs.WalkLemmas.{lawful-prefix}
-use Rattle.sc_base.specs.Roster.{is_member}
-use Rattle.sc_node_table.specs.Replica.{ReplicaState, next, members}
+use Rattle.sc_base.specs.Definitions.{Among, is_member}
+use Rattle.sc_node_table.specs.Values.{Draw, Base}
+use Rattle.sc_actor.specs.Definitions.{is_quiet}
+use Rattle.sc_actor.proofs.Lemmas.{lawful-prefix}
+use Rattle.sc_node_table.specs.Definitions.{ReplicaState, next, members}
 use Rattle.sc_scenario.specs.declared.scenarios.Scenario.{Scenario}
-use Rattle.sc_scenario.specs.Valid.{ValidScenariosAreBounded}
-use Rattle.sc_sound.specs.GroupsOf.{world_at}
-use Rattle.sc_sound.specs.Players.{births, schedule, system_of, as_nodes, Lawful}
-use Rattle.sc_calm_law.specs.Charts.{players}
-use Rattle.sc_calm_law.specs.Quiet.{StandsQuiet}
-use Rattle.sc_calm_law.specs.Totals.{Rows}
-use Rattle.sc_calm_charts_law.specs.Fronts.{quiet_front}
+use Rattle.sc_scenario.specs.Definitions.{ValidScenariosAreBounded}
+use Rattle.sc_sound.specs.Definitions.{world_at, births, schedule, system_of, as_nodes, Lawful}
+use Rattle.sc_calm_law.specs.Definitions.{players, StandsQuiet, Rows}
+use Rattle.sc_calm_charts_law.specs.Definitions.{quiet_front}
 use Rattle.sc_calm_answers_law.proofs.Segments.{front_whole}
-use Rattle.sc_budget_law.specs.Asking.{IsAsking}
-use Rattle.sc_budget_law.specs.AskingLines.{NobodyWaits, AreSeated}
-use Rattle.sc_budget_law.specs.AskingQuiet.{replicas_after, DoHintsRise, AreFramesOf, QuietJournalsAsk}
-use Rattle.sc_budget_law.specs.AtRest.{frame_at_rest}
-use Rattle.sc_budget_law.specs.CalmAsking.{IsLinkedSetting}
-use Rattle.sc_budget_law.specs.CalmNode.{Setting, IsSetting}
-use Rattle.sc_budget_law.specs.Frames.{Frame}
-use Rattle.sc_calm_answers_law.specs.Hearing.{AreReached}
-use Rattle.sc_calm_answers_law.specs.Cuts.{QuietGroupsHaveCuts}
-use Rattle.sc_calm_answers_law.specs.Round.{AreOfCuts, StandingGroupsAreRound}
-use Rattle.sc_calm_answers_law.specs.Settings.{frames_after, AreAtNodes, QuietJournalsHaveFrames, QuietSettingsAreLinked}
-use Rattle.sc_calm_answers_law.specs.Journal.{IsCalmJournal, IsFront}
-use Rattle.sc_calm_answers_law.specs.Resting.{RestsAt}
-use Rattle.sc_calm_answers_law.specs.KeptRising.{ChartHintsRise}
-use Rattle.sc_calm_answers_law.specs.Requested.{setting_of, IsKnownFront}
-use Rattle.sc_paxos_law.proofs.Among.{place_among}
+use Rattle.sc_budget_law.specs.Definitions.{IsAsking, NobodyWaits, AreSeated, replicas_after, DoHintsRise, AreFramesOf, QuietJournalsAsk, frame_at_rest, IsLinkedSetting, Setting, IsSetting, Frame}
+use Rattle.sc_calm_answers_law.specs.Definitions.{AreReached, QuietGroupsHaveCuts, AreOfCuts, StandingGroupsAreRound, frames_after, AreAtNodes, QuietJournalsHaveFrames, QuietSettingsAreLinked, IsCalmJournal, IsFront, RestsAt, ChartHintsRise, setting_of, IsKnownFront}
+use Rattle.sc_paxos_law.proofs.Lemmas.{place_among}
 
 -- the first rows of a lawful journal are one
 pub front_lawful : (words : ℕ → ℕ → ℕ × ℕ) (scenario : Scenario) (journal rows : Rows) → Lawful as_nodes words scenario journal → IsFront journal rows → Lawful as_nodes words scenario rows

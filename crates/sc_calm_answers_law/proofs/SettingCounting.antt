@@ -3,48 +3,24 @@ use Rattle.std.proofs.Common.{◌≡◌, ℕ, zero, suc, ◌+◌, ◌≤◌, con
 use Rattle.std.specs.Prelude.{filter, is_some, ◌&&◌, ◌||◌, not}
 use Rattle.std.proofs.lemmas.Bool.{cases_Bool}
 use Rattle.std.proofs.lemmas.List.{take_all}
-use Rattle.sc_base.proofs.NameLemmas.{draw_is, same_name}
-use Rattle.sc_base.specs.Among.{Among, Each}
-use Rattle.sc_base.specs.Same.{same_draw}
-use Rattle.sc_base.specs.declared.names.Draw.{Draw}
-use Rattle.sc_cmd.specs.declared.cores.Base.{Base}
-use Rattle.sc_cmd.specs.declared.links.Route.{Route}
-use Rattle.sc_cmd.specs.declared.orders.OrderLine.{OrderLine}
-use Rattle.sc_mail.specs.declared.bodies.Mail.{Mail}
-use Rattle.sc_mail.specs.declared.roles.Role.TheVariants.{Client}
-use Rattle.sc_actor.specs.declared.actors.Seat.{Seat}
-use Rattle.sc_actor.specs.declared.rows.Row.{Row}
-use Rattle.sc_actor.specs.Replay.{value}
-use Rattle.sc_actor.specs.Walk.{is_quiet}
-use Rattle.sc_node_table.specs.Node.{replica_of}
-use Rattle.sc_node_table.specs.Replica.{ReplicaState, name_of}
-use Rattle.sc_node_table.specs.Slots.{numbers_from}
-use Rattle.sc_paxos_law.proofs.Among.{Among-left, from_map}
-use Rattle.sc_paxos_words.proofs.ListLemmas.{Among-filter, Each-among, Each-from, Each-passes}
+use Rattle.sc_base.proofs.Lemmas.{draw_is, same_name}
+use Rattle.sc_base.specs.Definitions.{Among, Each, same_draw}
+use Rattle.sc_node_table.specs.Values.{Draw, Base, Route, OrderLine, Mail, Client, Seat, Row}
+use Rattle.sc_actor.specs.Definitions.{value, is_quiet}
+use Rattle.sc_node_table.specs.Definitions.{replica_of, ReplicaState, name_of, numbers_from}
+use Rattle.sc_paxos_law.proofs.Lemmas.{Among-left, from_map}
+use Rattle.sc_paxos_words.proofs.Lemmas.{Among-filter, Each-among, Each-from, Each-passes}
 use Rattle.sc_scenario.specs.declared.scenarios.Scenario.{Scenario}
-use Rattle.sc_scenario.specs.Valid.{IsValid, ValidScenariosAreBounded}
-use Rattle.sc_sound.specs.Players.{Player, player_table, node_seat, client_seat, client_seats, route_of, as_nodes, births, Lawful}
-use Rattle.sc_calm_law.specs.Charts.{players}
-use Rattle.sc_calm_law.specs.Quiet.{HasReplica, StandsQuiet}
-use Rattle.sc_calm_law.specs.Totals.{leads, is_leading, is_led}
-use Rattle.sc_calm_charts_law.specs.Charting.{replicas_of as chart_replicas, all_replicas, went_in, ends_by, way_by, names_at, chart_at, reach_in}
-use Rattle.sc_calm_charts_law.specs.Ends.{GoInTurn, EndsFall}
-use Rattle.sc_calm_charts_law.specs.Following.{LedStandOnce}
-use Rattle.sc_calm_charts_law.specs.Fronts.{quiet_upto, quiet_front}
-use Rattle.sc_calm_charts_law.proofs.Names.{led_by}
-use Rattle.sc_budget_law.specs.AskingQuiet.{replicas_after, setting_at, AreFramesOf, IsQuietJournal}
-use Rattle.sc_budget_law.specs.BetweenJournal.{replicas_of}
-use Rattle.sc_budget_law.specs.CalmNode.{HasGoneTo}
-use Rattle.sc_budget_law.specs.Frames.{Frame}
-use Rattle.sc_budget_law.proofs.BetweenSteps.{in_numbers, to_numbers}
-use Rattle.sc_budget_law.proofs.Lists.{map_among}
-use Rattle.sc_calm_answers_law.specs.RequestsFinding.{CountsAs}
-use Rattle.sc_calm_answers_law.specs.Starts.{LawfulReplicasAreNamedOnce}
-use Rattle.sc_calm_answers_law.specs.SettingCounting.{GoneAgree, QuietChartsCount}
-use Rattle.sc_calm_answers_law.specs.Settings.{AreAtNodes, AreReachable}
+use Rattle.sc_scenario.specs.Definitions.{IsValid, ValidScenariosAreBounded}
+use Rattle.sc_sound.specs.Definitions.{Player, player_table, node_seat, client_seat, client_seats, route_of, as_nodes, births, Lawful}
+use Rattle.sc_calm_law.specs.Definitions.{players, HasReplica, StandsQuiet, leads, is_leading, is_led}
+use Rattle.sc_calm_charts_law.specs.Definitions.{replicas_of as chart_replicas, all_replicas, went_in, ends_by, way_by, names_at, chart_at, reach_in, GoInTurn, EndsFall, LedStandOnce, quiet_upto, quiet_front}
+use Rattle.sc_calm_charts_law.proofs.Lemmas.{led_by}
+use Rattle.sc_budget_law.specs.Definitions.{replicas_after, setting_at, AreFramesOf, IsQuietJournal, replicas_of, HasGoneTo, Frame}
+use Rattle.sc_budget_law.proofs.Lemmas.{in_numbers, to_numbers, map_among, among_last}
+use Rattle.sc_calm_answers_law.specs.Definitions.{CountsAs, LawfulReplicasAreNamedOnce, GoneAgree, QuietChartsCount, AreAtNodes, AreReachable}
 use Rattle.sc_calm_answers_law.proofs.Frames.{nodes_numbered, seen, view}
 use Rattle.sc_calm_answers_law.proofs.Following.{split_among}
-use Rattle.sc_budget_law.proofs.Knowing.{among_last}
 use Rattle.sc_calm_answers_law.proofs.KnownGoing.{once_among, went_none}
 
 -- ---- lists

@@ -1,13 +1,12 @@
 -- The setting of a quiet journal is linked.
 use Rattle.std.proofs.Common.{◌≡◌, Some, sym, ◌∙◌, ap, subst}
 use Rattle.std.proofs.lemmas.Option.{none-some}
-use Rattle.sc_following_law.proofs.Leads.{least_in}
-use Rattle.sc_base.specs.Roster.{least_of}
-use Rattle.sc_budget_law.specs.AskingQuiet.{setting_at}
-use Rattle.sc_budget_law.specs.CalmNode.{IsHome}
-use Rattle.sc_budget_law.specs.Frames.{Frame}
-use Rattle.sc_calm_answers_law.specs.Settings.{QuietSettingsAreLinked}
+use Rattle.sc_following_law.proofs.Lemmas.{least_in}
+use Rattle.sc_base.specs.Definitions.{least_of}
+use Rattle.sc_budget_law.specs.Definitions.{setting_at, IsHome, Frame}
+use Rattle.sc_calm_answers_law.specs.Definitions.{QuietSettingsAreLinked}
 
+-- Its setting is linked, where its groups stand round the ring, links and routes name nodes, and those that a route names have a replica of its group.
 pub settings_linked : QuietSettingsAreLinked
 settings_linked at frames ways are reach named rings = record {
   rings = rings;

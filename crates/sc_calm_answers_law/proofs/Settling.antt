@@ -1,71 +1,37 @@
 -- The group that is told an order, or coordinates its transaction, stays without rounds; so its leader has its promises.
-use Rattle.std.proofs.Common.{◌≡◌, ℕ, ◌*◌, ◌≤◌, ◌||◌, not, eqb, true, false, cond, List, [], ◌∷◌, ◌++◌, length, Option, Some, ◌⊎◌, inl, inr, refl, sym, ◌∙◌, ap, subst, append-nil, append_assoc, arith}
-use Rattle.std.proofs.lemmas.Bool.{cases_Bool, cond-true, eq-eqb, lt-ltb, or_left, or_right}
-use Rattle.std.proofs.lemmas.List.Sums.{sum_by-cons}
-use Rattle.sc_base.specs.Among.{Among, Each}
-use Rattle.sc_base.specs.declared.names.Draw.{Draw}
-use Rattle.sc_actor.specs.declared.actors.Seat.{Seat}
-use Rattle.sc_actor.specs.declared.rows.Event.{Event}
-use Rattle.sc_actor.specs.declared.rows.Event.TheVariants.{Deliver, Told}
-use Rattle.sc_actor.specs.System.{numbers_of, row_of}
-use Rattle.sc_cmd.specs.declared.cores.Base.{Base}
-use Rattle.sc_cmd.specs.declared.orders.OrderLine.{OrderLine}
-use Rattle.sc_machine_table.specs.Group.{Group}
-use Rattle.sc_mail.specs.declared.bodies.Mail.{Mail}
-use Rattle.sc_mail.specs.declared.bodies.MailBody.TheVariants.{TxElsewhere}
-use Rattle.sc_mail.specs.declared.roles.Role.TheVariants.{Node}
-use Rattle.sc_base.specs.Majority.{is_majority, votes_of}
-use Rattle.sc_base.specs.Roster.{is_member}
-use Rattle.sc_node_table.specs.Node.{NodeState, group_of_mail}
-use Rattle.sc_node_table.specs.Replica.{ReplicaState, first_set, may_offer, members, next, settled}
-use Rattle.sc_orderly_law.specs.Orderly.{IsCalmEvent, is_born}
-use Rattle.sc_orderly_law.specs.Timely.{AreInTime}
-use Rattle.sc_orderly_law.proofs.InTime.{in_time_tidy, last_in_time}
-use Rattle.sc_orderly_law.proofs.Resting.{quiet-empty}
-use Rattle.sc_paxos_words.specs.Ballots.{below}
-use Rattle.sc_paxos_words.proofs.ListLemmas.{Each-among}
+use Rattle.std.proofs.Common.{◌≡◌, ℕ, ◌*◌, ◌≤◌, ◌||◌, not, true, false, List, [], ◌∷◌, ◌++◌, length, Option, Some, ◌⊎◌, inl, inr, refl, sym, ◌∙◌, ap, subst, append-nil, append_assoc, arith}
+use Rattle.std.proofs.lemmas.Bool.{cases_Bool, or_left, or_right}
+use Rattle.sc_base.specs.Definitions.{Among, Each, is_majority, is_member}
+use Rattle.sc_node_table.specs.Values.{Draw, Seat, Event, Deliver, Base, OrderLine, Mail, TxElsewhere, Node}
+use Rattle.sc_actor.specs.declared.rows.Event.TheVariants.{Told}
+use Rattle.sc_actor.specs.Definitions.{numbers_of, row_of}
+use Rattle.sc_machine_table.specs.Definitions.{Group}
+use Rattle.sc_node_table.specs.Definitions.{NodeState, group_of_mail, ReplicaState, first_set, may_offer, members, next, settled}
+use Rattle.sc_orderly_law.specs.Definitions.{IsCalmEvent, is_born, AreInTime}
+use Rattle.sc_orderly_law.proofs.Lemmas.{in_time_tidy, last_in_time, quiet-empty}
+use Rattle.sc_paxos_words.specs.Definitions.{below}
+use Rattle.sc_paxos_words.proofs.Lemmas.{Each-among}
 use Rattle.sc_scenario.specs.declared.scenarios.Scenario.{Scenario}
-use Rattle.sc_sound.specs.Players.{Player, as_nodes, births, player_table}
-use Rattle.sc_following_law.specs.Following.{Course, IsOpen, Prepares, Promises, Sets, marks_of, members_at}
-use Rattle.sc_following_law.specs.Leading.{IsLeadOf}
-use Rattle.sc_following_law.specs.Offers.{AreAt}
-use Rattle.sc_following_law.proofs.Ordered.{order_is_kept}
-use Rattle.sc_calm_law.specs.Charts.{players}
-use Rattle.sc_calm_law.specs.Totals.{Rows}
-use Rattle.sc_calm_logs_law.specs.Logged.{IsGroupOf, logged_sets}
-use Rattle.sc_calm_answers_law.specs.Led.{over_at}
-use Rattle.sc_calm_answers_law.specs.Tellers.{tellers_at}
-use Rattle.sc_calm_groups_law.specs.Kinds.{IsLedStep}
-use Rattle.sc_calm_groups_law.proofs.BornWell.{scenarios_well_born}
-use Rattle.sc_calm_groups_law.proofs.Events.{events_go_on}
-use Rattle.sc_calm_answers_law.specs.SentJournals.{IsSentThrough}
-use Rattle.sc_calm_answers_law.specs.Votes.{IsOrdersAlone}
-use Rattle.sc_calm_answers_law.specs.Journal.{AreSent, IsCalmJournal, IsFront}
-use Rattle.sc_calm_answers_law.specs.Resting.{RestsAt}
-use Rattle.sc_calm_orders_law.specs.Follows.{OfQuestion, OfVote, OfOutcome, LastTakes, OneTakes, TwoTakes, LastFreed, OneFreed, TwoFreed, IsStepOf, ByRest, ByOrder, ByChange, ByDeal, ByPassing, ByAsking, ByTaking, ByVote, ByNo, ByHearing, ByDeciding, ByEnd, closed}
-use Rattle.sc_calm_orders_law.specs.Parts.{errand_by}
-use Rattle.sc_calm_orders_law.specs.Scenes.{Asking, Elsewhere, First, Here, Lone, Next, Turn}
-use Rattle.sc_calm_orders_law.specs.Stages.{Asks, Closes, ClosesBoth, Deal, IsAt, Ordered, Recorded, Replied, SentOn, Stage, Still, Weighs}
-use Rattle.sc_calm_rows_law.specs.Groups.{marks_at, progress_at, view_at}
-use Rattle.sc_calm_rows_law.specs.Turns.{IsSeat, with_event}
-use Rattle.sc_calm_rows_law.proofs.Viewing.{view_was}
-use Rattle.sc_calm_scenes_law.specs.Fresh.{IsThere}
-use Rattle.sc_calm_scenes_law.specs.Kept.{GoesBy}
-use Rattle.sc_calm_scenes_law.specs.Scenes.{is_running, scene_at}
-use Rattle.sc_calm_scenes_law.proofs.Newest.{lead_runs}
-use Rattle.sc_calm_scenes_law.proofs.Turning.{calm_is}
-use Rattle.sc_calm_answers_law.specs.Deeds.{HasDone, doer, doers_of, opened}
-use Rattle.sc_calm_answers_law.specs.Settled.{AreSettled, CoordinatorsAreSettled, HasNoRounds, IsNoRound, SettledOrdersBegin, SettledOrdersGoOn, coords_of}
-use Rattle.sc_calm_answers_law.specs.Told.{ReplicasTell}
-use Rattle.sc_calm_answers_law.specs.TrueUnder.{AreSeen, IsTrueSince}
-use Rattle.sc_calm_answers_law.specs.Unsettled.{TakesSince}
+use Rattle.sc_sound.specs.Definitions.{Player, as_nodes, births, player_table}
+use Rattle.sc_following_law.specs.Definitions.{Course, IsOpen, Prepares, Promises, marks_of, members_at, IsLeadOf}
+use Rattle.sc_following_law.proofs.Lemmas.{order_is_kept, decided as all_decide}
+use Rattle.sc_calm_law.specs.Definitions.{players, Rows}
+use Rattle.sc_calm_logs_law.specs.Definitions.{IsGroupOf, logged_sets}
+use Rattle.sc_calm_answers_law.specs.Definitions.{over_at, tellers_at, IsSentThrough, IsOrdersAlone, AreSent, IsCalmJournal, IsFront, RestsAt, HasDone, doer, doers_of, opened, AreSettled, CoordinatorsAreSettled, HasNoRounds, IsNoRound, SettledOrdersBegin, SettledOrdersGoOn, coords_of, ReplicasTell, AreSeen, IsTrueSince, TakesSince}
+use Rattle.sc_calm_groups_law.specs.Definitions.{IsLedStep}
+use Rattle.sc_calm_groups_law.proofs.Lemmas.{scenarios_well_born, events_go_on, first_at}
+use Rattle.sc_calm_orders_law.specs.Definitions.{OfQuestion, OfVote, OfOutcome, LastTakes, OneTakes, TwoTakes, LastFreed, OneFreed, TwoFreed, IsStepOf, ByRest, ByOrder, ByChange, ByDeal, ByPassing, ByAsking, ByTaking, ByVote, ByNo, ByHearing, ByDeciding, ByEnd, closed, errand_by, Asking, Elsewhere, First, Here, Lone, Next, Turn, Asks, Closes, ClosesBoth, Deal, IsAt, Ordered, Recorded, Replied, SentOn, Stage, Still, Weighs}
+use Rattle.sc_calm_rows_law.specs.Definitions.{marks_at, progress_at, view_at, IsSeat, with_event}
+use Rattle.sc_calm_rows_law.proofs.Lemmas.{view_was}
+use Rattle.sc_calm_scenes_law.specs.Definitions.{IsThere, GoesBy, is_running, scene_at}
+use Rattle.sc_calm_scenes_law.proofs.Lemmas.{lead_runs, calm_is}
 use Rattle.sc_calm_answers_law.proofs.Parties.{Coordinates}
 use Rattle.sc_calm_answers_law.proofs.Pending.{IsSentOn, elsewhere_at, is_pending}
 use Rattle.sc_calm_answers_law.proofs.TrueRounds.{rounds_stay}
 use Rattle.sc_calm_answers_law.proofs.Since.{base_of, coords}
 use Rattle.std.proofs.lemmas.Option.{same_Some}
 use Rattle.sc_calm_answers_law.proofs.Hints.{no_deeds}
-use Rattle.sc_base.proofs.AscendingLemmas.{and_both}
+use Rattle.sc_base.proofs.Lemmas.{and_both}
 
 -- ---- members
 
@@ -239,22 +205,6 @@ settled_begin tells words scenario first journal quiet seat line stage calm rest
     ]
 
 -- ---- a leader that has its promises
-
-first_at : (at : Sets) (slot : ℕ) (sets : List (List ℕ)) → AreAt at slot sets → 1 ≤ length sets → at slot ≡ first_set sets
-first_at at slot [] are some = absurd (omega (arith, some))
-first_at at slot (set ∷ sets) are some = are.0
-
--- where all of some members are among others, a majority is
-all_votes : (xs voters : List ℕ) → ((node : ℕ) → is_member xs node ≡ true → is_member voters node ≡ true) → votes_of xs voters ≡ length xs
-all_votes [] voters f = refl
-all_votes (x ∷ xs) voters f =
-    let head = sum_by-cons (λ member. cond (is_member voters member) 1 0) x xs in
-    let one : ◌≡◌ {A = ℕ} (cond (is_member voters x) 1 0) 1 = cond-true (is_member voters x) 1 0 (f x (or_left (eqb x x) (is_member xs x) (eq-eqb x x refl))) in
-    let more = all_votes xs voters (λ node is. f node (or_right (eqb x node) (is_member xs node) is)) in
-    omega (arith, head, one, more)
-
-all_decide : (xs voters : List ℕ) → 1 ≤ length xs → ((node : ℕ) → is_member xs node ≡ true → is_member voters node ≡ true) → is_majority xs voters ≡ true
-all_decide xs voters some f = (let all = all_votes xs voters f in lt-ltb (length xs) (2 * votes_of xs voters) (omega (arith, all, some)))
 
 module _ (tells : ReplicasTell) (words : ℕ → ℕ → ℕ × ℕ) (scenario : Scenario) (first : Base) (journal quiet rows : Rows) (seat : Seat Player) (number : ℕ) (mail : Mail) (group : Draw) (node : NodeState) (r : ReplicaState)
     (stage : Stage) (tx coord : Draw) (hint : Option ℕ) (t : TakesSince words scenario first journal quiet rows seat number mail group node r stage) (front : IsFront journal rows) (sent : AreSent words scenario journal rows) (quiet_rounds : AreSettled words scenario rows stage)

@@ -1,30 +1,29 @@
 -- The journals of a calm scenario at its budget have few rows: its lines deliver at most a million times each, so its budget is no more, and it gives few orders.
-use Rattle.std.proofs.Common.{◌≡◌, ℕ, zero, suc, ◌+◌, ◌*◌, ◌≤◌, true, false, true≢false, Bool, cond, ◌||◌, List, [], ◌∷◌, ◌++◌, length, map, inl, inr, refl, sym, ◌∙◌, ap, subst, arith, length-append}
+use Rattle.std.proofs.Common.{◌≡◌, ℕ, ◌+◌, ◌*◌, ◌≤◌, true, false, true≢false, Bool, cond, ◌||◌, List, [], ◌∷◌, ◌++◌, length, map, inl, inr, refl, sym, ◌∙◌, ap, subst, arith, length-append}
 use Rattle.std.specs.List.{list_any, count_by}
 use Rattle.std.proofs.lemmas.Bool.{cases_Bool}
 use Rattle.std.proofs.lemmas.List.{length-map}
 use Rattle.std.proofs.lemmas.List.Sums.{sum_by-cons}
 use Rattle.std.proofs.Math.Nat.{mul-le-mul}
-use Rattle.sc_base.specs.Among.{Each}
-use Rattle.sc_cmd.specs.declared.cores.Base.{Base}
-use Rattle.sc_node_table.specs.Slots.{numbers_from}
-use Rattle.sc_orderly_law.specs.Timely.{Nothing}
-use Rattle.sc_orderly_law.proofs.Counting.{rows_of_all, goes_in_time}
+use Rattle.sc_base.specs.Definitions.{Each}
+use Rattle.sc_node_table.specs.Values.{Base}
+use Rattle.sc_node_table.specs.Definitions.{numbers_from}
+use Rattle.sc_orderly_law.specs.Definitions.{Nothing}
+use Rattle.sc_orderly_law.proofs.Lemmas.{rows_of_all, goes_in_time}
 use Rattle.sc_orderly_law.proofs.Given.{few_told, spaced_are_calm}
-use Rattle.sc_paxos_words.proofs.ListLemmas.{Each-from_All}
-use Rattle.sc_scenario.specs.Schedules.{most_deliveries}
-use Rattle.sc_scenario.specs.Valid.{IsBoundedLine, ValidScenariosAreBounded}
+use Rattle.sc_paxos_words.proofs.Lemmas.{Each-from_All}
+use Rattle.sc_scenario.specs.Definitions.{most_deliveries, IsBoundedLine, ValidScenariosAreBounded}
 use Rattle.sc_scenario.specs.declared.scenarios.Asks.{Asks}
 use Rattle.sc_scenario.specs.declared.scenarios.Scenario.{Scenario}
 use Rattle.sc_scenario.specs.declared.scenarios.SchedLine.{SchedLine}
 use Rattle.sc_scenario.specs.declared.scenarios.SchedLine.TheVariants.{Go, Deliver, Drop, Again, Tick, Crash, Told, Settle, Free, Storm}
-use Rattle.sc_sound.specs.Players.{client_seats, client_seat, node_seat, route_of, schedule, as_nodes, system_of}
-use Rattle.sc_whole_law.proofs.Seats.{all_apart}
-use Rattle.sc_budget_law.specs.Budget.{delivers}
-use Rattle.sc_budget_law.specs.Calm.{gives_order, orders_of, calm_budget_of, AllowsCalmly, CalmLinesAreSpaced}
-use Rattle.sc_budget_law.proofs.AtBirth.{few_clients}
-use Rattle.sc_calm_answers_law.specs.Short.{CalmJournalsAreShort}
+use Rattle.sc_sound.specs.Definitions.{client_seats, client_seat, node_seat, route_of, schedule, as_nodes, system_of}
+use Rattle.sc_whole_law.proofs.Lemmas.{all_apart}
+use Rattle.sc_budget_law.specs.Definitions.{delivers, gives_order, orders_of, calm_budget_of, AllowsCalmly, CalmLinesAreSpaced}
+use Rattle.sc_budget_law.proofs.Lemmas.{few_clients}
+use Rattle.sc_calm_answers_law.specs.Definitions.{CalmJournalsAreShort}
 use Rattle.sc_calm_answers_law.proofs.Lines.{orders_same}
+use Rattle.sc_calm_law.proofs.Lemmas.{count_numbers}
 
 -- ---- an order, and a line of deliveries behind it
 
@@ -73,10 +72,6 @@ each_behind P [] x ys each = each.1
 each_behind P (z ∷ xs) x ys each = each_behind P xs x ys each.1
 
 -- ---- how many rows there are
-
-count_numbers : (from count : ℕ) → length (numbers_from from count) ≡ count
-count_numbers from zero = refl
-count_numbers from (suc count) = (let rest = count_numbers (from + 1) count in omega (arith, rest))
 
 few_seats : (bases : List Base) (clients : List Asks) → length (client_seats bases clients) ≤ length clients
 few_seats [] clients = omega arith

@@ -2,60 +2,31 @@
 use Rattle.std.proofs.Common.{◌≡◌, ℕ, true, true≢false, List, [], ◌++◌, Option, Some, None, inl, inr, refl, sym, ◌∙◌, ap, subst, append-nil, arith}
 use Rattle.std.specs.Option.{option_map}
 use Rattle.std.proofs.lemmas.Bool.{cases_Bool}
-use Rattle.sc_base.specs.Same.{same_draw}
-use Rattle.sc_base.specs.declared.names.Ballot.{Ballot}
-use Rattle.sc_base.specs.declared.names.Draw.{Draw}
-use Rattle.sc_base.proofs.NameLemmas.{draw_is, same_name}
-use Rattle.sc_cmd.specs.declared.cores.Base.{Base}
-use Rattle.sc_cmd.specs.declared.orders.OrderLine.{OrderLine}
-use Rattle.sc_mail.specs.declared.bodies.Mail.{Mail}
-use Rattle.sc_mail.specs.declared.bodies.MailBody.{MailBody}
-use Rattle.sc_mail.specs.declared.bodies.MailBody.TheVariants.{Request, Answer, Prepare, Promise, Accept, Accepted, Nack, Learn, Ask, Install, TxPrepare, TxVote, TxOutcome, TxElsewhere, TxWatch, TxWatched, Told as ToldMail}
-use Rattle.sc_mail.specs.declared.roles.Role.TheVariants.{Node, Client}
-use Rattle.sc_actor.specs.declared.actors.Seat.{Seat}
-use Rattle.sc_actor.specs.declared.rows.Event.{Event}
-use Rattle.sc_actor.specs.declared.rows.Event.TheVariants.{Deliver, Tick, Go, Told, Crash, Drop, Again}
-use Rattle.sc_actor.specs.declared.rows.Input.TheVariants.{Got, Go as GoInput, Told as ToldInput}
-use Rattle.sc_actor.specs.Mail.{mails, numbered}
-use Rattle.sc_actor.specs.Replay.{value, acted, input_of}
-use Rattle.sc_actor.specs.System.{row_of}
-use Rattle.sc_orderly_law.specs.Orderly.{IsCalmEvent}
-use Rattle.sc_orderly_law.specs.Timely.{AreInTime}
-use Rattle.sc_orderly_law.proofs.InTime.{in_time_before}
-use Rattle.sc_paxos_words.specs.Acceptors.{reports_from}
-use Rattle.sc_paxos_words.specs.Ballots.{IsAtLeast}
-use Rattle.sc_paxos_words.proofs.ListLemmas.{Each-among}
-use Rattle.sc_scenario.specs.Valid.{IsBounded}
+use Rattle.sc_base.specs.Definitions.{same_draw}
+use Rattle.sc_node_table.specs.Values.{Ballot, Draw, Base, OrderLine, Mail, MailBody, Request, Answer, Prepare, Promise, Accept, Accepted, Nack, Learn, Ask, Install, TxPrepare, TxVote, TxOutcome, TxElsewhere, TxWatch, TxWatched, Told as ToldMail, Node, Client, Seat, Event, Deliver, Tick, Go, Crash, Drop, Again, Got}
+use Rattle.sc_base.proofs.Lemmas.{draw_is, same_name}
+use Rattle.sc_actor.specs.declared.rows.Event.TheVariants.{Told}
+use Rattle.sc_actor.specs.declared.rows.Input.TheVariants.{Go as GoInput, Told as ToldInput}
+use Rattle.sc_actor.specs.Definitions.{mails, numbered, value, acted, input_of, row_of}
+use Rattle.sc_orderly_law.specs.Definitions.{IsCalmEvent, AreInTime}
+use Rattle.sc_orderly_law.proofs.Lemmas.{in_time_before}
+use Rattle.sc_paxos_words.specs.Definitions.{reports_from, IsAtLeast}
+use Rattle.sc_paxos_words.proofs.Lemmas.{Each-among}
+use Rattle.sc_scenario.specs.Definitions.{IsBounded}
 use Rattle.sc_scenario.specs.declared.scenarios.Scenario.{Scenario}
-use Rattle.sc_node_table.specs.Node.{NodeState, replica_of, group_of_mail, group_of_order, may_come, on_mail, on_order}
-use Rattle.sc_node_table.specs.Ordering.{ordered_row}
-use Rattle.sc_node_table.specs.Replica.{ReplicaState, listed, name_of, next}
-use Rattle.sc_node_table.specs.Rows.{mailed}
-use Rattle.sc_group_law.proofs.RowSteps.{number_among}
-use Rattle.sc_sound.specs.Players.{Player, player_table, births, as_nodes}
-use Rattle.sc_calm_law.specs.Charts.{players}
-use Rattle.sc_calm_law.specs.Totals.{Rows}
-use Rattle.sc_following_law.specs.Following.{Mark, Asks, Tells, Prepares, mark_of, Course, Sets, IsFit}
-use Rattle.sc_following_law.specs.Hints.{Tellers}
-use Rattle.sc_following_law.specs.Dated.{from_slot_of}
-use Rattle.sc_following_law.proofs.Dated.{prepares_are_known}
-use Rattle.sc_following_law.proofs.Nodes.{same_mark}
-use Rattle.sc_calm_rows_law.specs.Groups.{view_at, next_in, promise_in, progress_at}
-use Rattle.sc_calm_rows_law.specs.Mailed.{TakesMail, HoldsReplica}
-use Rattle.sc_calm_rows_law.specs.Turns.{IsSeat, with_event, IsReplicasRow}
-use Rattle.sc_calm_rows_law.proofs.Scenes.{fit, goes_on, known}
-use Rattle.sc_calm_rows_law.proofs.Turning.{found_name, rows_replicas}
-use Rattle.sc_calm_rows_law.proofs.Viewing.{view_was, sent_is}
-use Rattle.sc_calm_rows_law.proofs.WellNodes.{Plays, Found, found_well, replay_well}
-use Rattle.sc_calm_groups_law.specs.Led.{Ends, dated_at, IsWellLed}
-use Rattle.sc_calm_groups_law.specs.Mailed.{IsLedScene}
-use Rattle.sc_calm_groups_law.specs.Through.{AreWellBorn, Delivers, HasOneLog, IsSentSo}
-use Rattle.sc_calm_groups_law.proofs.Mails.{scene}
-use Rattle.sc_calm_groups_law.proofs.Dating.{dated_in, taken_dated, rows_dated}
-use Rattle.sc_calm_mail_law.specs.Idle.{IsPlainlyKept, JournalsKeepIdle}
-use Rattle.sc_calm_mail_law.proofs.Posting.{mail_comes}
-use Rattle.sc_calm_answers_law.specs.SentJournals.{IsSentOn}
-use Rattle.sc_calm_answers_law.specs.Sent.{SaysWell, AreSaidWell}
+use Rattle.sc_node_table.specs.Definitions.{NodeState, replica_of, group_of_mail, group_of_order, may_come, on_mail, on_order, ordered_row, ReplicaState, listed, name_of, next, mailed}
+use Rattle.sc_group_law.proofs.Lemmas.{number_among}
+use Rattle.sc_sound.specs.Definitions.{Player, player_table, births, as_nodes}
+use Rattle.sc_calm_law.specs.Definitions.{players, Rows}
+use Rattle.sc_following_law.specs.Definitions.{Mark, Asks, Tells, Prepares, mark_of, Course, Sets, IsFit, Tellers, from_slot_of}
+use Rattle.sc_following_law.proofs.Lemmas.{prepares_are_known, same_mark}
+use Rattle.sc_calm_rows_law.specs.Definitions.{view_at, next_in, promise_in, progress_at, TakesMail, HoldsReplica, IsSeat, with_event, IsReplicasRow}
+use Rattle.sc_calm_rows_law.proofs.Lemmas.{fit, goes_on, known, found_name, rows_replicas, view_was, sent_is, Plays, Found, found_well, replay_well}
+use Rattle.sc_calm_groups_law.specs.Definitions.{Ends, dated_at, IsWellLed, IsLedScene, AreWellBorn, Delivers, HasOneLog, IsSentSo}
+use Rattle.sc_calm_groups_law.proofs.Lemmas.{scene, dated_in, taken_dated, rows_dated}
+use Rattle.sc_calm_mail_law.specs.Definitions.{IsPlainlyKept, JournalsKeepIdle}
+use Rattle.sc_calm_mail_law.proofs.Lemmas.{mail_comes}
+use Rattle.sc_calm_answers_law.specs.Definitions.{IsSentOn, SaysWell, AreSaidWell}
 use Rattle.sc_calm_answers_law.proofs.SentSaying.{Fits, mail_says, order_says, prepare_says}
 use Rattle.sc_calm_answers_law.proofs.SentTurns.{IsLate, node_says, node_orders, client_says}
 use Rattle.sc_calm_answers_law.proofs.Playing.{plays_of}

@@ -1,14 +1,11 @@
 -- To whose leader something is to come, by the stages of an order.
 use Rattle.std.proofs.Common.{◌≡◌, ℕ, true, List, [], ◌∷◌, ◌++◌, Some, ◌⊎◌, inl, inr, refl, sym, ◌∙◌, ap, subst}
-use Rattle.sc_base.specs.Among.{Among}
-use Rattle.sc_base.specs.declared.names.Draw.{Draw}
-use Rattle.sc_paxos_words.proofs.ListLemmas.{Each-among}
-use Rattle.sc_calm_orders_law.specs.Scenes.{Turn, First, Lone, Next, Work, Opens, Scene}
-use Rattle.sc_calm_orders_law.specs.Stages.{Deal, Leg, Mailed, Filed, Stage, Still, Ordered, Asks, SentOn, Weighs, Replied, Recorded, Closes, ClosesBoth, heard, closing, parties_of, heard_lead, leads_of, IsAt}
-use Rattle.sc_calm_orders_law.specs.Follows.{TakesOutcome, LastTakes, OneTakes, TwoTakes, IsFreed, LastFreed, OneFreed, TwoFreed, OfQuestion, OfVote, OfOutcome, closed, filed_there, IsStepOf, ByRest, ByOrder, ByChange, ByDeal, ByPassing, ByAsking, ByTaking, ByVote, ByNo, ByHearing, ByDeciding, ByEnd}
-use Rattle.sc_calm_orders_law.proofs.Lists.{tagged, tokens, found}
-use Rattle.sc_calm_orders_law.proofs.Moves.{work_of, no-work}
-use Rattle.sc_calm_answers_law.specs.RiseRounds.{MustLead}
+use Rattle.sc_base.specs.Definitions.{Among}
+use Rattle.sc_node_table.specs.Values.{Draw}
+use Rattle.sc_paxos_words.proofs.Lemmas.{Each-among}
+use Rattle.sc_calm_orders_law.specs.Definitions.{Turn, First, Lone, Next, Work, Opens, Scene, Deal, Leg, Mailed, Filed, Stage, Still, Ordered, Asks, SentOn, Weighs, Replied, Recorded, Closes, ClosesBoth, heard, closing, parties_of, heard_lead, leads_of, IsAt, TakesOutcome, LastTakes, OneTakes, TwoTakes, IsFreed, LastFreed, OneFreed, TwoFreed, OfQuestion, OfVote, OfOutcome, closed, filed_there, IsStepOf, ByRest, ByOrder, ByChange, ByDeal, ByPassing, ByAsking, ByTaking, ByVote, ByNo, ByHearing, ByDeciding, ByEnd}
+use Rattle.sc_calm_orders_law.proofs.Lemmas.{tagged, tokens, found, work_of, no-work}
+use Rattle.sc_calm_answers_law.specs.Definitions.{MustLead}
 
 -- ---- a group at whose leader work stands
 

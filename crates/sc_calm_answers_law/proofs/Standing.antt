@@ -2,49 +2,26 @@
 use Rattle.std.proofs.Common.{◌≡◌, ℕ, zero, suc, ◌+◌, ◌-◌, eqb, true, false, true≢false, cond, take, List, [], ◌∷◌, ◌++◌, inl, inr, sym, ◌∙◌, ap, subst, arith, append_assoc}
 use Rattle.std.specs.Prelude.{is_some}
 use Rattle.std.proofs.lemmas.Bool.{cases_Bool, cond_both}
-use Rattle.sc_base.specs.Among.{Among, Each}
-use Rattle.sc_base.specs.declared.names.Ballot.{Ballot}
-use Rattle.sc_base.specs.declared.names.Draw.{Draw}
-use Rattle.sc_cmd.specs.declared.commands.Command.{Command}
-use Rattle.sc_cmd.specs.declared.cores.Base.{Base}
-use Rattle.sc_cmd.specs.declared.orders.OrderLine.{OrderLine}
-use Rattle.sc_mail.specs.declared.bodies.Mail.{Mail}
-use Rattle.sc_mail.specs.declared.bodies.MailBody.TheVariants.{Install}
-use Rattle.sc_base.specs.Roster.{is_member}
-use Rattle.sc_actor.specs.declared.actors.Seat.{Seat}
-use Rattle.sc_actor.specs.declared.rows.Event.{Event}
-use Rattle.sc_actor.specs.declared.rows.Event.TheVariants.{Deliver}
-use Rattle.sc_actor.specs.declared.rows.Row.{Row}
-use Rattle.sc_actor.specs.Mail.{mails}
-use Rattle.sc_actor.specs.System.{row_of}
-use Rattle.sc_actor.proofs.ReplayLemmas.{mails-snoc}
-use Rattle.sc_orderly_law.specs.Timely.{AreInTime}
-use Rattle.sc_orderly_law.proofs.InTime.{by_time, last_in_time}
-use Rattle.sc_paxos_words.proofs.ListLemmas.{Each-among, Each-append}
-use Rattle.sc_machine_table.specs.Group.{group_of}
-use Rattle.sc_machine_table.specs.Logs.{state_after}
+use Rattle.sc_base.specs.Definitions.{Among, Each, is_member}
+use Rattle.sc_node_table.specs.Values.{Ballot, Draw, Command, Base, OrderLine, Mail, Install, Seat, Event, Deliver, Row}
+use Rattle.sc_actor.specs.Definitions.{mails, row_of}
+use Rattle.sc_actor.proofs.Lemmas.{mails-snoc}
+use Rattle.sc_orderly_law.specs.Definitions.{AreInTime}
+use Rattle.sc_orderly_law.proofs.Lemmas.{by_time, last_in_time}
+use Rattle.sc_paxos_words.proofs.Lemmas.{Each-among, Each-append}
+use Rattle.sc_machine_table.specs.Definitions.{group_of, state_after}
 use Rattle.sc_scenario.specs.declared.scenarios.Scenario.{Scenario}
-use Rattle.sc_sound.specs.Logs.{decided_log}
-use Rattle.sc_sound.specs.Players.{Player, births, as_nodes, player_table}
-use Rattle.sc_calm_law.specs.Charts.{players}
-use Rattle.sc_calm_law.specs.Totals.{Rows}
-use Rattle.sc_group_law.proofs.RowSteps.{number_among}
-use Rattle.sc_following_law.specs.Following.{Mark, Tells, Installs, Prepares, mark_of, Course, Sets, members_at}
-use Rattle.sc_following_law.specs.Hints.{Tellers}
-use Rattle.sc_following_law.specs.Rows.{told_of, told_from, welcome}
-use Rattle.sc_following_law.specs.Tables.{marks_for}
-use Rattle.sc_following_law.proofs.Marks.{among-either}
-use Rattle.sc_following_law.proofs.Nodes.{same_mark}
-use Rattle.sc_calm_rows_law.specs.Steps.{led_course}
-use Rattle.sc_calm_logs_law.specs.Logged.{logged_sets, IsGroupOf}
-use Rattle.sc_calm_groups_law.specs.Kinds.{IsGroupRow, RowPasses, RowRests, RowTakes, RowMakes, RowLeads, RowElects}
-use Rattle.sc_calm_groups_law.specs.Led.{Ends}
-use Rattle.sc_calm_groups_law.specs.Through.{IsRowOf, Delivers, IsSentSo}
-use Rattle.sc_calm_groups_law.proofs.Sending.{each_among, among_marks}
-use Rattle.sc_calm_answers_law.specs.Led.{over_at}
-use Rattle.sc_calm_answers_law.specs.Tellers.{tellers_at, AreFew, LedRowsGoOn}
+use Rattle.sc_sound.specs.Definitions.{decided_log, Player, births, as_nodes, player_table}
+use Rattle.sc_calm_law.specs.Definitions.{players, Rows}
+use Rattle.sc_group_law.proofs.Lemmas.{number_among}
+use Rattle.sc_following_law.specs.Definitions.{Mark, Tells, Installs, Prepares, mark_of, Course, Sets, members_at, Tellers, told_of, told_from, welcome, marks_for}
+use Rattle.sc_following_law.proofs.Lemmas.{among-either, same_mark}
+use Rattle.sc_calm_rows_law.specs.Definitions.{led_course}
+use Rattle.sc_calm_logs_law.specs.Definitions.{logged_sets, IsGroupOf}
+use Rattle.sc_calm_groups_law.specs.Definitions.{IsGroupRow, RowPasses, RowRests, RowTakes, RowMakes, RowLeads, RowElects, Ends, IsRowOf, Delivers, IsSentSo}
+use Rattle.sc_calm_groups_law.proofs.Lemmas.{each_among, among_marks}
+use Rattle.sc_calm_answers_law.specs.Definitions.{over_at, tellers_at, AreFew, LedRowsGoOn, StatesStand}
 use Rattle.sc_calm_answers_law.proofs.Telling.{answers_none, offers_none, tells_within}
-use Rattle.sc_calm_answers_law.specs.Finding.{StatesStand}
 use Rattle.sc_calm_answers_law.proofs.FindingEnding.{next_ends}
 
 -- ---- the log

@@ -2,38 +2,25 @@
 use Rattle.std.proofs.Common.{◌≡◌, ℕ, eqb, false, true≢false, List, [], ◌∷◌, find, map, Some, None, ◌⊎◌, inl, inr, refl, sym, ◌∙◌, ap, subst, arith}
 use Rattle.std.specs.List.{filter}
 use Rattle.std.proofs.lemmas.Bool.{cases_Bool, cond_both, cond-false}
-use Rattle.sc_base.specs.Among.{Among, Each}
-use Rattle.sc_base.specs.Same.{same_draw}
-use Rattle.sc_base.specs.declared.names.Draw.{Draw}
-use Rattle.sc_base.proofs.NameLemmas.{draw_is, same_name}
-use Rattle.sc_cmd.specs.declared.cores.Base.{Base}
-use Rattle.sc_cmd.specs.declared.links.Route.{Route}
-use Rattle.sc_base.specs.Roster.{is_member}
-use Rattle.sc_actor.specs.declared.actors.Seat.{Seat}
-use Rattle.sc_paxos_words.proofs.ListLemmas.{Each-append}
-use Rattle.sc_scenario.specs.Valid.{ValidScenariosAreBounded}
+use Rattle.sc_base.specs.Definitions.{Among, Each, same_draw, is_member}
+use Rattle.sc_node_table.specs.Values.{Draw, Base, Route, Seat}
+use Rattle.sc_base.proofs.Lemmas.{draw_is, same_name}
+use Rattle.sc_paxos_words.proofs.Lemmas.{Each-append}
+use Rattle.sc_scenario.specs.Definitions.{ValidScenariosAreBounded}
 use Rattle.sc_scenario.specs.declared.scenarios.Asks.{Asks}
 use Rattle.sc_scenario.specs.declared.scenarios.Scenario.{Scenario}
-use Rattle.sc_node_table.specs.Node.{born_replicas, replica_of}
-use Rattle.sc_node_table.specs.Replica.{born_replica}
-use Rattle.sc_node_table.specs.Slots.{slots_ahead, numbers_from}
-use Rattle.sc_sound.specs.Players.{Player, node_seat, client_seat, client_seats, route_of, births, as_nodes}
-use Rattle.sc_log_law.specs.Descent.{Rows}
-use Rattle.sc_ring_law.specs.Allowed.{Sources}
-use Rattle.sc_names_law.specs.Laws.{OtherNamesAreFree, TakenOrdersAreAllowed, TakenWishesAreAllowed, WishesAreAtPositions}
-use Rattle.sc_names_law.specs.Owners.{owner_in}
-use Rattle.sc_whole_law.specs.Begins.{BeginsWell, section_op}
-use Rattle.sc_whole_law.specs.Orders.{OrdersAreAllowed}
-use Rattle.sc_whole_law.specs.StartLaws.{ValidScenariosBeginWell}
-use Rattle.sc_whole_law.proofs.Scheduled.{orders_allowed}
-use Rattle.sc_calm_rows_law.specs.Groups.{replicas_of, replica_in, view_at, begun_course}
-use Rattle.sc_calm_logs_law.specs.Logged.{logged_sets, IsGroupOf, SlotsHaveRosters}
-use Rattle.sc_calm_logs_law.proofs.Journals.{found, stay}
-use Rattle.sc_calm_groups_law.specs.Begun.{BeginsSo, ScenariosBeginLed, ChildrenBeginLed}
-use Rattle.sc_calm_answers_law.specs.Led.{over_at, GroupsBeginStanding, EndsAreLogged}
-use Rattle.sc_calm_groups_law.specs.Taught.{ScenariosBeginTaught, ChildrenBeginTaught}
-use Rattle.sc_calm_answers_law.specs.Taught.{GroupsBeginTaught}
-use Rattle.sc_calm_answers_law.specs.Tellers.{GroupsAreBornOrNot, GroupsBeginLed}
+use Rattle.sc_node_table.specs.Definitions.{born_replicas, replica_of, born_replica, slots_ahead, numbers_from}
+use Rattle.sc_sound.specs.Definitions.{Player, node_seat, client_seat, client_seats, route_of, births, as_nodes}
+use Rattle.sc_log_law.specs.Definitions.{Rows}
+use Rattle.sc_ring_law.specs.Definitions.{Sources}
+use Rattle.sc_names_law.specs.Definitions.{OtherNamesAreFree, TakenOrdersAreAllowed, TakenWishesAreAllowed, WishesAreAtPositions, owner_in}
+use Rattle.sc_whole_law.specs.Definitions.{BeginsWell, section_op, OrdersAreAllowed, ValidScenariosBeginWell}
+use Rattle.sc_whole_law.proofs.Lemmas.{orders_allowed}
+use Rattle.sc_calm_rows_law.specs.Definitions.{replicas_of, replica_in, view_at, begun_course}
+use Rattle.sc_calm_logs_law.specs.Definitions.{logged_sets, IsGroupOf, SlotsHaveRosters}
+use Rattle.sc_calm_logs_law.proofs.Lemmas.{found, stay}
+use Rattle.sc_calm_groups_law.specs.Definitions.{BeginsSo, ScenariosBeginLed, ChildrenBeginLed, ScenariosBeginTaught, ChildrenBeginTaught}
+use Rattle.sc_calm_answers_law.specs.Definitions.{over_at, GroupsBeginStanding, EndsAreLogged, GroupsBeginTaught, GroupsAreBornOrNot, GroupsBeginLed}
 
 -- ---- no player has a replica of a group with another name at the births
 

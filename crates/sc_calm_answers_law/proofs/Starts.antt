@@ -3,35 +3,26 @@ use Rattle.std.proofs.Common.{◌≡◌, ℕ, ◌+◌, ◌-◌, ◌||◌, eqb, B
 use Rattle.std.specs.Prelude.{is_some}
 use Rattle.std.proofs.lemmas.Bool.{cond-true, cond-false, eq-eqb, cases_Bool}
 use Rattle.std.proofs.lemmas.List.Sums.{sum_by-cons}
-use Rattle.sc_base.specs.Among.{Among}
-use Rattle.sc_base.specs.Same.{same_draw}
-use Rattle.sc_base.specs.Limits.{client_actor}
-use Rattle.sc_base.proofs.NameLemmas.{same_name, draw_is}
-use Rattle.sc_mail.specs.declared.bodies.Mail.{Mail}
-use Rattle.sc_mail.specs.declared.roles.Role.TheVariants.{Node}
-use Rattle.sc_actor.specs.Mail.{mails, copies}
-use Rattle.sc_actor.specs.System.{has_gone}
-use Rattle.sc_client_table.specs.Client.{Client as ClientState, born_client}
-use Rattle.sc_node_table.specs.Node.{replica_of}
-use Rattle.sc_node_table.specs.Replica.{ReplicaState, name_of}
-use Rattle.sc_paxos_words.proofs.ListLemmas.{Each-among}
-use Rattle.sc_scenario.specs.Valid.{ValidScenariosAreBounded}
-use Rattle.sc_sound.specs.Players.{route_of, system_of, as_nodes}
-use Rattle.sc_orderly_law.specs.Orderly.{mail_with, is_born}
-use Rattle.sc_calm_law.specs.Quiet.{IsAtRest, IsAnswered}
-use Rattle.sc_budget_law.specs.AskingQuiet.{replicas_after, hints_left}
-use Rattle.sc_budget_law.specs.Frames.{Frame}
-use Rattle.sc_budget_law.proofs.BetweenStage.{stage}
-use Rattle.sc_budget_law.proofs.BetweenSteps.{node_number}
-use Rattle.sc_budget_law.proofs.BetweenViews.{replica_is}
-use Rattle.sc_budget_law.proofs.QuietTurns.{client_is}
-use Rattle.sc_calm_answers_law.specs.Starts.{QuietJournalsKnowOne, QuietJournalsHaveNoMail, QuietJournalsCountOnce, AreNamedOnce, QuietLeadersAreReached}
-use Rattle.sc_calm_answers_law.specs.Tokens.{command_token, flight_tokens, ready_tokens, replica_tokens}
+use Rattle.sc_base.specs.Definitions.{Among, same_draw, client_actor}
+use Rattle.sc_base.proofs.Lemmas.{same_name, draw_is}
+use Rattle.sc_node_table.specs.Values.{Mail, Node}
+use Rattle.sc_actor.specs.Definitions.{mails, copies, has_gone}
+use Rattle.sc_client_table.specs.Definitions.{Client as ClientState, born_client}
+use Rattle.sc_node_table.specs.Definitions.{replica_of, ReplicaState, name_of}
+use Rattle.sc_paxos_words.proofs.Lemmas.{Each-among}
+use Rattle.sc_scenario.specs.Definitions.{ValidScenariosAreBounded}
+use Rattle.sc_sound.specs.Definitions.{route_of, system_of, as_nodes}
+use Rattle.sc_orderly_law.specs.Definitions.{mail_with, is_born}
+use Rattle.sc_calm_law.specs.Definitions.{IsAtRest, IsAnswered}
+use Rattle.sc_budget_law.specs.Definitions.{replicas_after, hints_left, Frame}
+use Rattle.sc_budget_law.proofs.Lemmas.{stage, node_number, replica_is, client_is}
+use Rattle.sc_calm_answers_law.specs.Definitions.{QuietJournalsKnowOne, QuietJournalsHaveNoMail, QuietJournalsCountOnce, AreNamedOnce, QuietLeadersAreReached, command_token, flight_tokens, ready_tokens, replica_tokens}
 use Rattle.sc_calm_answers_law.proofs.TokensIdle.{idle_once}
 use Rattle.sc_calm_answers_law.proofs.Hinting.{no_append}
 
 -- ---- what clients know
 
+-- In a quiet journal a client that was not told to go knows one group alone.
 pub know_one : QuietJournalsKnowOne
 know_one words scenario first rows q asks client a not_gone v =
     let p = q.players asks a in
@@ -56,6 +47,7 @@ none_with to born (m ∷ sent) (c ∷ counts) none =
       | inr f ↦ ap (λ xs. xs ++ mail_with (λ x. born (to x)) sent counts) (cond-false (born (to m)) (replicate c m) [] f) ∙ rec
     ]
 
+-- .. and no mail is under way.
 pub no_mail : QuietJournalsHaveNoMail
 no_mail words scenario first rows q =
     none_with (λ (m : Mail). (system_of as_nodes words scenario).receiver m) (λ who. is_born (system_of as_nodes words scenario) who) (mails rows) (copies rows) q.none
@@ -65,6 +57,7 @@ no_mail words scenario first rows q =
 none_left : (latest : ℕ) (r : ReplicaState) → r.running ≡ true → hints_left latest (Some r) ≡ 0
 none_left latest r e = ap (λ b. cond (b || is_some r.group.core.gone) 0 (1 + latest - r.top.round)) e
 
+-- .. and each node that leads is reached, by the ways of the latest rounds.
 pub leaders_reached : QuietLeadersAreReached
 leaders_reached words scenario first rows frames latest most asks q s frame a =
     let w = s.are frame a in

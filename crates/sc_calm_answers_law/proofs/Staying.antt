@@ -3,70 +3,33 @@ use Rattle.std.proofs.Common.{◌≡◌, ◌⊎◌, ℕ, Bool, true, false, eqb,
 use Rattle.std.specs.Option.{option_map}
 use Rattle.std.specs.List.{filter}
 use Rattle.std.proofs.lemmas.Bool.{cases_Bool, cond-true, cond-false, eq-eqb, eqb-true}
-use Rattle.sc_base.specs.Among.{Each}
-use Rattle.sc_base.specs.declared.names.Draw.{Draw}
-use Rattle.sc_base.specs.Same.{same_draw}
-use Rattle.sc_base.proofs.NameLemmas.{same_name}
-use Rattle.sc_cmd.specs.declared.cores.Base.{Base}
-use Rattle.sc_cmd.specs.declared.orders.OrderLine.{OrderLine}
+use Rattle.sc_base.specs.Definitions.{Each, same_draw}
+use Rattle.sc_node_table.specs.Values.{Draw, Base, OrderLine, Refused, Mail, MailBody, Request, Answer, Prepare, Promise, Accept, Accepted, Nack, Learn, Ask, Install, TxPrepare, TxVote, TxOutcome, TxElsewhere, TxWatch, TxWatched, Told as ToldMail, Node, Client, Seat, Event, Deliver, Go, Input, Got, Row}
+use Rattle.sc_base.proofs.Lemmas.{same_name}
 use Rattle.sc_cmd.specs.declared.orders.OrderRefusal.TheVariants.{NotLeader}
-use Rattle.sc_cmd.specs.declared.orders.ToldResult.TheVariants.{Refused}
-use Rattle.sc_mail.specs.declared.bodies.Mail.{Mail}
-use Rattle.sc_mail.specs.declared.bodies.MailBody.{MailBody}
-use Rattle.sc_mail.specs.declared.bodies.MailBody.TheVariants.{Request, Answer, Prepare, Promise, Accept, Accepted, Nack, Learn, Ask, Install, TxPrepare, TxVote, TxOutcome, TxElsewhere, TxWatch, TxWatched, Told as ToldMail}
-use Rattle.sc_mail.specs.declared.roles.Role.TheVariants.{Node, Client}
-use Rattle.sc_actor.specs.declared.actors.Seat.{Seat}
-use Rattle.sc_actor.specs.declared.rows.Event.{Event}
-use Rattle.sc_actor.specs.declared.rows.Event.TheVariants.{Deliver, Told, Go}
-use Rattle.sc_actor.specs.declared.rows.Input.{Input}
-use Rattle.sc_actor.specs.declared.rows.Input.TheVariants.{Got, Told as ToldInput}
-use Rattle.sc_actor.specs.declared.rows.Row.{Row}
-use Rattle.sc_actor.specs.Mail.{mails, numbered}
-use Rattle.sc_actor.specs.Replay.{value, acted, input_of}
-use Rattle.sc_actor.specs.System.{System, row_of}
-use Rattle.sc_actor.specs.Walk.{is_quiet}
-use Rattle.sc_client_table.specs.Client.{Client as ClientState}
-use Rattle.sc_client_table.specs.Table.{table}
-use Rattle.sc_orderly_law.specs.Orderly.{IsCalmRow, IsTidy, rest, mail_for, taken}
-use Rattle.sc_orderly_law.specs.Timely.{AreInTime}
-use Rattle.sc_orderly_law.proofs.InTime.{in_time_before, in_time_tidy, last_in_time}
-use Rattle.sc_orderly_law.proofs.Resting.{TakesFirst, quiet-empty, is_born-from, takes_first, rest-calm}
-use Rattle.sc_paxos_words.proofs.ListLemmas.{Each-among, Each-append, Each-weaker}
-use Rattle.sc_names_law.proofs.Lists.{Each-drop}
+use Rattle.sc_actor.specs.declared.rows.Event.TheVariants.{Told}
+use Rattle.sc_actor.specs.declared.rows.Input.TheVariants.{Told as ToldInput}
+use Rattle.sc_actor.specs.Definitions.{mails, numbered, value, acted, input_of, System, row_of, is_quiet}
+use Rattle.sc_client_table.specs.Definitions.{Client as ClientState, table}
+use Rattle.sc_orderly_law.specs.Definitions.{IsCalmRow, IsTidy, rest, mail_for, taken, AreInTime}
+use Rattle.sc_orderly_law.proofs.Lemmas.{in_time_before, in_time_tidy, last_in_time, TakesFirst, quiet-empty, is_born-from, takes_first, rest-calm}
+use Rattle.sc_paxos_words.proofs.Lemmas.{Each-among, Each-append, Each-weaker}
+use Rattle.sc_names_law.proofs.Lemmas.{Each-drop}
 use Rattle.sc_scenario.specs.declared.scenarios.Scenario.{Scenario}
-use Rattle.sc_node_table.specs.Mails.{told_desk}
-use Rattle.sc_node_table.specs.Node.{NodeState, replica_of, with_replica, with_children, group_of_mail, may_come, unknown, taken_by, routed, on_mail, group_of_order, ordered_of}
-use Rattle.sc_node_table.specs.Ordering.{ordered_row}
-use Rattle.sc_node_table.specs.Replica.{ReplicaState, Executed, name_of, born_replica}
-use Rattle.sc_node_table.specs.Rows.{mailed}
-use Rattle.sc_node_table.specs.Slots.{slots_ahead}
-use Rattle.sc_law_lemmas.proofs.Ways.{either_way}
-use Rattle.sc_sound.specs.Players.{Player, player_table, births, as_nodes}
-use Rattle.sc_calm_law.specs.Charts.{players}
-use Rattle.sc_calm_law.specs.Totals.{Rows}
-use Rattle.sc_calm_law.proofs.OwedParties.{put_others}
-use Rattle.sc_calm_orders_law.specs.Parts.{errand_by, errand_for, errands_for}
-use Rattle.sc_calm_orders_law.specs.Scenes.{Errand, Here, IsNone}
-use Rattle.sc_calm_orders_law.specs.Stages.{Stage, parties_of}
-use Rattle.sc_calm_rows_law.specs.Groups.{view_at}
-use Rattle.sc_calm_rows_law.specs.Turns.{IsSeat, with_event, IsBornOr, AreAsBegun, made_children}
-use Rattle.sc_calm_rows_law.proofs.Hearing.{names_stay}
-use Rattle.sc_calm_rows_law.proofs.Mailing.{mailed_keeps, order_keeps}
-use Rattle.sc_calm_rows_law.proofs.Turning.{found_name}
-use Rattle.sc_calm_rows_law.proofs.Viewing.{view_others, view_was}
-use Rattle.sc_calm_rows_law.proofs.WellNodes.{Plays, replay_well}
-use Rattle.sc_calm_groups_law.specs.Through.{ScenariosAreWellBorn}
-use Rattle.sc_calm_logs_law.specs.Logged.{IsGroupOf}
-use Rattle.sc_calm_answers_law.specs.Led.{ChildrenAreBegun}
-use Rattle.sc_calm_scenes_law.specs.Fresh.{IsNowhere, IsErrandFor, AreUntouched}
-use Rattle.sc_calm_scenes_law.proofs.Fresh.{client_leaves, got_nothing, quiet_errands, unknown_apart}
-use Rattle.sc_calm_scenes_law.proofs.Left.{errands-append, left_by, left_row}
-use Rattle.sc_calm_scenes_law.proofs.Taking.{OneOf, all_children, all_sent, now_is, was_is}
-use Rattle.sc_calm_scenes_law.proofs.Turning.{calm_is}
-use Rattle.sc_calm_answers_law.specs.JournalUnder.{IsYoungAt}
-use Rattle.sc_calm_answers_law.specs.Young.{IsUnanswered, YoungGroupsStay}
+use Rattle.sc_node_table.specs.Definitions.{told_desk, NodeState, replica_of, with_replica, with_children, group_of_mail, may_come, unknown, taken_by, routed, on_mail, group_of_order, ordered_of, ordered_row, ReplicaState, Executed, name_of, born_replica, mailed, slots_ahead}
+use Rattle.sc_law_lemmas.proofs.Lemmas.{either_way}
+use Rattle.sc_sound.specs.Definitions.{Player, player_table, births, as_nodes}
+use Rattle.sc_calm_law.specs.Definitions.{players, Rows}
+use Rattle.sc_calm_law.proofs.Lemmas.{put_others}
+use Rattle.sc_calm_orders_law.specs.Definitions.{errand_by, errand_for, errands_for, Errand, Here, IsNone, Stage, parties_of}
+use Rattle.sc_calm_rows_law.specs.Definitions.{view_at, IsSeat, with_event, IsBornOr, AreAsBegun, made_children}
+use Rattle.sc_calm_rows_law.proofs.Lemmas.{names_stay, mailed_keeps, order_keeps, found_name, view_others, view_was, Plays, replay_well, none_some}
+use Rattle.sc_calm_groups_law.specs.Definitions.{ScenariosAreWellBorn}
+use Rattle.sc_calm_logs_law.specs.Definitions.{IsGroupOf}
+use Rattle.sc_calm_answers_law.specs.Definitions.{ChildrenAreBegun, IsYoungAt, IsUnanswered, YoungGroupsStay}
+use Rattle.sc_calm_scenes_law.specs.Definitions.{IsNowhere, IsErrandFor, AreUntouched}
+use Rattle.sc_calm_scenes_law.proofs.Lemmas.{client_leaves, got_nothing, quiet_errands, unknown_apart, errands-append, left_by, left_row, OneOf, all_children, all_sent, now_is, was_is, calm_is}
 use Rattle.sc_calm_answers_law.proofs.Playing.{plays_of}
-use Rattle.sc_calm_rows_law.proofs.Beginning.{none_some}
 
 -- a node has the number of its seat
 pub node_number : ScenariosAreWellBorn → (scenario : Scenario) (rows : Rows) (seat : Seat Player) (node : NodeState) → IsSeat (births as_nodes scenario) seat → value player_table seat rows ≡ Node node → node.me ≡ seat.who

@@ -2,63 +2,25 @@
 use Rattle.std.proofs.Common.{◌≡◌, ℕ, Bool, eqb, true, false, true≢false, List, [], ◌∷◌, ◌++◌, Option, Some, None, ◌⊎◌, inl, inr, refl, sym, ◌∙◌, ap, subst}
 use Rattle.std.proofs.lemmas.Bool.{cases_Bool, eq-eqb, eqb-true, cond-true, cond-false}
 use Rattle.std.specs.Option.{option_map}
-use Rattle.sc_base.specs.Among.{Among}
-use Rattle.sc_base.specs.declared.names.Ballot.{Ballot}
-use Rattle.sc_base.specs.declared.names.Draw.{Draw}
-use Rattle.sc_cmd.specs.declared.commands.Command.{Command}
-use Rattle.sc_cmd.specs.declared.orders.OrderLine.{OrderLine}
-use Rattle.sc_machine_table.specs.Machine.{applied}
-use Rattle.sc_mail.specs.declared.bodies.Mail.{Mail}
-use Rattle.sc_mail.specs.declared.bodies.MailBody.{MailBody}
-use Rattle.sc_mail.specs.declared.bodies.MailBody.TheVariants.{Request, Answer, Prepare, Promise, Accept, Accepted, Nack, Learn, Ask, Install, TxPrepare, TxVote, TxOutcome, TxElsewhere, TxWatch, TxWatched, Told as ToldMail}
-use Rattle.sc_mail.specs.declared.roles.Role.TheVariants.{Node, Client}
-use Rattle.sc_client_table.specs.Client.{Client as ClientState}
-use Rattle.sc_actor.specs.declared.actors.Seat.{Seat}
-use Rattle.sc_actor.specs.declared.rows.Event.{Event}
-use Rattle.sc_actor.specs.declared.rows.Event.TheVariants.{Deliver}
-use Rattle.sc_actor.specs.declared.rows.Input.TheVariants.{Got}
-use Rattle.sc_actor.specs.Mail.{mails, numbered}
-use Rattle.sc_actor.specs.Replay.{value}
-use Rattle.sc_actor.specs.System.{row_of}
-use Rattle.sc_orderly_law.specs.Timely.{AreInTime}
-use Rattle.sc_orderly_law.proofs.InTime.{last_in_time}
-use Rattle.sc_node_table.specs.Node.{NodeState, replica_of, group_of_mail, may_come, unknown, taken_by, routed, on_mail}
-use Rattle.sc_node_table.specs.Replica.{ReplicaState, Place, listed}
-use Rattle.sc_node_table.specs.Rows.{mailed}
-use Rattle.sc_law_lemmas.proofs.Ways.{either_way}
-use Rattle.sc_paxos_words.specs.declared.flights.Flight.{Flight}
-use Rattle.sc_sound.specs.Players.{Player, player_table}
-use Rattle.sc_calm_law.specs.Charts.{players}
-use Rattle.sc_calm_law.specs.Totals.{Rows}
-use Rattle.sc_calm_orders_law.specs.Parts.{bond_of, errand_by, is_yes, is_cast_yes, work_by, works, works_flying, works_in, works_ready}
-use Rattle.sc_calm_orders_law.specs.Running.{FliesLone, RunsAlone}
-use Rattle.sc_calm_orders_law.specs.Scenes.{Answers, Bound, Elsewhere, Errand, Question, Reply, Result, Here, Records, Ends, Unbound, Work}
-use Rattle.sc_calm_orders_law.specs.Stages.{IsUnderWay}
-use Rattle.sc_calm_orders_law.specs.Tables.{IsUnbound, MayFile, Works}
-use Rattle.sc_calm_orders_law.proofs.Counting.{votes-count-alone}
-use Rattle.sc_calm_orders_law.proofs.Filing.{tables-file, tables-ask-on}
-use Rattle.sc_calm_orders_law.proofs.Lists.{cases-draw}
-use Rattle.sc_calm_orders_law.proofs.Resting.{tables-rest, promises-keep}
-use Rattle.sc_calm_orders_law.proofs.Runs.{entries-run-alone}
-use Rattle.sc_calm_rows_law.specs.Groups.{view_at}
-use Rattle.sc_calm_rows_law.specs.Turns.{IsSeat, with_event}
-use Rattle.sc_calm_rows_law.proofs.Viewing.{view_is, view_others, view_was}
-use Rattle.sc_calm_scenes_law.specs.Asked.{Expects, IsAsking, IsWaiting}
-use Rattle.sc_calm_scenes_law.specs.Found.{Aborted, BesideFinds, AtAnother, AtLeader, Changed, Decided, Ended, FindsFlight, FindsOrder, FindsReplica, Heard, Late, LeaderFinds, Leaves, Opened, Voted}
-use Rattle.sc_calm_scenes_law.specs.Kept.{ComesTo, ComesToLeader, IsBeside, Led, Unled}
-use Rattle.sc_calm_scenes_law.specs.Scenes.{scene_at}
-use Rattle.sc_calm_scenes_law.specs.Taken.{IsTaking}
-use Rattle.sc_calm_scenes_law.specs.Turns.{Bears, LeadsAlone, LeavesOrMakes}
-use Rattle.sc_calm_scenes_law.proofs.Fresh.{unknown_apart}
-use Rattle.sc_calm_scenes_law.proofs.Keeping.{row_of_comes}
-use Rattle.sc_calm_scenes_law.proofs.Left.{takes_one}
-use Rattle.sc_calm_scenes_law.proofs.Reaching.{answers_reach, errand_among}
-use Rattle.sc_calm_scenes_law.proofs.Taking.{now_is, was_is}
-use Rattle.sc_calm_scenes_law.proofs.Turning.{calm_is}
-use Rattle.sc_calm_scenes_law.proofs.Viewing.{tell}
-use Rattle.sc_calm_answers_law.specs.Deeds.{HasStepped, Rested, Executed}
+use Rattle.sc_base.specs.Definitions.{Among}
+use Rattle.sc_node_table.specs.Values.{Ballot, Draw, Command, OrderLine, Mail, MailBody, Request, Answer, Prepare, Promise, Accept, Accepted, Nack, Learn, Ask, Install, TxPrepare, TxVote, TxOutcome, TxElsewhere, TxWatch, TxWatched, Told as ToldMail, Node, Client, Seat, Event, Deliver, Got, Flight}
+use Rattle.sc_machine_table.specs.Definitions.{applied}
+use Rattle.sc_client_table.specs.Definitions.{Client as ClientState}
+use Rattle.sc_actor.specs.Definitions.{mails, numbered, value, row_of}
+use Rattle.sc_orderly_law.specs.Definitions.{AreInTime}
+use Rattle.sc_orderly_law.proofs.Lemmas.{last_in_time}
+use Rattle.sc_node_table.specs.Definitions.{NodeState, replica_of, group_of_mail, may_come, unknown, taken_by, routed, on_mail, ReplicaState, Place, listed, mailed}
+use Rattle.sc_law_lemmas.proofs.Lemmas.{either_way}
+use Rattle.sc_sound.specs.Definitions.{Player, player_table}
+use Rattle.sc_calm_law.specs.Definitions.{players, Rows}
+use Rattle.sc_calm_orders_law.specs.Definitions.{bond_of, errand_by, is_yes, is_cast_yes, work_by, works, works_flying, works_in, works_ready, FliesLone, RunsAlone, Answers, Bound, Elsewhere, Errand, Question, Reply, Result, Here, Records, Ends, Unbound, Work, IsUnderWay, IsUnbound, MayFile, Works}
+use Rattle.sc_calm_orders_law.proofs.Lemmas.{votes-count-alone, tables-file, tables-ask-on, cases-draw, tables-rest, promises-keep, entries-run-alone}
+use Rattle.sc_calm_rows_law.specs.Definitions.{view_at, IsSeat, with_event}
+use Rattle.sc_calm_rows_law.proofs.Lemmas.{view_is, view_others, view_was, none_some}
+use Rattle.sc_calm_scenes_law.specs.Definitions.{Expects, IsAsking, IsWaiting, Aborted, BesideFinds, AtAnother, AtLeader, Changed, Decided, Ended, FindsFlight, FindsOrder, FindsReplica, Heard, Late, LeaderFinds, Leaves, Opened, Voted, ComesTo, ComesToLeader, IsBeside, Led, Unled, scene_at, IsTaking, Bears, LeadsAlone, LeavesOrMakes}
+use Rattle.sc_calm_scenes_law.proofs.Lemmas.{unknown_apart, row_of_comes, takes_one, answers_reach, errand_among, now_is, was_is, calm_is, tell}
+use Rattle.sc_calm_answers_law.specs.Definitions.{HasStepped, Rested, Executed}
 use Rattle.sc_calm_answers_law.proofs.Late.{untouched, asks_leave, votes_late, learnt_late, sent_late}
-use Rattle.sc_calm_rows_law.proofs.Beginning.{none_some}
 
 some_or_none : (xs : List Work) → (xs ≡ []) ⊎ (xs ≡ [] → ⊥)
 some_or_none [] = inl refl

@@ -1,37 +1,20 @@
 -- Where nothing of an order is left in a quiet front, no group is bound.
 use Rattle.std.proofs.Common.{◌≡◌, ℕ, true, List, Option, Some, None, refl, sym, ◌∙◌, ap, arith}
-use Rattle.sc_base.specs.Among.{Among}
-use Rattle.sc_cmd.specs.declared.cores.Base.{Base}
-use Rattle.sc_cmd.specs.declared.cores.Core.{Core}
-use Rattle.sc_cmd.specs.declared.cores.Lock.{Lock}
-use Rattle.sc_cmd.specs.declared.cores.Lock.TheVariants.{Free, Coordinating, Promised, Watching}
-use Rattle.sc_actor.specs.System.{numbers_of}
-use Rattle.sc_machine_table.specs.Group.{Group}
+use Rattle.sc_base.specs.Definitions.{Among}
+use Rattle.sc_node_table.specs.Values.{Base, Free}
+use Rattle.sc_actor.specs.Definitions.{numbers_of}
+use Rattle.sc_machine_table.specs.Definitions.{Group}
 use Rattle.sc_scenario.specs.declared.scenarios.Scenario.{Scenario}
-use Rattle.sc_node_table.specs.Replica.{ReplicaState}
-use Rattle.sc_sound.specs.GroupsOf.{groups_at}
-use Rattle.sc_sound.specs.Logs.{decided_state}
-use Rattle.sc_sound.specs.Players.{births, as_nodes}
-use Rattle.sc_log_law.specs.Descent.{Rows}
-use Rattle.sc_calm_orders_law.specs.Parts.{bond_in, bond_of}
-use Rattle.sc_calm_orders_law.specs.Scenes.{Bond, Here, Unbound}
-use Rattle.sc_calm_orders_law.specs.Stages.{Still, IsAt}
-use Rattle.sc_calm_rows_law.specs.Groups.{view_at}
-use Rattle.sc_calm_scenes_law.specs.Scenes.{is_running, lead_of, newest_of, bond_there, bond_by, scene_at}
-use Rattle.sc_calm_scenes_law.proofs.Newest.{IsNewest, newest_is, lead_runs}
-use Rattle.sc_calm_scenes_law.proofs.Viewing.{view_among}
-use Rattle.sc_calm_answers_law.specs.KnownFronts.{IsQuietFront, FrontsAreFound, QuietLogsAreExecuted}
-use Rattle.sc_calm_answers_law.specs.Known.{AreAllThere, StillFrontsAreFree}
-use Rattle.sc_calm_answers_law.specs.There.{FrontsAreThere}
+use Rattle.sc_node_table.specs.Definitions.{ReplicaState}
+use Rattle.sc_sound.specs.Definitions.{groups_at, decided_state, births, as_nodes}
+use Rattle.sc_log_law.specs.Definitions.{Rows}
+use Rattle.sc_calm_orders_law.specs.Definitions.{bond_of, Bond, Here, Still, IsAt}
+use Rattle.sc_calm_rows_law.specs.Definitions.{view_at}
+use Rattle.sc_calm_scenes_law.specs.Definitions.{is_running, lead_of, newest_of, bond_there, bond_by, scene_at}
+use Rattle.sc_calm_scenes_law.proofs.Lemmas.{IsNewest, newest_is, lead_runs, view_among, free_by as unbound_free}
+use Rattle.sc_calm_answers_law.specs.Definitions.{IsQuietFront, FrontsAreFound, QuietLogsAreExecuted, AreAllThere, StillFrontsAreFree, FrontsAreThere}
 use Rattle.sc_calm_answers_law.proofs.Known.{most, last_state}
 use Rattle.sc_calm_answers_law.proofs.KnownReaching.{last}
-
--- what is bound by nothing is free
-unbound_free : (l : Lock) (core : Core) → bond_in l core ≡ Unbound → l ≡ Free
-unbound_free Free core e = refl
-unbound_free (Coordinating tx body order heard) core e = cc
-unbound_free (Promised tx offer) core e = cc
-unbound_free (Watching tx watch) core e = cc
 
 module _ (executed : QuietLogsAreExecuted) (finds : FrontsAreFound) (words : ℕ → ℕ → ℕ × ℕ) (scenario : Scenario) (journal front : Rows) (q : IsQuietFront words scenario journal front) (there : AreAllThere scenario front) (base : Base) (a : Among base (groups_at as_nodes scenario.groups front)) where
   abbrev view : ℕ → Option ReplicaState

@@ -3,59 +3,27 @@ use Rattle.std.proofs.Common.{◌≡◌, ℕ, ◌≤◌, eqb, not, nat_lt, Bool,
 use Rattle.std.specs.Prelude.{find}
 use Rattle.std.proofs.lemmas.Bool.{cases_Bool, cond-true, eqb-true, eq-eqb}
 use Rattle.std.proofs.lemmas.Option.{none-some}
-use Rattle.sc_base.specs.Among.{Among}
-use Rattle.sc_base.specs.Same.{same_draw}
-use Rattle.sc_base.specs.declared.names.Draw.{Draw}
-use Rattle.sc_base.proofs.NameLemmas.{draw_is, same_name}
-use Rattle.sc_cmd.specs.declared.cores.Base.{Base}
-use Rattle.sc_cmd.specs.declared.orders.OrderLine.{OrderLine}
+use Rattle.sc_base.specs.Definitions.{Among, same_draw, is_member}
+use Rattle.sc_node_table.specs.Values.{Draw, Base, OrderLine, Refused, Mail, MailBody, Request, Answer, Prepare, Promise, Accept, Accepted, Nack, Learn, Ask, Install, TxPrepare, TxVote, TxOutcome, TxElsewhere, TxWatch, TxWatched, Told as ToldMail, Node, Client, Seat, Event, Deliver, Tick, Go, Crash, Drop, Again, Input, Got, Row}
+use Rattle.sc_base.proofs.Lemmas.{draw_is, same_name}
 use Rattle.sc_cmd.specs.declared.orders.OrderRefusal.TheVariants.{NotLeader}
-use Rattle.sc_cmd.specs.declared.orders.ToldResult.TheVariants.{Refused}
-use Rattle.sc_mail.specs.declared.bodies.Mail.{Mail}
-use Rattle.sc_mail.specs.declared.bodies.MailBody.{MailBody}
-use Rattle.sc_mail.specs.declared.bodies.MailBody.TheVariants.{Request, Answer, Prepare, Promise, Accept, Accepted, Nack, Learn, Ask, Install, TxPrepare, TxVote, TxOutcome, TxElsewhere, TxWatch, TxWatched, Told as ToldMail}
-use Rattle.sc_mail.specs.declared.roles.Role.TheVariants.{Node, Client}
-use Rattle.sc_base.specs.Roster.{is_member}
-use Rattle.sc_actor.specs.declared.actors.Seat.{Seat}
-use Rattle.sc_actor.specs.declared.rows.Event.{Event}
-use Rattle.sc_actor.specs.declared.rows.Event.TheVariants.{Deliver, Tick, Go, Told, Crash, Drop, Again}
-use Rattle.sc_actor.specs.declared.rows.Input.{Input}
-use Rattle.sc_actor.specs.declared.rows.Input.TheVariants.{Got}
-use Rattle.sc_actor.specs.declared.rows.Row.{Row}
-use Rattle.sc_actor.specs.Mail.{mails}
-use Rattle.sc_actor.specs.Replay.{value, input_of, acted}
-use Rattle.sc_actor.specs.System.{row_of}
-use Rattle.sc_orderly_law.specs.Orderly.{is_born, IsCalmEvent}
-use Rattle.sc_orderly_law.specs.Timely.{AreInTime}
-use Rattle.sc_orderly_law.proofs.InTime.{by_time, in_time_before, in_time_tidy, last_in_time}
-use Rattle.sc_orderly_law.proofs.Resting.{takes_first, is_born-from}
-use Rattle.sc_paxos_words.proofs.ListLemmas.{find_found}
-use Rattle.sc_scenario.specs.Groups.{base_at}
+use Rattle.sc_actor.specs.declared.rows.Event.TheVariants.{Told}
+use Rattle.sc_actor.specs.Definitions.{mails, value, input_of, acted, row_of}
+use Rattle.sc_orderly_law.specs.Definitions.{is_born, IsCalmEvent, AreInTime}
+use Rattle.sc_orderly_law.proofs.Lemmas.{by_time, in_time_before, in_time_tidy, last_in_time, takes_first, is_born-from}
+use Rattle.sc_paxos_words.proofs.Lemmas.{find_found}
+use Rattle.sc_scenario.specs.Definitions.{base_at}
 use Rattle.sc_scenario.specs.declared.scenarios.Scenario.{Scenario}
-use Rattle.sc_node_table.specs.Node.{NodeState, replica_of, with_made, unknown, may_come, group_of_mail, taken_by, routed, on_mail, group_of_order, ordered_of}
-use Rattle.sc_node_table.specs.Mails.{told_desk}
-use Rattle.sc_node_table.specs.Replica.{ReplicaState, Place, name_of, last_slot}
-use Rattle.sc_node_table.specs.Rows.{made_by}
-use Rattle.sc_node_table.specs.Slots.{slots_ahead}
-use Rattle.sc_sound.specs.GroupsOf.{groups_at}
-use Rattle.sc_sound.specs.Players.{Player, player_table, node_seat, client_seats, births, as_nodes}
-use Rattle.sc_calm_law.specs.Charts.{players}
-use Rattle.sc_log_law.specs.Descent.{Rows}
-use Rattle.sc_law_lemmas.proofs.Ways.{either_way}
-use Rattle.sc_following_law.specs.Following.{Installs, mark_of}
-use Rattle.sc_following_law.specs.Rows.{IsRow}
-use Rattle.sc_following_law.specs.Tables.{marks_for}
-use Rattle.sc_calm_rows_law.specs.Groups.{marks_at, progress_at, mark_in, taken_mark, begun_course}
-use Rattle.sc_calm_rows_law.specs.Turns.{IsSeat, with_event}
-use Rattle.sc_calm_rows_law.proofs.Hearing.{none_marked, others_hear_nothing}
-use Rattle.sc_calm_rows_law.proofs.Marking.{rows_are}
-use Rattle.sc_calm_rows_law.proofs.Turning.{delivered, found_name}
-use Rattle.sc_calm_rows_law.proofs.Viewing.{sent_is, view_was}
-use Rattle.sc_calm_logs_law.specs.Logged.{logged_sets, IsGroupOf}
-use Rattle.sc_calm_answers_law.specs.Journal.{IsCalmJournal, IsFront, AreSent}
-use Rattle.sc_calm_answers_law.specs.KnownFronts.{FrontsAreFound}
-use Rattle.sc_calm_answers_law.specs.KnownMembers.{MembersAreHome}
-use Rattle.sc_calm_answers_law.specs.Strangers.{NoMailForStrangers}
+use Rattle.sc_node_table.specs.Definitions.{NodeState, replica_of, with_made, unknown, may_come, group_of_mail, taken_by, routed, on_mail, group_of_order, ordered_of, told_desk, ReplicaState, Place, name_of, last_slot, made_by, slots_ahead}
+use Rattle.sc_sound.specs.Definitions.{groups_at, Player, player_table, node_seat, client_seats, births, as_nodes}
+use Rattle.sc_calm_law.specs.Definitions.{players}
+use Rattle.sc_log_law.specs.Definitions.{Rows}
+use Rattle.sc_law_lemmas.proofs.Lemmas.{either_way}
+use Rattle.sc_following_law.specs.Definitions.{Installs, mark_of, IsRow, marks_for}
+use Rattle.sc_calm_rows_law.specs.Definitions.{marks_at, progress_at, mark_in, taken_mark, begun_course, IsSeat, with_event}
+use Rattle.sc_calm_rows_law.proofs.Lemmas.{none_marked, others_hear_nothing, rows_are, delivered, found_name, sent_is, view_was}
+use Rattle.sc_calm_logs_law.specs.Definitions.{logged_sets, IsGroupOf}
+use Rattle.sc_calm_answers_law.specs.Definitions.{IsCalmJournal, IsFront, AreSent, FrontsAreFound, MembersAreHome, NoMailForStrangers}
 use Rattle.sc_calm_answers_law.proofs.KnownFronts.{seat_in}
 use Rattle.sc_calm_answers_law.proofs.Desk.{none_first}
 

@@ -1,45 +1,25 @@
 -- Mail that is delivered to a node is for it, and what came of an order is for the desk, which is no node.
 use Rattle.std.proofs.Common.{◌≡◌, ℕ, eqb, List, [], find, Some, None, refl, sym, ◌∙◌, ap, subst}
-use Rattle.sc_base.specs.declared.names.Draw.{Draw}
-use Rattle.sc_cmd.specs.declared.orders.OrderLine.{OrderLine}
-use Rattle.sc_cmd.specs.declared.orders.ToldResult.{ToldResult}
-use Rattle.sc_mail.specs.declared.bodies.Mail.{Mail}
-use Rattle.sc_mail.specs.declared.bodies.MailBody.{MailBody}
-use Rattle.sc_mail.specs.declared.bodies.MailBody.TheVariants.{Request, Answer, Prepare, Promise, Accept, Accepted, Nack, Learn, Ask, Install, TxPrepare, TxVote, TxOutcome, TxElsewhere, TxWatch, TxWatched, Told as ToldMail}
-use Rattle.sc_mail.specs.declared.roles.Role.TheVariants.{Node, Client}
-use Rattle.sc_actor.specs.declared.actors.Seat.{Seat}
-use Rattle.sc_actor.specs.declared.rows.Event.{Event}
-use Rattle.sc_actor.specs.declared.rows.Event.TheVariants.{Deliver}
-use Rattle.sc_actor.specs.declared.rows.Row.{Row}
-use Rattle.sc_actor.specs.Mail.{mails, numbered}
-use Rattle.sc_actor.specs.Replay.{value}
-use Rattle.sc_actor.specs.System.{row_of}
-use Rattle.sc_orderly_law.specs.Orderly.{IsCalmEvent}
-use Rattle.sc_orderly_law.specs.Timely.{AreInTime}
-use Rattle.sc_orderly_law.proofs.InTime.{in_time_before, in_time_tidy, last_in_time}
-use Rattle.sc_orderly_law.proofs.Resting.{takes_first, is_born-from}
-use Rattle.sc_paxos_words.proofs.ListLemmas.{Each-among}
+use Rattle.sc_node_table.specs.Values.{Draw, OrderLine, ToldResult, Mail, MailBody, Request, Answer, Prepare, Promise, Accept, Accepted, Nack, Learn, Ask, Install, TxPrepare, TxVote, TxOutcome, TxElsewhere, TxWatch, TxWatched, Told as ToldMail, Node, Client, Seat, Event, Deliver, Row}
+use Rattle.sc_actor.specs.Definitions.{mails, numbered, value, row_of}
+use Rattle.sc_orderly_law.specs.Definitions.{IsCalmEvent, AreInTime}
+use Rattle.sc_orderly_law.proofs.Lemmas.{in_time_before, in_time_tidy, last_in_time, takes_first, is_born-from}
+use Rattle.sc_paxos_words.proofs.Lemmas.{Each-among}
 use Rattle.sc_scenario.specs.declared.scenarios.Scenario.{Scenario}
-use Rattle.sc_node_table.specs.Node.{NodeState, group_of_mail}
-use Rattle.sc_sound.specs.Players.{Player, births, as_nodes, player_table}
-use Rattle.sc_calm_law.specs.Charts.{players}
-use Rattle.sc_calm_law.specs.Keeping.{IsCalmMailAt, Strays as StraysAt}
-use Rattle.sc_calm_law.specs.Nodes.{IsDelivered}
-use Rattle.sc_calm_law.specs.Parties.{Elsewhere}
-use Rattle.sc_calm_law.specs.Owed.{Ways}
-use Rattle.sc_calm_law.specs.Totals.{Rows}
-use Rattle.sc_calm_mail_law.specs.Posted.{IsNodesBody, IsClientsBody, IsPlayers, IsPosted}
-use Rattle.sc_calm_mail_law.proofs.Posting.{desks_apart, mail_posted}
-use Rattle.sc_calm_rows_law.specs.Turns.{IsSeat, with_event}
-use Rattle.sc_calm_rows_law.proofs.Keeping.{same_some}
-use Rattle.sc_calm_rows_law.proofs.WellNodes.{Plays, replay_well}
-use Rattle.sc_calm_groups_law.proofs.BornWell.{scenarios_well_born}
-use Rattle.sc_group_law.proofs.RowSteps.{number_among}
-use Rattle.sc_calm_answers_law.specs.Finding.{StrayMailFinds, MailIsForItsNode}
+use Rattle.sc_node_table.specs.Definitions.{NodeState, group_of_mail}
+use Rattle.sc_sound.specs.Definitions.{Player, births, as_nodes, player_table}
+use Rattle.sc_calm_law.specs.Definitions.{players, IsCalmMailAt, Strays as StraysAt, IsDelivered, Elsewhere, Ways, Rows}
+use Rattle.sc_calm_mail_law.specs.Definitions.{IsNodesBody, IsClientsBody, IsPlayers, IsPosted}
+use Rattle.sc_calm_mail_law.proofs.Lemmas.{desks_apart, mail_posted}
+use Rattle.sc_calm_rows_law.specs.Definitions.{IsSeat, with_event}
+use Rattle.sc_calm_rows_law.proofs.Lemmas.{same_some, Plays, replay_well}
+use Rattle.sc_calm_groups_law.proofs.Lemmas.{scenarios_well_born}
+use Rattle.sc_group_law.proofs.Lemmas.{number_among}
+use Rattle.sc_calm_answers_law.specs.Definitions.{StrayMailFinds, MailIsForItsNode}
 use Rattle.sc_calm_answers_law.proofs.Playing.{plays_of}
 
 -- what came of an order goes to the desk
-told_zero : (who : ℕ) (player : Player) (mail : Mail) (order : ℕ) (result : ToldResult) → mail.body ≡ ToldMail order result → IsPlayers who player mail → mail.to ≡ 0
+pub told_zero : (who : ℕ) (player : Player) (mail : Mail) (order : ℕ) (result : ToldResult) → mail.body ≡ ToldMail order result → IsPlayers who player mail → mail.to ≡ 0
 told_zero who (Node node) mail order result e k = subst (IsNodesBody who mail.to) e k
 told_zero who (Client client) mail order result e k = absurd (subst (IsClientsBody client.me) e k.1)
 
@@ -107,8 +87,10 @@ module _ (words : ℕ → ℕ → ℕ × ℕ) (scenario : Scenario) (rows : Rows
       let plays : Plays seat.who (Node node) = subst (Plays seat.who) is (replay_well seat.who seat.who rows seat.actor [] (plays_of seat.who seat.actor ((scenarios_well_born scenario).well seat born))) in
       to_seat ∙ sym plays.0
 
+-- Mail of no group finds it too: answers come to clients, and what came of orders to the desk.
 pub stray_mail_finds : StrayMailFinds
 stray_mail_finds ways groups elsewhere words scenario rows seat number mail node timely born is sent none = strays words scenario rows seat number mail timely born sent ways groups elsewhere node none mail.body refl
 
+-- And mail that is delivered to a node is for it.
 pub mail_is_for_its_node : MailIsForItsNode
 mail_is_for_its_node words scenario rows seat number mail node timely born is sent = for_node words scenario rows seat number mail timely born sent node is

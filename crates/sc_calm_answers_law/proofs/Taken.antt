@@ -1,43 +1,17 @@
 -- What a node finds in the mail of requests.
 use Rattle.std.proofs.Common.{◌≡◌, ℕ, ◌≤◌, ◌&&◌, true, false, [], Option, Some, None, inl, inr, refl, sym, ◌∙◌, ap, subst, arith}
 use Rattle.std.proofs.lemmas.Bool.{both_ways}
-use Rattle.sc_base.specs.Among.{Each}
-use Rattle.sc_base.specs.Limits.{client_actor}
-use Rattle.sc_base.specs.Same.{same_draw}
-use Rattle.sc_base.specs.declared.names.Ballot.{Ballot}
-use Rattle.sc_base.specs.declared.names.Draw.{Draw}
-use Rattle.sc_base.specs.declared.ops.Op.{Op}
-use Rattle.sc_base.proofs.NameLemmas.{draw_is}
-use Rattle.sc_cmd.specs.declared.commands.Command.{Command}
-use Rattle.sc_cmd.specs.declared.cores.Core.{Core}
-use Rattle.sc_cmd.specs.declared.links.Route.{Route}
-use Rattle.sc_mail.specs.declared.bodies.Mail.{Mail}
-use Rattle.sc_mail.specs.declared.bodies.MailBody.{MailBody}
-use Rattle.sc_mail.specs.declared.bodies.MailBody.TheVariants.{Request, Answer, Prepare, Promise, Accept, Accepted, Nack, Learn, Ask, Install, TxPrepare, TxVote, TxOutcome, TxElsewhere, TxWatch, TxWatched, Told}
-use Rattle.sc_base.specs.Roster.{is_member}
-use Rattle.sc_paxos_words.specs.Ballots.{below}
-use Rattle.sc_paxos_words.proofs.ListLemmas.{Each-among, find_found}
-use Rattle.sc_machine_table.specs.Group.{Group}
-use Rattle.sc_node_table.specs.Node.{NodeState}
-use Rattle.sc_node_table.specs.Replica.{ReplicaState, Place, Executed, name_of, next}
-use Rattle.sc_calm_law.specs.Charts.{Chart}
-use Rattle.sc_calm_law.specs.Executing.{AreBounded}
-use Rattle.sc_calm_law.specs.Keeping.{MayTake, IsCalmMailAt, Takes}
-use Rattle.sc_calm_law.specs.Laws.{MayPump, Follows, Points}
-use Rattle.sc_calm_law.specs.Nodes.{group_owes, after_mail}
-use Rattle.sc_calm_law.specs.Owed.{Ways, idle_owes}
-use Rattle.sc_calm_law.specs.Parties.{Elsewhere}
-use Rattle.sc_budget_law.specs.CalmNode.{Setting, KnowsBetter, IsSetting, IsCalmNode, IsCalmMail, ComesInTime}
-use Rattle.sc_budget_law.specs.Frames.{Frame, IsFrame}
-use Rattle.sc_budget_law.specs.PlainClient.{IsBegun}
-use Rattle.sc_budget_law.specs.PlainMail.{Requests, IsPlainCall, IsPlainCommand, IsPlainBody, IsPlainMail}
-use Rattle.sc_budget_law.specs.PlainNode.{IsPlainAt, IsDue}
-use Rattle.sc_budget_law.proofs.CalmNodes.{StepsAside, aside_step, turns}
-use Rattle.sc_budget_law.proofs.CalmRows.{may_pump, serves_all, runs, follows}
-use Rattle.sc_budget_law.proofs.NodeRows.{IsFor, for_node}
-use Rattle.sc_budget_law.proofs.Pumping.{call_is}
-use Rattle.sc_budget_law.proofs.ReplicaRows.{leading_at, following_at, none_stops, Does, replica_row}
-use Rattle.sc_calm_answers_law.specs.RequestsFinding.{CountsAs, RequestsAreTakenCalmly}
+use Rattle.sc_base.specs.Definitions.{Each, client_actor, same_draw, is_member}
+use Rattle.sc_node_table.specs.Values.{Ballot, Draw, Op, Command, Core, Route, Mail, MailBody, Request, Answer, Prepare, Promise, Accept, Accepted, Nack, Learn, Ask, Install, TxPrepare, TxVote, TxOutcome, TxElsewhere, TxWatch, TxWatched, Told}
+use Rattle.sc_base.proofs.Lemmas.{draw_is}
+use Rattle.sc_paxos_words.specs.Definitions.{below}
+use Rattle.sc_paxos_words.proofs.Lemmas.{Each-among, find_found}
+use Rattle.sc_machine_table.specs.Definitions.{Group}
+use Rattle.sc_node_table.specs.Definitions.{NodeState, ReplicaState, Place, Executed, name_of, next}
+use Rattle.sc_calm_law.specs.Definitions.{Chart, AreBounded, MayTake, IsCalmMailAt, Takes, MayPump, Follows, Points, group_owes, after_mail, Ways, idle_owes, Elsewhere}
+use Rattle.sc_budget_law.specs.Definitions.{Setting, KnowsBetter, IsSetting, IsCalmNode, IsCalmMail, ComesInTime, Frame, IsFrame, IsBegun, Requests, IsPlainCall, IsPlainCommand, IsPlainBody, IsPlainMail, IsPlainAt, IsDue}
+use Rattle.sc_budget_law.proofs.Lemmas.{StepsAside, aside_step, turns, may_pump, serves_all, runs, follows, IsFor, for_node, call_is, leading_at, following_at, none_stops, Does, replica_row}
+use Rattle.sc_calm_answers_law.specs.Definitions.{CountsAs, RequestsAreTakenCalmly}
 
 -- ---- what a group owes by its replica
 
@@ -178,6 +152,7 @@ module _ (begun : Requests) (set : Setting) (is : IsSetting set) (chart : Chart)
     | inr a ↦ aside_finds a
   ]
 
+-- While clients ask alone, a node whose replicas may pump finds what it needs in each mail that comes to it when it is due.
 pub requests_taken : RequestsAreTakenCalmly
 requests_taken scenario rows set chart elsewhere node mail is counts n pumps m to not_client due =
     (to, finds (IsBegun scenario rows) set is chart counts elsewhere node n pumps mail to not_client due m)

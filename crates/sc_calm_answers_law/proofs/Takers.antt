@@ -2,64 +2,34 @@
 use Rattle.std.proofs.Common.{◌≡◌, ℕ, eqb, find, true, List, [], ◌++◌, Option, Some, None, inl, inr, refl, sym, ◌∙◌, ap, subst}
 use Rattle.std.proofs.lemmas.Bool.{cases_Bool}
 use Rattle.std.proofs.lemmas.Option.{none-some}
-use Rattle.sc_base.specs.Among.{Among, Each}
-use Rattle.sc_base.specs.Roster.{is_member}
-use Rattle.sc_base.specs.declared.names.Draw.{Draw}
-use Rattle.sc_cmd.specs.declared.cores.Base.{Base}
-use Rattle.sc_cmd.specs.declared.orders.OrderLine.{OrderLine}
-use Rattle.sc_cmd.specs.declared.orders.ToldResult.{ToldResult}
-use Rattle.sc_mail.specs.declared.bodies.Mail.{Mail}
-use Rattle.sc_mail.specs.declared.bodies.MailBody.{MailBody}
-use Rattle.sc_mail.specs.declared.bodies.MailBody.TheVariants.{Request, Answer, Prepare, Promise, Accept, Accepted, Nack, Learn, Ask, Install, TxPrepare, TxVote, TxOutcome, TxElsewhere, TxWatch, TxWatched, Told}
-use Rattle.sc_mail.specs.declared.roles.Role.TheVariants.{Node, Client}
-use Rattle.sc_actor.specs.declared.actors.Seat.{Seat}
-use Rattle.sc_actor.specs.declared.rows.Event.TheVariants.{Deliver}
-use Rattle.sc_actor.specs.Mail.{mails}
-use Rattle.sc_actor.specs.Replay.{value}
-use Rattle.sc_actor.specs.System.{System, row_of}
-use Rattle.sc_client_table.specs.Client.{Client as ClientState}
-use Rattle.sc_following_law.specs.Following.{Mark, Asks, Votes, Tells, Installs, Prepares, Promises, mark_of, marks_of}
-use Rattle.sc_following_law.proofs.Nodes.{same_mark}
-use Rattle.sc_group_law.proofs.RowSteps.{number_among}
-use Rattle.sc_node_table.specs.Node.{NodeState, born_node, group_of_mail}
-use Rattle.sc_node_table.specs.Replica.{listed}
-use Rattle.sc_node_table.specs.Slots.{slots_ahead}
-use Rattle.sc_orderly_law.specs.Orderly.{is_born}
-use Rattle.sc_orderly_law.specs.Timely.{AreInTime}
-use Rattle.sc_orderly_law.proofs.InTime.{in_time_before, in_time_tidy, last_in_time}
-use Rattle.sc_orderly_law.proofs.Resting.{TakesFirst, takes_first, is_born-from}
-use Rattle.sc_paxos_words.proofs.ListLemmas.{Each-among}
+use Rattle.sc_base.specs.Definitions.{Among, Each, is_member}
+use Rattle.sc_node_table.specs.Values.{Draw, Base, OrderLine, Mail, MailBody, Request, Answer, Prepare, Promise, Accept, Accepted, Nack, Learn, Ask, Install, TxPrepare, TxVote, TxOutcome, TxElsewhere, TxWatch, TxWatched, Told, Node, Client, Seat, Deliver}
+use Rattle.sc_actor.specs.Definitions.{mails, value, System, row_of}
+use Rattle.sc_client_table.specs.Definitions.{Client as ClientState}
+use Rattle.sc_following_law.specs.Definitions.{Mark, Asks, Votes, Tells, Installs, Prepares, Promises, mark_of, marks_of}
+use Rattle.sc_following_law.proofs.Lemmas.{same_mark}
+use Rattle.sc_group_law.proofs.Lemmas.{number_among}
+use Rattle.sc_node_table.specs.Definitions.{NodeState, born_node, group_of_mail, listed, slots_ahead}
+use Rattle.sc_orderly_law.specs.Definitions.{is_born, AreInTime}
+use Rattle.sc_orderly_law.proofs.Lemmas.{in_time_before, in_time_tidy, last_in_time, TakesFirst, takes_first, is_born-from}
+use Rattle.sc_paxos_words.proofs.Lemmas.{Each-among}
 use Rattle.sc_scenario.specs.declared.scenarios.Scenario.{Scenario}
-use Rattle.sc_sound.specs.GroupsOf.{groups_at}
-use Rattle.sc_sound.specs.Players.{Player, player_table, births, node_seat, as_nodes}
-use Rattle.sc_calm_law.specs.Charts.{players}
-use Rattle.sc_calm_law.specs.Totals.{Rows}
-use Rattle.sc_calm_orders_law.specs.Parts.{errand_by}
-use Rattle.sc_calm_orders_law.specs.Scenes.{Errand}
-use Rattle.sc_calm_logs_law.specs.Logged.{logged_sets}
-use Rattle.sc_calm_mail_law.specs.Posted.{IsClientsBody, IsNodesBody, IsPlayers, IsPosted, MailIsPosted, DesksAreNotBorn}
-use Rattle.sc_calm_scenes_law.proofs.Turning.{calm_is}
-use Rattle.sc_calm_answers_law.specs.Homeward.{IsNodeOf, GoesHome, RefusesHome, RefusalsGoHome}
-use Rattle.sc_calm_answers_law.specs.Journal.{IsCalmJournal, GoesOnBy, IsNamedGroup}
-use Rattle.sc_calm_answers_law.specs.KnownMembers.{MembersAreHome}
-use Rattle.sc_calm_answers_law.specs.Ordered.{IsOfJournal, IsOrderedSince}
-use Rattle.sc_calm_answers_law.specs.Sent.{SaysWell}
-use Rattle.sc_calm_answers_law.specs.SentHomes.{IsStranger}
-use Rattle.sc_calm_answers_law.specs.Takers.{TakersAreNodes}
-use Rattle.sc_calm_answers_law.specs.Tasks.{SaysWork}
+use Rattle.sc_sound.specs.Definitions.{groups_at, Player, player_table, births, node_seat, as_nodes}
+use Rattle.sc_calm_law.specs.Definitions.{players, Rows}
+use Rattle.sc_calm_orders_law.specs.Definitions.{errand_by, Errand}
+use Rattle.sc_calm_logs_law.specs.Definitions.{logged_sets}
+use Rattle.sc_calm_mail_law.specs.Definitions.{IsPosted, MailIsPosted, DesksAreNotBorn}
+use Rattle.sc_calm_scenes_law.proofs.Lemmas.{calm_is}
+use Rattle.sc_calm_answers_law.specs.Definitions.{IsNodeOf, GoesHome, RefusesHome, RefusalsGoHome, IsCalmJournal, GoesOnBy, IsNamedGroup, MembersAreHome, IsOfJournal, IsOrderedSince, SaysWell, IsStranger, TakersAreNodes, SaysWork}
 use Rattle.sc_calm_answers_law.proofs.Homeward.{node_seated}
 use Rattle.sc_calm_answers_law.proofs.Nodes.{node_replays}
+use Rattle.sc_calm_answers_law.proofs.Strays.{told_zero as told_to}
 
 pub roles_differ : (client : ClientState) (node : NodeState) → ◌≡◌ {A = Player} (Client client) (Node node) → ⊥
 roles_differ client node e = cc
 
 one_seat : (one other : Seat Player) → Some one ≡ Some other → one ≡ other
 one_seat one other e = cc
-
--- what came of an order goes to the desk
-told_to : (who : ℕ) (player : Player) (mail : Mail) (order : ℕ) (result : ToldResult) → mail.body ≡ Told order result → IsPlayers who player mail → mail.to ≡ 0
-told_to who (Node node) mail order result e p = (let own : IsNodesBody who mail.to (Told order result) = subst (IsNodesBody who mail.to) e p in own)
-told_to who (Client client) mail order result e p = (let none : IsClientsBody client.me (Told order result) = subst (IsClientsBody client.me) e p.1 in absurd none)
 
 module _ (post_law : MailIsPosted) (desk_law : DesksAreNotBorn) (members_law : MembersAreHome) (refuse_law : RefusalsGoHome) (words : ℕ → ℕ → ℕ × ℕ) (scenario : Scenario) (first : Base) (journal quiet rows : Rows) (seat : Seat Player) (number : ℕ) (calm : IsCalmJournal words scenario journal)
     (o : IsOrderedSince words scenario first journal quiet rows) (on : GoesOnBy words scenario journal rows seat number) (client : ClientState) (is : value player_table seat rows ≡ Client client) where

@@ -1,53 +1,18 @@
 -- What an order makes of a replica is kept by each row of its table.
 use Rattle.std.proofs.Common.{◌≡◌, ℕ, ◌<◌, ◌&&◌, ◌||◌, not, nat_lt, eqb, Bool, true, false, true≢false, cond, List, [], ◌∷◌, ◌++◌, length, Option, Some, None, refl, sym, ◌∙◌, ap, subst}
 use Rattle.std.proofs.lemmas.Bool.{cond_both, lt-leb, eqb-true}
-use Rattle.sc_base.specs.Same.{same_ballot}
-use Rattle.sc_base.specs.declared.names.Ballot.{Ballot}
-use Rattle.sc_base.specs.declared.names.Draw.{Draw}
-use Rattle.sc_cmd.specs.declared.bodies.Offer.{Offer}
-use Rattle.sc_cmd.specs.declared.bodies.Watch.{Watch}
-use Rattle.sc_cmd.specs.declared.commands.Command.{Command}
-use Rattle.sc_cmd.specs.declared.commands.Command.TheVariants.{Prepared as PreparedAct, RecordVote, Finish, Watched, RecordWatch}
-use Rattle.sc_cmd.specs.declared.cores.Base.{Base}
-use Rattle.sc_cmd.specs.declared.votes.Outcome.{Outcome}
-use Rattle.sc_cmd.specs.declared.votes.Past.{Past}
+use Rattle.sc_base.specs.Definitions.{same_ballot, is_member, is_majority}
+use Rattle.sc_node_table.specs.Values.{Ballot, Draw, Offer, Watch, Command, Prepared as PreparedAct, RecordVote, Finish, Watched, RecordWatch, Base, Outcome, Past, Vote, Mail, MailBody, Request, Answer, Prepare, Promise, Accept, Accepted, Nack, Learn, Ask, Install, TxPrepare, TxVote, TxOutcome, TxElsewhere, TxWatch, TxWatched, Told, PrepareAnswer, AcceptAnswer, Counted, Chosen, NotYet, Flight, Report}
 use Rattle.sc_cmd.specs.declared.votes.Past.TheVariants as Cast
-use Rattle.sc_cmd.specs.declared.votes.Vote.{Vote}
 use Rattle.sc_cmd.specs.declared.votes.Vote.TheVariants as Votes
-use Rattle.sc_mail.specs.declared.bodies.Mail.{Mail}
-use Rattle.sc_mail.specs.declared.bodies.MailBody.{MailBody}
-use Rattle.sc_mail.specs.declared.bodies.MailBody.TheVariants.{Request, Answer, Prepare, Promise, Accept, Accepted, Nack, Learn, Ask, Install, TxPrepare, TxVote, TxOutcome, TxElsewhere, TxWatch, TxWatched, Told}
-use Rattle.sc_base.specs.Roster.{is_member}
-use Rattle.sc_names_law.specs.Names.{Opt}
-use Rattle.sc_names_law.proofs.Lists.{opt_find, slot_with, flight_without, voters_with}
-use Rattle.sc_paxos_words.specs.declared.answers.PrepareAnswer.{PrepareAnswer}
+use Rattle.sc_names_law.specs.Definitions.{Opt}
+use Rattle.sc_names_law.proofs.Lemmas.{opt_find, slot_with, flight_without, voters_with}
 use Rattle.sc_paxos_words.specs.declared.answers.PrepareAnswer.TheVariants as Prepared
-use Rattle.sc_paxos_words.specs.declared.answers.AcceptAnswer.{AcceptAnswer}
 use Rattle.sc_paxos_words.specs.declared.answers.AcceptAnswer.TheVariants as Asked
-use Rattle.sc_paxos_words.specs.declared.answers.Counted.{Counted}
-use Rattle.sc_paxos_words.specs.declared.answers.Counted.TheVariants.{Chosen, NotYet}
-use Rattle.sc_paxos_words.specs.declared.flights.Flight.{Flight}
-use Rattle.sc_paxos_words.specs.declared.reports.Report.{Report}
-use Rattle.sc_paxos_words.specs.Preparing.{prepared}
-use Rattle.sc_paxos_words.specs.Accepting.{accepted as accepted_by}
-use Rattle.sc_paxos_words.specs.Acceptors.{AcceptorState}
-use Rattle.sc_paxos_words.specs.Ballots.{below}
-use Rattle.sc_paxos_words.specs.Leaders.{LeaderState, flight_at, promise_counted}
-use Rattle.sc_base.specs.Majority.{is_majority}
-use Rattle.sc_paxos_words.specs.Votes.{counted, tallied, vote_at, voters_after, kept_voters}
-use Rattle.sc_paxos_words.proofs.ListLemmas.{Each-append}
-use Rattle.sc_node_table.specs.Acts.{has_act, act_queued}
-use Rattle.sc_node_table.specs.Election.{ended, stopped, saw}
-use Rattle.sc_node_table.specs.Execute.{looked, executed, has_room}
-use Rattle.sc_node_table.specs.Install.{install_to, named, jumped}
-use Rattle.sc_node_table.specs.Mails.{sent}
-use Rattle.sc_node_table.specs.Pump.{pumped}
-use Rattle.sc_node_table.specs.Replica.{ReplicaState, Place, Executed, childless, name_of, next, members, settled, set_at, last_slot, forgotten, born_replica, installed_replica}
-use Rattle.sc_node_table.specs.Rows.{learn_row, looked_up, took_over, install_row, mailed, made_by}
-use Rattle.sc_node_table.specs.Slots.{with_slot}
-use Rattle.sc_node_table.specs.Transactions.{asked_next, noted_outcome, standing_vote, sent_elsewhere, offered_by, offer_row, watched_by, watch_row, awaits_vote, awaits_watch, told_outcome, vote_met, vote_row, watch_met, watched_row, elsewhere_row, is_bound, outcome_row}
-use Rattle.sc_node_table.specs.Voting.{hinted, promise_to, promised, prepare_row, accepted_to, took, accept_row, leads, promise_row, readied, vote_tallied, voted, accepted_row, nack_row}
-use Rattle.sc_law_lemmas.proofs.Ways.{either_way}
+use Rattle.sc_paxos_words.specs.Definitions.{prepared, accepted as accepted_by, AcceptorState, below, LeaderState, flight_at, promise_counted, counted, tallied, vote_at, voters_after, kept_voters}
+use Rattle.sc_paxos_words.proofs.Lemmas.{Each-append}
+use Rattle.sc_node_table.specs.Definitions.{has_act, act_queued, ended, stopped, saw, looked, executed, has_room, install_to, named, jumped, sent, pumped, ReplicaState, Place, Executed, childless, name_of, next, members, settled, set_at, last_slot, forgotten, born_replica, installed_replica, learn_row, looked_up, took_over, install_row, mailed, made_by, with_slot, asked_next, noted_outcome, standing_vote, sent_elsewhere, offered_by, offer_row, watched_by, watch_row, awaits_vote, awaits_watch, told_outcome, vote_met, vote_row, watch_met, watched_row, elsewhere_row, is_bound, outcome_row, hinted, promise_to, promised, prepare_row, accepted_to, took, accept_row, leads, promise_row, readied, vote_tallied, voted, accepted_row, nack_row}
+use Rattle.sc_law_lemmas.proofs.Lemmas.{either_way}
 use Rattle.sc_calm_answers_law.proofs.Affairs.{Affair}
 use Rattle.sc_calm_answers_law.proofs.WorkSaying.{one_sent, next_one_asked, vote_told, watch_told, outcome_said}
 use Rattle.sc_calm_answers_law.proofs.Places.{Does, Fly, Held, Fine, Kids, saw_fine, stopped_fine, looked_fine, pumped_fine, executed_fine, executed_kids}

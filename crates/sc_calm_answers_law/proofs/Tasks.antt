@@ -2,46 +2,19 @@
 use Rattle.std.proofs.Common.{◌≡◌, ℕ, zero, suc, ◌||◌, Bool, true, false, List, [], ◌∷◌, take, Option, Some, None, inl, inr, refl, sym, subst}
 use Rattle.std.specs.List.{list_any}
 use Rattle.std.proofs.lemmas.Bool.{cond_both}
-use Rattle.sc_base.specs.Among.{Among}
-use Rattle.sc_base.specs.Same.{same_draw}
-use Rattle.sc_base.specs.declared.names.Draw.{Draw}
-use Rattle.sc_cmd.specs.Cores.{is_alone}
-use Rattle.sc_cmd.specs.declared.bodies.Body.{Body}
+use Rattle.sc_base.specs.Definitions.{Among, same_draw, is_member}
+use Rattle.sc_node_table.specs.Values.{Draw, Body, Watch, Command, Noop, Call, Join, Leave, Split, Begin, Prepared, RecordVote, GiveUp, Finish, Watched, RecordWatch, Base, Core, Lock, Free, Coordinating, Promised, Watching, Effect, Route, OrderRefusal, Heard, No, Outcome, Past, Vote, Frozen}
+use Rattle.sc_cmd.specs.Definitions.{is_alone}
 use Rattle.sc_cmd.specs.declared.bodies.Body.TheVariants as At
-use Rattle.sc_cmd.specs.declared.bodies.Watch.{Watch}
-use Rattle.sc_cmd.specs.declared.commands.Command.{Command}
-use Rattle.sc_cmd.specs.declared.commands.Command.TheVariants.{Noop, Call, Join, Leave, Split, Begin, Prepared, RecordVote, GiveUp, Finish, Watched, RecordWatch}
-use Rattle.sc_cmd.specs.declared.cores.Base.{Base}
-use Rattle.sc_cmd.specs.declared.cores.Core.{Core}
-use Rattle.sc_cmd.specs.declared.cores.Lock.{Lock}
-use Rattle.sc_cmd.specs.declared.cores.Lock.TheVariants.{Free, Coordinating, Promised, Watching}
-use Rattle.sc_cmd.specs.declared.effects.Effect.{Effect}
-use Rattle.sc_cmd.specs.declared.links.Route.{Route}
-use Rattle.sc_cmd.specs.declared.orders.OrderRefusal.{OrderRefusal}
-use Rattle.sc_cmd.specs.declared.votes.Heard.{Heard}
-use Rattle.sc_cmd.specs.declared.votes.No.{No}
-use Rattle.sc_cmd.specs.declared.votes.Outcome.{Outcome}
-use Rattle.sc_cmd.specs.declared.votes.Past.{Past}
 use Rattle.sc_cmd.specs.declared.votes.Past.TheVariants as Cast
-use Rattle.sc_cmd.specs.declared.votes.Vote.{Vote}
 use Rattle.sc_cmd.specs.declared.votes.Vote.TheVariants as Votes
-use Rattle.sc_cmd.specs.declared.votes.Frozen.{Frozen}
-use Rattle.sc_base.specs.Roster.{is_member}
-use Rattle.sc_machine_table.specs.Children.{ordered_child, released_child, answered_child, watched_child, child_by}
-use Rattle.sc_machine_table.specs.Finishes.{participant_after, settled_in, watch_ended, finished}
-use Rattle.sc_machine_table.specs.Group.{Group}
-use Rattle.sc_machine_table.specs.Machine.{applied, split_group}
-use Rattle.sc_machine_table.specs.Orders.{locked_in, refusal_of, with_node, without_node}
-use Rattle.sc_machine_table.specs.Plans.{Plan, can_split, split_plan, merge_plan, closing_plan, repart_plan, migrate_plan}
-use Rattle.sc_machine_table.specs.Splits.{staying, left_group, child_of, has_named, is_locked_in}
-use Rattle.sc_machine_table.specs.Transactions.{begun_group, committed, granted, participant_answered, asks_watcher, vote_recorded, released, watch_answered, watch_recorded, is_coordinating}
-use Rattle.sc_machine_table.specs.Votes.{has_voted, bound_by, watched, vote_of, watch_vote_of}
-use Rattle.sc_paxos_law.proofs.Among.{among-member, member-among}
-use Rattle.sc_group_law.proofs.Rosters.{ordered_if}
-use Rattle.sc_calm_answers_law.specs.Tasks.{IsNoSplit, DoesSplit, DoesOther, DoesBy, SplitsInto, LockSplits, LockOther, IsBy, BearsBy}
+use Rattle.sc_machine_table.specs.Definitions.{ordered_child, released_child, answered_child, watched_child, child_by, participant_after, settled_in, watch_ended, finished, Group, applied, split_group, locked_in, refusal_of, with_node, without_node, Plan, can_split, split_plan, merge_plan, closing_plan, repart_plan, migrate_plan, staying, left_group, child_of, has_named, is_locked_in, begun_group, committed, granted, participant_answered, asks_watcher, vote_recorded, released, watch_answered, watch_recorded, is_coordinating, has_voted, bound_by, watched, vote_of, watch_vote_of}
+use Rattle.sc_paxos_law.proofs.Lemmas.{among-member, member-among}
+use Rattle.sc_group_law.proofs.Lemmas.{ordered_if}
+use Rattle.sc_calm_answers_law.specs.Definitions.{IsNoSplit, DoesSplit, DoesOther, DoesBy, SplitsInto, LockSplits, LockOther, IsBy, BearsBy}
 use Rattle.sc_calm_answers_law.proofs.Affairs.{Affair, BeginsFree}
 use Rattle.sc_calm_answers_law.proofs.Children.{none_some}
-use Rattle.sc_hist_law.proofs.Staying.{free_by}
+use Rattle.sc_hist_law.proofs.Lemmas.{free_by}
 
 -- of two that are off, the first is
 pub first_off : (b c : Bool) → b || c ≡ false → b ≡ false

@@ -1,12 +1,9 @@
 -- Members of a group learn all entries, in a journal whose rows come in time.
 use Rattle.std.proofs.Common.{[], ◌∷◌, ◌++◌, ◌∙◌, sym, ap, append_assoc, append-nil}
-use Rattle.sc_sound.specs.Players.{births, as_nodes}
-use Rattle.sc_calm_logs_law.specs.Logged.{logged_sets}
-use Rattle.sc_calm_groups_law.specs.Taught.{GroupsAreTaughtThrough}
-use Rattle.sc_calm_groups_law.specs.Through.{ScenariosAreWellBorn}
-use Rattle.sc_calm_answers_law.specs.Led.{over_at, LedLogsAreOne}
-use Rattle.sc_calm_answers_law.specs.Taught.{GroupsBeginTaught, GroupsAreTaught}
-use Rattle.sc_calm_answers_law.specs.Tellers.{tellers_at, GroupsAreLed}
+use Rattle.sc_sound.specs.Definitions.{births, as_nodes}
+use Rattle.sc_calm_logs_law.specs.Definitions.{logged_sets}
+use Rattle.sc_calm_groups_law.specs.Definitions.{GroupsAreTaughtThrough, ScenariosAreWellBorn}
+use Rattle.sc_calm_answers_law.specs.Definitions.{over_at, LedLogsAreOne, GroupsBeginTaught, GroupsAreTaught, tellers_at, GroupsAreLed}
 
 pub groups_are_taught : ScenariosAreWellBorn → GroupsAreTaughtThrough → GroupsAreLed → LedLogsAreOne → GroupsBeginTaught → GroupsAreTaught
 groups_are_taught well through are_led one_log begin words scenario journal front more base group timely few split so =

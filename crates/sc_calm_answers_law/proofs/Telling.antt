@@ -1,39 +1,19 @@
 -- Who is the first to execute a slot in a journal, and which marks of states a leader's row sends.
 use Rattle.std.proofs.Common.{◌≡◌, ℕ, zero, suc, ◌+◌, ◌<◌, ◌≤◌, ◌&&◌, eqb, Bool, true, false, cond, List, [], ◌∷◌, ◌++◌, Option, Some, None, ◌⊎◌, inl, inr, refl, sym, ◌∙◌, ap, subst, arith, append_assoc}
 use Rattle.std.proofs.lemmas.Bool.{cond_both, cond-true, cond-false}
-use Rattle.sc_base.specs.Among.{Among, Each}
-use Rattle.sc_base.specs.declared.names.Ballot.{Ballot}
-use Rattle.sc_base.specs.declared.names.Draw.{Draw}
-use Rattle.sc_cmd.specs.declared.orders.OrderLine.{OrderLine}
-use Rattle.sc_mail.specs.declared.bodies.Mail.{Mail}
-use Rattle.sc_base.specs.Roster.{is_member, least_of}
-use Rattle.sc_actor.specs.declared.actors.Seat.{Seat}
-use Rattle.sc_actor.specs.declared.rows.Row.{Row}
-use Rattle.sc_paxos_words.specs.Ballots.{below}
-use Rattle.sc_paxos_words.proofs.ListLemmas.{Each-among}
-use Rattle.sc_sound.specs.Players.{Player}
-use Rattle.sc_log_law.specs.Descent.{Rows}
-use Rattle.sc_following_law.specs.Following.{Mark, Asks, Votes, Tells, Installs, Prepares, Promises, Course, Sets}
-use Rattle.sc_following_law.specs.Rows.{answered, welcome, told_of, told_from, IsOffer}
-use Rattle.sc_following_law.proofs.Marks.{among-either}
-use Rattle.sc_calm_rows_law.specs.Groups.{view_at}
-use Rattle.sc_calm_answers_law.specs.Tellers.{has_executed, first_to, teller_of}
+use Rattle.sc_base.specs.Definitions.{Among, Each, is_member, least_of}
+use Rattle.sc_node_table.specs.Values.{Ballot, Draw, OrderLine, Mail, Seat, Row}
+use Rattle.sc_paxos_words.specs.Definitions.{below}
+use Rattle.sc_paxos_words.proofs.Lemmas.{Each-among}
+use Rattle.sc_sound.specs.Definitions.{Player}
+use Rattle.sc_log_law.specs.Definitions.{Rows}
+use Rattle.sc_following_law.specs.Definitions.{Mark, Asks, Votes, Tells, Installs, Prepares, Promises, Course, Sets, answered, welcome, told_of, told_from, IsOffer}
+use Rattle.sc_following_law.proofs.Lemmas.{among-either}
+use Rattle.sc_calm_rows_law.specs.Definitions.{view_at}
+use Rattle.sc_calm_answers_law.specs.Definitions.{has_executed, first_to, teller_of}
+pub use Rattle.sc_orderly_law.proofs.InTime.{snoc_parts as last_parts}
 
 -- ---- lists
-
--- a list with one more behind is one and what is behind that: the last is behind, or it is the first behind
-pub last_parts : {X : Type 0} (xs : List X) (last : X) (before : List X) (x : X) (after : List X) → xs ++ last ∷ [] ≡ before ++ x ∷ after → ((before ≡ xs) × (x ≡ last)) ⊎ ((rest : List X) × (xs ≡ before ++ x ∷ rest))
-last_parts [] last [] x after e = inl (refl, cc)
-last_parts [] last (b ∷ []) x after e = cc
-last_parts [] last (b ∷ c ∷ before) x after e = cc
-last_parts (y ∷ xs) last [] x after e = inr (xs, cc)
-last_parts (y ∷ xs) last (b ∷ before) x after e =
-    let head : y ≡ b = cc in
-    let tail : xs ++ last ∷ [] ≡ before ++ x ∷ after = cc in
-    elim (last_parts xs last before x after tail) [
-      | inl p ↦ inl (ap (λ t. b ∷ t) p.0 ∙ ap (λ h. h ∷ xs) (sym head), p.1)
-      | inr q ↦ inr (q.0, ap (λ t. y ∷ t) q.1 ∙ ap (λ h. h ∷ (before ++ x ∷ q.0)) head)
-    ]
 
 -- ---- the first to execute a slot
 

@@ -1,38 +1,26 @@
 -- Each group of a quiet front has replicas at its first members: those of a scenario from birth on, and each child since its group's members learnt the entry that names it.
 use Rattle.std.proofs.Common.{◌≡◌, ℕ, zero, suc, ◌≤◌, true, List, [], length, Some, None, inl, inr, ◌∙◌, ap, subst, arith}
 use Rattle.std.proofs.lemmas.Bool.{cond-true}
-use Rattle.sc_base.specs.Among.{Among}
-use Rattle.sc_cmd.specs.declared.cores.Base.{Base}
-use Rattle.sc_base.specs.Roster.{is_member}
-use Rattle.sc_orderly_law.specs.Timely.{AreInTime}
-use Rattle.sc_scenario.specs.Valid.{IsBounded, ValidScenariosAreBounded}
+use Rattle.sc_base.specs.Definitions.{Among, is_member}
+use Rattle.sc_node_table.specs.Values.{Base}
+use Rattle.sc_orderly_law.specs.Definitions.{AreInTime}
+use Rattle.sc_scenario.specs.Definitions.{IsBounded, ValidScenariosAreBounded}
 use Rattle.sc_scenario.specs.declared.scenarios.Scenario.{Scenario}
-use Rattle.sc_node_table.specs.Replica.{born_replica}
-use Rattle.sc_node_table.specs.Slots.{slots_ahead}
-use Rattle.sc_sound.specs.GroupsOf.{groups_at}
-use Rattle.sc_sound.specs.Logs.{decided_log}
-use Rattle.sc_sound.specs.Players.{births, as_nodes}
-use Rattle.sc_calm_law.specs.Charts.{players}
-use Rattle.sc_calm_law.specs.Quiet.{HasReplica}
-use Rattle.sc_log_law.specs.Descent.{Rows, Descends}
-use Rattle.sc_log_law.specs.Findings.{AreFound}
-use Rattle.sc_names_law.specs.Laws.{OtherNamesAreFree, TakenOrdersAreAllowed, TakenWishesAreAllowed, WishesAreAtPositions}
-use Rattle.sc_whole_law.specs.StartLaws.{ValidScenariosBeginWell}
-use Rattle.sc_following_law.specs.Following.{Tells, Mark, reached}
-use Rattle.sc_calm_rows_law.specs.Groups.{view_at, marks_at, next_in}
-use Rattle.sc_calm_rows_law.proofs.Beginning.{view_born}
-use Rattle.sc_calm_mail_law.proofs.Lasting.{replicas_last}
-use Rattle.sc_calm_groups_law.specs.Through.{ScenariosAreWellBorn}
-use Rattle.sc_calm_answers_law.specs.Taught.{GroupsBeginTaught}
-use Rattle.sc_calm_answers_law.specs.Tellers.{tellers_at}
+use Rattle.sc_node_table.specs.Definitions.{born_replica, slots_ahead}
+use Rattle.sc_sound.specs.Definitions.{groups_at, decided_log, births, as_nodes}
+use Rattle.sc_calm_law.specs.Definitions.{players, HasReplica}
+use Rattle.sc_log_law.specs.Definitions.{Rows, Descends, AreFound}
+use Rattle.sc_names_law.specs.Definitions.{OtherNamesAreFree, TakenOrdersAreAllowed, TakenWishesAreAllowed, WishesAreAtPositions}
+use Rattle.sc_whole_law.specs.Definitions.{ValidScenariosBeginWell}
+use Rattle.sc_following_law.specs.Definitions.{Tells, Mark, reached}
+use Rattle.sc_calm_rows_law.specs.Definitions.{view_at, marks_at, next_in}
+use Rattle.sc_calm_rows_law.proofs.Lemmas.{view_born}
+use Rattle.sc_calm_mail_law.proofs.Lemmas.{replicas_last}
+use Rattle.sc_calm_groups_law.specs.Definitions.{ScenariosAreWellBorn}
+use Rattle.sc_calm_answers_law.specs.Definitions.{GroupsBeginTaught, tellers_at, IsBirth, IsQuietFront, IsFoundFront, FrontsAreFound, GroupsAreAskedThrough, NoMailForStrangers, ChildrenAreMade, FrontsAreThere, FrontsHaveMembers}
 use Rattle.sc_calm_answers_law.proofs.LedBegins.{begun_first}
 use Rattle.sc_calm_answers_law.proofs.Facts.{none}
-use Rattle.sc_calm_scenes_law.specs.Fresh.{IsThere}
-use Rattle.sc_calm_answers_law.specs.Bearing.{IsBirth}
-use Rattle.sc_calm_answers_law.specs.KnownFronts.{IsQuietFront, IsFoundFront, FrontsAreFound}
-use Rattle.sc_calm_answers_law.specs.Offered.{GroupsAreAskedThrough}
-use Rattle.sc_calm_answers_law.specs.Strangers.{NoMailForStrangers}
-use Rattle.sc_calm_answers_law.specs.There.{ChildrenAreMade, FrontsAreThere, FrontsHaveMembers}
+use Rattle.sc_calm_scenes_law.specs.Definitions.{IsThere}
 use Rattle.sc_calm_answers_law.proofs.KnownBirths.{birth_slot}
 use Rattle.sc_calm_answers_law.proofs.KnownGroups.{front_timely, newest_there, executed}
 use Rattle.sc_calm_answers_law.proofs.LinkFronts.{found}

@@ -2,18 +2,12 @@
 use Rattle.std.proofs.Common.{◌≡◌, ℕ, ◌+◌, ◌-◌, ◌≤◌, eqb, Bool, true, false, cond, [], ◌∷◌, ◌++◌, length, sum_by, Option, Some, None, refl, ◌∙◌, ap, arith}
 use Rattle.std.specs.Prelude.{nat_le}
 use Rattle.std.proofs.lemmas.List.Sums.{sum_by-cons}
-use Rattle.sc_base.specs.Limits.{client_actor}
-use Rattle.sc_base.specs.declared.names.Draw.{Draw}
-use Rattle.sc_base.specs.declared.ops.Op.{Op}
-use Rattle.sc_lookup.specs.Known.{target_in, preferring, passed_on, told_not_mine, told_gone}
-use Rattle.sc_mail.specs.declared.bodies.AnswerBody.{AnswerBody}
-use Rattle.sc_mail.specs.declared.bodies.AnswerBody.TheVariants.{Value, NotLeader, NotMine, Gone, Stale}
-use Rattle.sc_mail.specs.declared.bodies.MailBody.{MailBody}
-use Rattle.sc_mail.specs.declared.bodies.MailBody.TheVariants.{Request, Answer, Prepare, Promise, Accept, Accepted, Nack, Learn, Ask, Install, TxPrepare, TxVote, TxOutcome, TxElsewhere, TxWatch, TxWatched, Told}
-use Rattle.sc_client_table.specs.Client.{Client as ClientState, waiting_request}
-use Rattle.sc_client_table.specs.Table.{ClientStep, request_of, asked_of, sent_where, chosen_for, request_sent, started, waits_for, was_asked, redirected, answer_taken, got}
-use Rattle.sc_calm_law.specs.Clients.{waiting_one}
-use Rattle.sc_calm_answers_law.specs.Tokens.{body_token, mail_token}
+use Rattle.sc_base.specs.Definitions.{client_actor}
+use Rattle.sc_node_table.specs.Values.{Draw, Op, AnswerBody, Value, NotLeader, NotMine, Gone, Stale, MailBody, Request, Answer, Prepare, Promise, Accept, Accepted, Nack, Learn, Ask, Install, TxPrepare, TxVote, TxOutcome, TxElsewhere, TxWatch, TxWatched, Told}
+use Rattle.sc_lookup.specs.Definitions.{target_in, preferring, passed_on, told_not_mine, told_gone}
+use Rattle.sc_client_table.specs.Definitions.{Client as ClientState, waiting_request, ClientStep, request_of, asked_of, sent_where, chosen_for, request_sent, started, waits_for, was_asked, redirected, answer_taken, got}
+use Rattle.sc_calm_law.specs.Definitions.{waiting_one}
+use Rattle.sc_calm_answers_law.specs.Definitions.{body_token, mail_token}
 use Rattle.sc_calm_answers_law.proofs.TokensPump.{answer_token}
 
 module _ (c : ℕ) where

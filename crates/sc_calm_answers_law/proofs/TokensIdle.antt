@@ -3,22 +3,18 @@ use Rattle.std.proofs.Common.{◌≡◌, ℕ, ◌-◌, ◌≤◌, not, eqb, Bool
 use Rattle.std.specs.List.{list_any}
 use Rattle.std.proofs.lemmas.Bool.{and_parts, or_parts, cases_eq, eq-eqb, ne_eqb, cond-true, cond-false}
 use Rattle.std.proofs.lemmas.List.Sums.{sum_by-cons}
-use Rattle.sc_base.specs.Among.{Among}
-use Rattle.sc_base.specs.Limits.{client_actor}
-use Rattle.sc_cmd.specs.declared.cores.Base.{Base}
-use Rattle.sc_actor.specs.declared.actors.Seat.{Seat}
-use Rattle.sc_actor.specs.Replay.{value}
-use Rattle.sc_actor.specs.System.{are_apart}
-use Rattle.sc_node_table.specs.Slots.{numbers_from}
-use Rattle.sc_paxos_law.proofs.Among.{Among-either, from_map}
+use Rattle.sc_base.specs.Definitions.{Among, client_actor}
+use Rattle.sc_node_table.specs.Values.{Base, Seat}
+use Rattle.sc_actor.specs.Definitions.{value, are_apart}
+use Rattle.sc_node_table.specs.Definitions.{numbers_from}
+use Rattle.sc_paxos_law.proofs.Lemmas.{Among-either, from_map}
 use Rattle.sc_scenario.specs.declared.scenarios.Asks.{Asks}
-use Rattle.sc_scenario.specs.Valid.{ValidScenariosAreBounded}
-use Rattle.sc_sound.specs.Players.{Player, player_table, node_seat, client_seat, route_of, births, as_nodes}
-use Rattle.sc_calm_law.specs.Clients.{waiting_one}
-use Rattle.sc_budget_law.specs.Asking.{IsAsking}
-use Rattle.sc_budget_law.proofs.BetweenStage.{stage}
-use Rattle.sc_budget_law.proofs.BetweenSteps.{in_numbers}
-use Rattle.sc_calm_answers_law.specs.Tokens.{mail_token, player_token, IdleCountsOnce}
+use Rattle.sc_scenario.specs.Definitions.{ValidScenariosAreBounded}
+use Rattle.sc_sound.specs.Definitions.{Player, player_table, node_seat, client_seat, route_of, births, as_nodes}
+use Rattle.sc_calm_law.specs.Definitions.{waiting_one}
+use Rattle.sc_budget_law.specs.Definitions.{IsAsking}
+use Rattle.sc_budget_law.proofs.Lemmas.{stage, in_numbers}
+use Rattle.sc_calm_answers_law.specs.Definitions.{mail_token, player_token, IdleCountsOnce}
 
 -- seats that are apart, of which that with one number counts one at most and all others none
 module _ {A : Type 0} (f : Seat A → ℕ) (who : ℕ) where

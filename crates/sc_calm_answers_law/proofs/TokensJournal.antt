@@ -3,56 +3,25 @@ use Rattle.std.proofs.Common.{◌≡◌, ℕ, ◌+◌, ◌≤◌, eqb, Bool, tru
 use Rattle.std.specs.List.{filter}
 use Rattle.std.specs.Option.{option_map}
 use Rattle.std.proofs.lemmas.List.Sums.{sum_by-append, sum_by-cons}
-use Rattle.sc_base.specs.Among.{Among}
-use Rattle.sc_base.specs.Limits.{client_actor}
-use Rattle.sc_base.specs.Same.{same_draw}
-use Rattle.sc_base.specs.declared.names.Draw.{Draw}
-use Rattle.sc_base.specs.declared.ops.Op.{Op}
-use Rattle.sc_cmd.specs.declared.cores.Base.{Base}
-use Rattle.sc_cmd.specs.declared.orders.OrderLine.{OrderLine}
-use Rattle.sc_mail.specs.declared.bodies.Mail.{Mail}
-use Rattle.sc_mail.specs.declared.bodies.MailBody.TheVariants.{Answer}
-use Rattle.sc_mail.specs.declared.roles.Role.TheVariants.{Node, Client}
-use Rattle.sc_actor.specs.declared.actors.Seat.{Seat}
-use Rattle.sc_actor.specs.declared.rows.Event.{Event}
-use Rattle.sc_actor.specs.declared.rows.Event.TheVariants.{Deliver, Tick, Go, Told, Crash, Drop, Again}
-use Rattle.sc_actor.specs.declared.rows.Input.TheVariants.{Got, Go as GoInput}
-use Rattle.sc_actor.specs.declared.rows.Row.{Row}
-use Rattle.sc_actor.specs.Mail.{mails, copies, counts_at, numbered}
-use Rattle.sc_actor.specs.Replay.{value, acted, input_of}
-use Rattle.sc_actor.specs.System.{System, row_of, are_apart, waiting, kth}
+use Rattle.sc_base.specs.Definitions.{Among, client_actor, same_draw}
+use Rattle.sc_node_table.specs.Values.{Draw, Op, Base, OrderLine, Mail, Answer, Node, Client, Seat, Event, Deliver, Tick, Go, Crash, Drop, Again, Got, Row}
+use Rattle.sc_actor.specs.declared.rows.Event.TheVariants.{Told}
+use Rattle.sc_actor.specs.declared.rows.Input.TheVariants.{Go as GoInput}
+use Rattle.sc_actor.specs.Definitions.{mails, copies, counts_at, numbered, value, acted, input_of, System, row_of, are_apart, waiting, kth}
 use Rattle.sc_actor.proofs.PendingLemmas as pending
-use Rattle.sc_actor.proofs.ReplayLemmas.{value-snoc}
-use Rattle.sc_node_table.specs.Node.{NodeState, replica_of, with_replica, node_table}
-use Rattle.sc_node_table.specs.Replica.{ReplicaState, name_of}
-use Rattle.sc_node_table.specs.Rows.{mailed}
+use Rattle.sc_actor.proofs.Lemmas.{value-snoc}
+use Rattle.sc_node_table.specs.Definitions.{NodeState, replica_of, with_replica, node_table, ReplicaState, name_of, mailed}
 use Rattle.sc_scenario.specs.declared.scenarios.Asks.{Asks}
 use Rattle.sc_scenario.specs.declared.scenarios.Scenario.{Scenario}
-use Rattle.sc_scenario.specs.Valid.{ValidScenariosAreBounded}
-use Rattle.sc_sound.specs.Players.{Player, player_table, node_seat, client_seat, route_of, births, system_of, as_nodes}
-use Rattle.sc_orderly_law.specs.Orderly.{IsTidy, IsOrderly, IsInOrder, mail_with, is_born}
-use Rattle.sc_orderly_law.specs.Owing.{Owing, under_way, owed, owed_by}
-use Rattle.sc_orderly_law.proofs.Paying.{delivered}
-use Rattle.sc_orderly_law.proofs.Rests.{filter_sum}
-use Rattle.sc_orderly_law.proofs.Resting.{after-row, is_born-from}
-use Rattle.sc_orderly_law.proofs.Seats.{one_changes}
-use Rattle.sc_budget_law.specs.Asking.{IsAsking, AreFarFromLast}
-use Rattle.sc_budget_law.specs.CalmAsking.{IsLinkedSetting}
-use Rattle.sc_budget_law.specs.CalmNode.{Setting, IsSetting, IsCalmNode, ComesInTime}
-use Rattle.sc_budget_law.specs.PlainClient.{IsBegun}
-use Rattle.sc_budget_law.specs.PlainMail.{Requests, IsPlainBody}
+use Rattle.sc_scenario.specs.Definitions.{ValidScenariosAreBounded}
+use Rattle.sc_sound.specs.Definitions.{Player, player_table, node_seat, client_seat, route_of, births, system_of, as_nodes}
+use Rattle.sc_orderly_law.specs.Definitions.{IsTidy, IsOrderly, IsInOrder, mail_with, is_born, Owing, under_way, owed, owed_by}
+use Rattle.sc_orderly_law.proofs.Lemmas.{delivered, filter_sum, after-row, is_born-from, one_changes}
+use Rattle.sc_budget_law.specs.Definitions.{IsAsking, AreFarFromLast, IsLinkedSetting, Setting, IsSetting, IsCalmNode, ComesInTime, IsBegun, Requests, IsPlainBody}
 use Rattle.sc_budget_law.proofs.AskingClients as clients_of
 use Rattle.sc_budget_law.proofs.AskingTurns as turns_of
-use Rattle.sc_budget_law.proofs.BetweenStage.{IsStage, stage}
-use Rattle.sc_budget_law.proofs.BetweenViews.{Journal}
-use Rattle.sc_budget_law.proofs.BetweenWhole.{of_player}
-use Rattle.sc_budget_law.proofs.CalmClients.{unasked}
-use Rattle.sc_budget_law.proofs.CalmNodes.{Turns, step_is, aside_is, aside_answer}
-use Rattle.sc_budget_law.proofs.Lists.{some_is}
-use Rattle.sc_budget_law.proofs.NodeRows.{NodeRow, IsFor, for_node, mail_is}
-use Rattle.sc_budget_law.proofs.ReplicaRows.{replica_row}
-use Rattle.sc_budget_law.proofs.Sends.{mail_of}
-use Rattle.sc_calm_answers_law.specs.Tokens.{body_token, mail_token, replica_tokens, player_token, token_owing, TokensNeverRise}
+use Rattle.sc_budget_law.proofs.Lemmas.{IsStage, stage, Journal, of_player, unasked, Turns, step_is, aside_is, aside_answer, some_is, NodeRow, IsFor, for_node, mail_is, replica_row, mail_of}
+use Rattle.sc_calm_answers_law.specs.Definitions.{body_token, mail_token, replica_tokens, player_token, token_owing, TokensNeverRise}
 use Rattle.sc_calm_answers_law.proofs.TokensClients.{got_tokens, go_tokens}
 use Rattle.sc_calm_answers_law.proofs.TokensPump.{answer_token}
 use Rattle.sc_calm_answers_law.proofs.TokensRows.{stay_row}

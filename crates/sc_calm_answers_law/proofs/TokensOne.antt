@@ -2,62 +2,24 @@
 use Rattle.std.proofs.Common.{◌≡◌, ℕ, ◌+◌, ◌-◌, ◌≤◌, eqb, Bool, true, false, cond, List, [], ◌∷◌, ◌++◌, find, map, replicate, sum_by, Some, None, inl, inr, refl, sym, ◌∙◌, ap, subst, arith, append-nil}
 use Rattle.std.proofs.lemmas.Bool.{both_ways, eqb-true, eq-eqb, cond-true}
 use Rattle.std.proofs.lemmas.List.Sums.{sum_by-append, sum_by-cons}
-use Rattle.sc_base.specs.Among.{Among}
-use Rattle.sc_base.specs.Limits.{client_actor}
-use Rattle.sc_base.specs.Same.{same_draw}
-use Rattle.sc_base.specs.declared.names.Draw.{Draw}
-use Rattle.sc_base.specs.declared.ops.Op.{Op}
-use Rattle.sc_cmd.specs.declared.commands.Command.{Command}
-use Rattle.sc_cmd.specs.declared.commands.Command.TheVariants.{Call}
-use Rattle.sc_cmd.specs.declared.cores.Base.{Base}
-use Rattle.sc_cmd.specs.declared.orders.OrderLine.{OrderLine}
-use Rattle.sc_mail.specs.declared.bodies.AnswerBody.{AnswerBody}
-use Rattle.sc_mail.specs.declared.bodies.Mail.{Mail}
-use Rattle.sc_mail.specs.declared.bodies.MailBody.{MailBody}
-use Rattle.sc_mail.specs.declared.bodies.MailBody.TheVariants.{Request, Answer, Prepare, Promise, Accept, Accepted, Nack, Learn, Ask, Install, TxPrepare, TxVote, TxOutcome, TxElsewhere, TxWatch, TxWatched, Told}
-use Rattle.sc_mail.specs.declared.roles.Role.TheVariants.{Node, Client}
-use Rattle.sc_paxos_words.specs.declared.flights.Flight.{Flight}
-use Rattle.sc_paxos_words.proofs.ListLemmas.{find_found}
-use Rattle.sc_actor.specs.declared.actors.Seat.{Seat}
-use Rattle.sc_actor.specs.declared.rows.Row.{Row}
-use Rattle.sc_actor.specs.Mail.{mails, copies, numbered}
-use Rattle.sc_actor.specs.Replay.{value}
-use Rattle.sc_actor.specs.System.{System, has_gone, waiting, kth}
-use Rattle.sc_client_table.specs.Client.{Client as ClientState}
-use Rattle.sc_node_table.specs.Node.{replica_of, is_node}
-use Rattle.sc_node_table.specs.Replica.{ReplicaState, name_of}
+use Rattle.sc_base.specs.Definitions.{Among, client_actor, same_draw, is_member}
+use Rattle.sc_node_table.specs.Values.{Draw, Op, Command, Call, Base, OrderLine, AnswerBody, Mail, MailBody, Request, Answer, Prepare, Promise, Accept, Accepted, Nack, Learn, Ask, Install, TxPrepare, TxVote, TxOutcome, TxElsewhere, TxWatch, TxWatched, Told, Node, Client, Flight, Seat, Row}
+use Rattle.sc_paxos_words.proofs.Lemmas.{find_found}
+use Rattle.sc_actor.specs.Definitions.{mails, copies, numbered, value, System, has_gone, waiting, kth}
+use Rattle.sc_client_table.specs.Definitions.{Client as ClientState}
+use Rattle.sc_node_table.specs.Definitions.{replica_of, is_node, ReplicaState, name_of, numbers_from, slots_ahead}
 use Rattle.sc_scenario.specs.declared.scenarios.Asks.{Asks}
 use Rattle.sc_scenario.specs.declared.scenarios.Scenario.{Scenario}
-use Rattle.sc_scenario.specs.Valid.{ValidScenariosAreBounded}
-use Rattle.sc_sound.specs.Players.{Player, player_table, node_seat, client_seat, route_of, births, system_of, as_nodes}
-use Rattle.sc_orderly_law.specs.Orderly.{IsTidy, IsOrderly, rest, mail_with, is_born}
-use Rattle.sc_orderly_law.specs.Owing.{under_way, owed}
-use Rattle.sc_orderly_law.proofs.Resting.{TakesFirst, is_born-from}
-use Rattle.sc_orderly_law.proofs.Seats.{seat_found}
-use Rattle.sc_paxos_law.proofs.Among.{Among-right}
-use Rattle.sc_base.specs.Roster.{is_member}
-use Rattle.sc_node_table.specs.Slots.{numbers_from, slots_ahead}
-use Rattle.sc_budget_law.specs.Frames.{Frame}
-use Rattle.sc_budget_law.specs.PlainMail.{Requests, IsPlainBody}
-use Rattle.sc_calm_law.specs.Clients.{waiting_one}
-use Rattle.sc_budget_law.specs.Asking.{IsAsking, AreFarFromLast}
-use Rattle.sc_budget_law.specs.AskingLines.{AreSeated, NobodyWaits}
-use Rattle.sc_budget_law.specs.CalmAsking.{IsLinkedSetting, IsCalmClient}
-use Rattle.sc_budget_law.specs.CalmNode.{Setting, IsSetting, IsAsideBody, IsCalmMail}
-use Rattle.sc_budget_law.specs.PlainClient.{IsWaiting, IsBegun}
+use Rattle.sc_scenario.specs.Definitions.{ValidScenariosAreBounded}
+use Rattle.sc_sound.specs.Definitions.{Player, player_table, node_seat, client_seat, route_of, births, system_of, as_nodes}
+use Rattle.sc_orderly_law.specs.Definitions.{IsTidy, IsOrderly, rest, mail_with, is_born, under_way, owed}
+use Rattle.sc_orderly_law.proofs.Lemmas.{TakesFirst, is_born-from, seat_found}
+use Rattle.sc_paxos_law.proofs.Lemmas.{Among-right}
+use Rattle.sc_budget_law.specs.Definitions.{Frame, Requests, IsPlainBody, IsAsking, AreFarFromLast, AreSeated, NobodyWaits, IsLinkedSetting, IsCalmClient, Setting, IsSetting, IsAsideBody, IsCalmMail, IsWaiting, IsBegun}
+use Rattle.sc_calm_law.specs.Definitions.{waiting_one}
 use Rattle.sc_budget_law.proofs.AskingClients as clients_of
-use Rattle.sc_budget_law.proofs.AskingSought.{AreSought, IsSought, sought_row}
-use Rattle.sc_budget_law.proofs.BetweenStage.{IsStage, stage}
-use Rattle.sc_budget_law.proofs.BetweenSteps.{node_born, node_number, client_number, one_of_sum}
-use Rattle.sc_budget_law.proofs.BetweenViews.{Journal, replica_is}
-use Rattle.sc_budget_law.proofs.CalmClients.{waiting_home}
-use Rattle.sc_budget_law.proofs.Clients.{asking}
-use Rattle.sc_budget_law.proofs.Leading.{IsHeld}
-use Rattle.sc_budget_law.proofs.Lists.{some_is, map_among}
-use Rattle.sc_budget_law.proofs.QuietTurns.{client_is}
-use Rattle.sc_budget_law.proofs.Sends.{mail_of}
-use Rattle.sc_calm_answers_law.specs.Hearing.{IsAnswerTo, AnswersAreExpected}
-use Rattle.sc_calm_answers_law.specs.Tokens.{command_token, body_token, mail_token, replica_tokens, player_token, token_owing}
+use Rattle.sc_budget_law.proofs.Lemmas.{AreSought, IsSought, sought_row, IsStage, stage, node_born, node_number, client_number, one_of_sum, Journal, replica_is, waiting_home, asking, IsHeld, some_is, map_among, client_is, mail_of}
+use Rattle.sc_calm_answers_law.specs.Definitions.{IsAnswerTo, AnswersAreExpected, command_token, body_token, mail_token, replica_tokens, player_token, token_owing}
 use Rattle.sc_calm_answers_law.proofs.LinesKeep.{line_keeps}
 use Rattle.sc_calm_answers_law.proofs.TokensJournal.{falls}
 

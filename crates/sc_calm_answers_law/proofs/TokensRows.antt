@@ -1,57 +1,20 @@
 -- No row of a replica raises tokens while clients ask.
 use Rattle.std.proofs.Common.{◌≡◌, ℕ, ◌+◌, ◌≤◌, ◌&&◌, eqb, Bool, true, false, cond, List, [], ◌∷◌, ◌++◌, length, sum_by, Option, Some, None, inl, inr, refl, sym, ◌∙◌, ap, subst, arith}
 use Rattle.std.proofs.lemmas.Bool.{eqb-true, and_parts}
-use Rattle.sc_base.specs.Among.{Each}
-use Rattle.sc_base.specs.Limits.{client_actor}
-use Rattle.sc_base.specs.Same.{same_ballot}
-use Rattle.sc_base.specs.declared.names.Ballot.{Ballot}
-use Rattle.sc_base.specs.declared.names.Draw.{Draw}
-use Rattle.sc_base.specs.declared.ops.Op.{Op}
-use Rattle.sc_cmd.specs.declared.commands.Command.{Command}
-use Rattle.sc_cmd.specs.declared.commands.Command.TheVariants.{Call}
-use Rattle.sc_cmd.specs.declared.cores.Core.{Core}
-use Rattle.sc_mail.specs.declared.bodies.AnswerBody.{AnswerBody}
-use Rattle.sc_mail.specs.declared.bodies.Mail.{Mail}
-use Rattle.sc_mail.specs.declared.bodies.MailBody.{MailBody}
-use Rattle.sc_mail.specs.declared.bodies.MailBody.TheVariants.{Request, Answer, Prepare, Promise, Accept, Accepted, Nack, Learn, Ask, Install, TxPrepare, TxVote, TxOutcome, TxElsewhere, TxWatch, TxWatched, Told}
-use Rattle.sc_base.specs.Majority.{is_majority}
-use Rattle.sc_base.specs.Roster.{is_member}
-use Rattle.sc_paxos_words.specs.declared.answers.Counted.TheVariants.{Chosen, NotYet}
-use Rattle.sc_paxos_words.specs.declared.flights.Flight.{Flight}
-use Rattle.sc_paxos_words.specs.Leaders.{must, flight_at, without_flight_at}
-use Rattle.sc_paxos_words.specs.Votes.{kept_voters, voters_after, with_voters, vote_at}
-use Rattle.sc_paxos_words.proofs.ListLemmas.{Each-among, find_found}
-use Rattle.sc_machine_table.specs.Machine.{applied}
-use Rattle.sc_node_table.specs.Execute.{entered, executed_one, has_room, next_child, next_ready, ending, executed_ready, executed}
-use Rattle.sc_node_table.specs.Pump.{pumped}
-use Rattle.sc_node_table.specs.Replica.{ReplicaState, Place, Executed, childless, name_of, next, members, set_at, last_slot, forgotten}
-use Rattle.sc_node_table.specs.Rows.{mailed}
-use Rattle.sc_node_table.specs.Slots.{at_slot, with_slot, slots_ahead}
-use Rattle.sc_node_table.specs.Voting.{leads, readied, vote_tallied, voted, accepted_row}
-use Rattle.sc_law_lemmas.proofs.Entries.{entered_next}
-use Rattle.sc_law_lemmas.proofs.Places.{cleared}
-use Rattle.sc_law_lemmas.proofs.Ways.{either_way}
-use Rattle.sc_budget_law.specs.Frames.{Frame, IsFrame}
-use Rattle.sc_budget_law.specs.PlainClient.{IsBegun}
-use Rattle.sc_budget_law.specs.PlainMail.{Requests, IsPlainCommand, IsPlainCall, IsPlainBody}
-use Rattle.sc_budget_law.specs.PlainNode.{IsPlainFlight, IsPlainReplica, IsPlainFollower, IsPlainVoter, IsPlainLeader, IsPlainAt, IsDue}
-use Rattle.sc_budget_law.proofs.Accepting.{as_voter, learn_is, learnt_plain, learnt_follower}
-use Rattle.sc_budget_law.proofs.Counts.{at_found, with_at, with_each}
-use Rattle.sc_budget_law.proofs.Entry.{told_after, counted_call}
-use Rattle.sc_budget_law.proofs.Pumping.{call_is}
-use Rattle.sc_budget_law.proofs.ReplicaRows.{leading_at, following_at, none_stops}
-use Rattle.sc_budget_law.proofs.Served.{IsServed, call_plain}
-use Rattle.sc_calm_answers_law.specs.Tokens.{command_token, body_token, flight_tokens, ready_tokens, replica_tokens, place_tokens, TokensStay}
+use Rattle.sc_base.specs.Definitions.{Each, client_actor, same_ballot, is_majority, is_member}
+use Rattle.sc_node_table.specs.Values.{Ballot, Draw, Op, Command, Call, Core, AnswerBody, Mail, MailBody, Request, Answer, Prepare, Promise, Accept, Accepted, Nack, Learn, Ask, Install, TxPrepare, TxVote, TxOutcome, TxElsewhere, TxWatch, TxWatched, Told, Chosen, NotYet, Flight}
+use Rattle.sc_paxos_words.specs.Definitions.{must, flight_at, without_flight_at, kept_voters, voters_after, with_voters, vote_at}
+use Rattle.sc_paxos_words.proofs.Lemmas.{Each-among, find_found}
+use Rattle.sc_machine_table.specs.Definitions.{applied}
+use Rattle.sc_node_table.specs.Definitions.{entered, executed_one, has_room, next_child, next_ready, ending, executed_ready, executed, pumped, ReplicaState, Place, Executed, childless, name_of, next, members, set_at, last_slot, forgotten, mailed, at_slot, with_slot, slots_ahead, leads, readied, vote_tallied, voted, accepted_row}
+use Rattle.sc_law_lemmas.proofs.Lemmas.{entered_next, cleared, either_way}
+use Rattle.sc_budget_law.specs.Definitions.{Frame, IsFrame, IsBegun, Requests, IsPlainCommand, IsPlainCall, IsPlainBody, IsPlainFlight, IsPlainReplica, IsPlainFollower, IsPlainVoter, IsPlainLeader, IsPlainAt, IsDue}
+use Rattle.sc_budget_law.proofs.Lemmas.{as_voter, learn_is, learnt_plain, learnt_follower, at_found, with_at, with_each, told_after, counted_call, call_is, leading_at, following_at, none_stops, IsServed, call_plain}
+use Rattle.sc_calm_answers_law.specs.Definitions.{command_token, body_token, flight_tokens, ready_tokens, replica_tokens, place_tokens, TokensStay}
 use Rattle.sc_calm_answers_law.proofs.Calls.{Goes, pumps, pump_kept, entry_goes, leaves_itself}
 use Rattle.sc_calm_answers_law.proofs.RequestsTaking.{accept_takes}
 use Rattle.sc_calm_answers_law.proofs.TokensPump.{IsFree, sent_token, others_token, answer_token, without_flight_tokens, taken_flight_tokens, with_voters_tokens, taken_slot_tokens, with_slot_tokens, pump_tokens, request_tokens}
-
-ready_is : (r : ReplicaState) (command : Command) → next_ready r ≡ Some command → at_slot r.ready (next r) ≡ Some command
-ready_is r command e = by (r.running && has_room r) e
-  where
-    by : (b : Bool) → cond b (at_slot r.ready (next r)) None ≡ Some command → at_slot r.ready (next r) ≡ Some command
-    by true is = is
-    by false is = cc
+use Rattle.sc_calm_law.proofs.Lemmas.{ready_is}
 
 module _ (c : ℕ) (begun : Requests) (frame : Frame) (is : IsFrame frame) (first : ReplicaState) (free : IsFree first) (bound : ℕ) where
   -- ---- entries of a leader
@@ -270,5 +233,6 @@ module _ (c : ℕ) (begun : Requests) (frame : Frame) (is : IsFrame frame) (me f
   stay_row (TxWatched tx coord part vote) k b due n = absurd b
   stay_row (Told order result) k b due n = absurd b
 
+-- While clients ask, no row of a replica raises how often a client's request is under way: as a request or an answer in mail, or as a call at the replica.
 pub tokens_stay : TokensStay
 tokens_stay scenario rows frame c me from body r is room k b due n = stay_row c (IsBegun scenario rows) frame is me from r room body k b due n

@@ -1,64 +1,30 @@
 -- What a journal tells of its replicas' locks, and of what they have in flight.
 use Rattle.std.proofs.Common.{◌≡◌, ℕ, ◌≤◌, List, ◌++◌, drop, length, Some, refl, sym, ◌∙◌, ap, subst}
 use Rattle.std.proofs.lemmas.Option.{same_Some}
-use Rattle.sc_base.specs.Among.{Among, Each}
-use Rattle.sc_base.specs.declared.names.Draw.{Draw}
-use Rattle.sc_actor.specs.declared.actors.Seat.{Seat}
+use Rattle.sc_base.specs.Definitions.{Among, Each, united}
+use Rattle.sc_node_table.specs.Values.{Draw, Seat, Offer, Watch, Command, Finish, Prepared, RecordVote, Watched, Base, Route, Frozen, Outcome, Merged, Flight}
 use Rattle.sc_cmd.specs.declared.bodies.Body.TheVariants as At
-use Rattle.sc_cmd.specs.declared.bodies.Offer.{Offer}
-use Rattle.sc_cmd.specs.declared.bodies.Watch.{Watch}
-use Rattle.sc_cmd.specs.declared.commands.Command.{Command}
-use Rattle.sc_cmd.specs.declared.commands.Command.TheVariants.{Finish, Prepared, RecordVote, Watched}
-use Rattle.sc_cmd.specs.declared.cores.Base.{Base}
-use Rattle.sc_cmd.specs.declared.links.Route.{Route}
-use Rattle.sc_cmd.specs.declared.votes.Frozen.{Frozen}
-use Rattle.sc_cmd.specs.declared.votes.Outcome.{Outcome}
-use Rattle.sc_cmd.specs.declared.votes.Outcome.TheVariants.{Merged}
 use Rattle.sc_cmd.specs.declared.votes.Vote.TheVariants as Vows
-use Rattle.sc_base.specs.Union.{united}
-use Rattle.sc_machine_table.specs.Group.{Group, group_of}
-use Rattle.sc_machine_table.specs.Logs.{state_after}
-use Rattle.sc_node_table.specs.Node.{NodeState}
-use Rattle.sc_node_table.specs.Replica.{ReplicaState}
-use Rattle.sc_paxos_words.specs.declared.flights.Flight.{Flight}
-use Rattle.sc_paxos_words.proofs.ListLemmas.{Each-weaker}
-use Rattle.sc_paxos_law.specs.Chosen.{IsLog}
-use Rattle.sc_scenario.specs.Valid.{IsValid, ValidScenariosAreBounded}
+use Rattle.sc_machine_table.specs.Definitions.{Group, group_of, state_after}
+use Rattle.sc_node_table.specs.Definitions.{NodeState, ReplicaState}
+use Rattle.sc_paxos_words.proofs.Lemmas.{Each-weaker}
+use Rattle.sc_paxos_law.specs.Definitions.{IsLog}
+use Rattle.sc_scenario.specs.Definitions.{IsValid, ValidScenariosAreBounded}
 use Rattle.sc_scenario.specs.declared.scenarios.Scenario.{Scenario}
-use Rattle.sc_sound.specs.GroupsOf.{entries_at, groups_at}
-use Rattle.sc_sound.specs.Logs.{decided_log}
-use Rattle.sc_sound.specs.Players.{Lawful, Player, as_nodes, route_of}
-use Rattle.sc_ring_law.specs.Allowed.{Sources}
-use Rattle.sc_ring_law.specs.Stories.{Story, unsigned, unsigned_watch}
-use Rattle.sc_log_law.specs.Allows.{AllowsAsItStands, GroupAllows}
-use Rattle.sc_log_law.proofs.Allowing.{states_allow}
-use Rattle.sc_log_law.proofs.Allows.{groups_allow_others}
-use Rattle.sc_log_law.proofs.Findings.{told_rows}
-use Rattle.sc_names_law.specs.Laws.{OtherNamesAreFree, TakenOrdersAreAllowed, TakenWishesAreAllowed, WishesAreAtPositions}
-use Rattle.sc_names_law.specs.Owners.{owner_in}
-use Rattle.sc_group_law.proofs.Families.{Part, entry_offered, h_of}
-use Rattle.sc_group_law.proofs.Invariant.{IsFlying, rule}
-use Rattle.sc_group_law.proofs.Lists.{Each-take, each_got}
-use Rattle.sc_whole_law.specs.Begins.{BeginsWell, IsFresh}
-use Rattle.sc_whole_law.specs.Orders.{OrdersAreAllowed}
-use Rattle.sc_whole_law.specs.Parameters.{IsHeardAt, MayQueue, stories_at}
-use Rattle.sc_whole_law.specs.Parties.{MergesFit, PartiesAreApart}
-use Rattle.sc_whole_law.specs.StartLaws.{ValidScenariosBeginWell}
-use Rattle.sc_whole_law.proofs.Asking.{BeginsShared, hears_merges, none_split, splits_fit}
-use Rattle.sc_whole_law.proofs.Distinct.{parties_are_apart}
-use Rattle.sc_whole_law.proofs.Fitting.{merges_fit}
-use Rattle.sc_whole_law.proofs.Fronts.{goes_on_from}
-use Rattle.sc_whole_law.proofs.Scheduled.{orders_allowed}
-use Rattle.sc_whole_law.proofs.Speaking.{stands_heard, stands_offer, stands_watch}
-use Rattle.sc_whole_law.proofs.Turning.{Holds}
-use Rattle.sc_calm_law.specs.Totals.{Rows}
-use Rattle.sc_calm_logs_law.specs.Logged.{HasReplica, IsGroupOf}
-use Rattle.sc_calm_logs_law.proofs.Journals.{along, flying, found, fronts, part, stay, whole}
-use Rattle.sc_calm_answers_law.specs.Merges.{MergesGoHome}
-use Rattle.sc_calm_answers_law.specs.Outcomes.{IsTakenBy, OutcomesAreTaken}
+use Rattle.sc_sound.specs.Definitions.{entries_at, groups_at, decided_log, Lawful, Player, as_nodes, route_of}
+use Rattle.sc_ring_law.specs.Definitions.{Sources, Story, unsigned, unsigned_watch}
+use Rattle.sc_log_law.specs.Definitions.{AllowsAsItStands, GroupAllows}
+use Rattle.sc_log_law.proofs.Lemmas.{states_allow, groups_allow_others, told_rows}
+use Rattle.sc_names_law.specs.Definitions.{OtherNamesAreFree, TakenOrdersAreAllowed, TakenWishesAreAllowed, WishesAreAtPositions, owner_in}
+use Rattle.sc_group_law.proofs.Lemmas.{Part, entry_offered, h_of, IsFlying, rule, Each-take, each_got}
+use Rattle.sc_whole_law.specs.Definitions.{BeginsWell, IsFresh, OrdersAreAllowed, IsHeardAt, MayQueue, stories_at, MergesFit, PartiesAreApart, ValidScenariosBeginWell}
+use Rattle.sc_whole_law.proofs.Lemmas.{BeginsShared, hears_merges, none_split, splits_fit, parties_are_apart, merges_fit, goes_on_from, orders_allowed, stands_heard, stands_offer, stands_watch, Holds}
+use Rattle.sc_calm_law.specs.Definitions.{Rows}
+use Rattle.sc_calm_logs_law.specs.Definitions.{HasReplica, IsGroupOf}
+use Rattle.sc_calm_logs_law.proofs.Lemmas.{along, flying, found, fronts, part, stay, whole}
+use Rattle.sc_calm_answers_law.specs.Definitions.{MergesGoHome, IsTakenBy, OutcomesAreTaken, IsAllowedBy, LockTells, ReplicasTell, sources_of}
 use Rattle.sc_calm_answers_law.proofs.MergesHome.{stories_home}
 use Rattle.sc_calm_answers_law.proofs.Outcomes.{outcomes_fit}
-use Rattle.sc_calm_answers_law.specs.Told.{IsAllowedBy, LockTells, ReplicasTell, sources_of}
 
 module _ (bounded : ValidScenariosAreBounded) (begin : ValidScenariosBeginWell) (allowed : TakenOrdersAreAllowed) (wishes : TakenWishesAreAllowed) (positions : WishesAreAtPositions) (free : OtherNamesAreFree) where
   -- a group of first rows is one of the journal

@@ -1,59 +1,27 @@
 -- A group that takes a question is as it was in the quiet; so what is known of an order goes on.
 use Rattle.std.proofs.Common.{◌≡◌, ℕ, Bool, eqb, true, false, true≢false, List, [], ◌∷◌, ◌++◌, Option, Some, None, inl, inr, refl, sym, ◌∙◌, ap, subst}
 use Rattle.std.proofs.lemmas.Bool.{cases_Bool, eq-eqb, eqb-true}
-use Rattle.sc_base.specs.Among.{Among, Each}
-use Rattle.sc_base.specs.declared.names.Draw.{Draw}
-use Rattle.sc_actor.specs.declared.actors.Seat.{Seat}
-use Rattle.sc_actor.specs.declared.rows.Event.TheVariants.{Deliver}
-use Rattle.sc_actor.specs.System.{numbers_of, row_of}
-use Rattle.sc_cmd.specs.declared.cores.Base.{Base}
-use Rattle.sc_mail.specs.declared.bodies.Mail.{Mail}
-use Rattle.sc_node_table.specs.Node.{NodeState, replica_of}
-use Rattle.sc_node_table.specs.Replica.{Place, ReplicaState, born_replica}
-use Rattle.sc_node_table.specs.Slots.{slots_ahead}
+use Rattle.sc_base.specs.Definitions.{Among, Each}
+use Rattle.sc_node_table.specs.Values.{Draw, Seat, Deliver, Base, Mail}
+use Rattle.sc_actor.specs.Definitions.{numbers_of, row_of}
+use Rattle.sc_node_table.specs.Definitions.{NodeState, replica_of, Place, ReplicaState, born_replica, slots_ahead}
 use Rattle.sc_scenario.specs.declared.scenarios.Scenario.{Scenario}
-use Rattle.sc_sound.specs.Players.{Player, as_nodes, births, player_table}
-use Rattle.sc_calm_law.specs.Quiet.{IsAtRest, StandsQuiet}
-use Rattle.sc_calm_law.specs.Totals.{Rows}
-use Rattle.sc_calm_orders_law.specs.Parts.{works, works_flying, works_in, works_ready}
-use Rattle.sc_calm_orders_law.specs.Scenes.{Answers, Asking, Bound, Elsewhere, Ends, Errand, First, Here, IsNone, Lone, Next, Question, Records, Reply, Result, Scene, Turn, Unbound, Work, free, is_watch}
-use Rattle.sc_calm_orders_law.specs.Stages.{Asks, Closes, ClosesBoth, Deal, Filed, IsAt, Leg, Mailed, Ordered, Recorded, Replied, SentOn, Stage, Still, Weighs, bound_by, closing, heard, parties_of}
-use Rattle.sc_calm_orders_law.proofs.Lists.{cases-draw, found}
-use Rattle.sc_calm_orders_law.proofs.Moves.{no-work, work_of}
-use Rattle.sc_calm_rows_law.specs.Groups.{view_at}
-use Rattle.sc_calm_rows_law.specs.Turns.{with_event}
-use Rattle.sc_calm_rows_law.proofs.Viewing.{view_others}
-use Rattle.sc_calm_scenes_law.specs.Found.{BesideFinds}
-use Rattle.sc_calm_scenes_law.specs.Fresh.{AreUntouched, IsDelivered, IsFresh, IsThere}
-use Rattle.sc_calm_scenes_law.specs.Kept.{ComesTo, StageAfter}
-use Rattle.sc_calm_scenes_law.specs.Scenes.{is_running, scene_at}
-use Rattle.sc_calm_scenes_law.specs.Taken.{IsTaking}
-use Rattle.sc_calm_scenes_law.specs.Turns.{Bears, LeadsAlone}
-use Rattle.sc_calm_scenes_law.proofs.Delivered.{own_errand}
-use Rattle.sc_calm_scenes_law.proofs.Found.{found_step}
-use Rattle.sc_calm_scenes_law.proofs.Fresh.{aside_is, asks_it}
-use Rattle.sc_calm_scenes_law.proofs.Keeping.{row_of_comes}
-use Rattle.sc_calm_scenes_law.proofs.Newest.{lead_runs}
-use Rattle.sc_calm_scenes_law.proofs.Reaching.{errand_among}
-use Rattle.sc_calm_scenes_law.proofs.Taking.{misses}
-use Rattle.sc_calm_scenes_law.proofs.Untouched.{asked_fresh, fresh_errand}
-use Rattle.sc_budget_law.specs.AskingQuiet.{replicas_after}
-use Rattle.sc_calm_answers_law.specs.Deeds.{Executed, HasDone, HasStepped, Rested, doer}
-use Rattle.sc_calm_answers_law.specs.TrueGoing.{AskedGroupsStood, GoesOnSince, TrueOrdersGoOn}
-use Rattle.sc_calm_answers_law.specs.Told.{ReplicasTell}
-use Rattle.sc_calm_answers_law.specs.TrueUnder.{asked_of}
+use Rattle.sc_sound.specs.Definitions.{Player, as_nodes, births, player_table}
+use Rattle.sc_calm_law.specs.Definitions.{StandsQuiet, Rows}
+use Rattle.sc_calm_orders_law.specs.Definitions.{works, Answers, Asking, Bound, Elsewhere, Ends, Errand, First, Here, IsNone, Lone, Next, Question, Records, Reply, Result, Scene, Turn, Unbound, Work, free, is_watch, Asks, Closes, ClosesBoth, Deal, Filed, IsAt, Leg, Mailed, Ordered, Recorded, Replied, SentOn, Stage, Still, Weighs, bound_by, closing, heard, parties_of}
+use Rattle.sc_calm_orders_law.proofs.Lemmas.{cases-draw, found, no-work, work_of}
+use Rattle.sc_calm_rows_law.specs.Definitions.{view_at, with_event}
+use Rattle.sc_calm_rows_law.proofs.Lemmas.{view_others}
+use Rattle.sc_calm_scenes_law.specs.Definitions.{BesideFinds, AreUntouched, IsDelivered, IsFresh, IsThere, ComesTo, StageAfter, is_running, scene_at, IsTaking, Bears, LeadsAlone}
+use Rattle.sc_calm_scenes_law.proofs.Lemmas.{own_errand, found_step, aside_is, asks_it, row_of_comes, lead_runs, errand_among, misses, asked_fresh, fresh_errand}
+use Rattle.sc_budget_law.specs.Definitions.{replicas_after}
+use Rattle.sc_calm_answers_law.specs.Definitions.{Executed, HasDone, HasStepped, Rested, doer, AskedGroupsStood, GoesOnSince, TrueOrdersGoOn, ReplicasTell, asked_of}
 use Rattle.sc_calm_answers_law.proofs.Doers.{lead_works, one_not_none}
 use Rattle.sc_calm_answers_law.proofs.TrueGoing.{has_asked, has_done, has_new}
 use Rattle.sc_calm_answers_law.proofs.TrueQuiet.{stands_there}
 use Rattle.sc_calm_answers_law.proofs.Stepping.{Aside, Fate, Leading, Missed, New, Same, fate}
 use Rattle.sc_calm_answers_law.proofs.Opened.{no_asking}
-
--- one at rest has no work
-pub rests_idle : (r : ReplicaState) → IsAtRest r → works r ≡ []
-rests_idle r k =
-    ap (λ l. works_in l ++ (works_in r.calls ++ (works_flying r.leader.flights ++ works_ready r.ready))) k.acts
-    ∙ (ap (λ l. works_in l ++ (works_flying r.leader.flights ++ works_ready r.ready)) k.calls
-    ∙ (ap (λ l. works_flying l ++ works_ready r.ready) k.flights ∙ ap works_ready k.ready))
+pub use Rattle.sc_calm_answers_law.proofs.KeptTelling.{no_works as rests_idle}
 
 born_idle : (ahead who : ℕ) (base : Base) → works (born_replica ahead who base) ≡ []
 born_idle ahead who base = refl

@@ -1,39 +1,22 @@
 -- No replica saw a later ballot than it has promised, once it has taken its mail, after one row more.
 use Rattle.std.proofs.Common.{◌≡◌, ℕ, true, true≢false, List, [], ◌∷◌, ◌++◌, Option, Some, None, ◌⊎◌, inl, inr, sym, ◌∙◌, ap, subst, arith}
 use Rattle.std.proofs.lemmas.Bool.{cases_eq}
-use Rattle.sc_base.specs.declared.names.Ballot.{Ballot}
-use Rattle.sc_base.specs.declared.names.Draw.{Draw}
-use Rattle.sc_cmd.specs.declared.cores.Base.{Base}
-use Rattle.sc_cmd.specs.declared.orders.OrderLine.{OrderLine}
-use Rattle.sc_mail.specs.declared.bodies.Mail.{Mail}
-use Rattle.sc_actor.specs.declared.actors.Seat.{Seat}
-use Rattle.sc_actor.specs.declared.rows.Event.{Event}
-use Rattle.sc_actor.specs.declared.rows.Row.{Row}
-use Rattle.sc_actor.specs.Mail.{mails}
-use Rattle.sc_actor.specs.System.{row_of}
-use Rattle.sc_orderly_law.specs.Orderly.{IsCalmEvent}
-use Rattle.sc_orderly_law.specs.Timely.{AreInTime}
-use Rattle.sc_paxos_words.specs.Ballots.{IsAtLeast}
-use Rattle.sc_paxos_words.proofs.BallotLemmas.{at_least_itself, at_least_trans}
+use Rattle.sc_node_table.specs.Values.{Ballot, Draw, Base, OrderLine, Mail, Seat, Event, Row}
+use Rattle.sc_actor.specs.Definitions.{mails, row_of}
+use Rattle.sc_orderly_law.specs.Definitions.{IsCalmEvent, AreInTime}
+use Rattle.sc_paxos_words.specs.Definitions.{IsAtLeast}
+use Rattle.sc_paxos_words.proofs.Lemmas.{at_least_itself, at_least_trans}
 use Rattle.sc_scenario.specs.declared.scenarios.Scenario.{Scenario}
-use Rattle.sc_node_table.specs.Replica.{ReplicaState, listed, first_ballot}
-use Rattle.sc_sound.specs.Players.{Player, player_table, births, as_nodes}
-use Rattle.sc_calm_law.specs.Charts.{players}
-use Rattle.sc_calm_law.specs.Totals.{Rows}
-use Rattle.sc_following_law.specs.Following.{Mark, Prepares, reached, pledged, AreFit, Course, Progress, Sets, IsOpen}
-use Rattle.sc_following_law.specs.Hints.{Tellers}
-use Rattle.sc_following_law.specs.Rows.{IsRow}
-use Rattle.sc_following_law.specs.Tables.{marks_for}
-use Rattle.sc_following_law.proofs.Marks.{pledged-append}
-use Rattle.sc_calm_rows_law.specs.Groups.{view_at, marks_at, taken_mark, promise_in, progress_at}
-use Rattle.sc_calm_rows_law.specs.Turns.{IsSeat, with_event}
-use Rattle.sc_calm_rows_law.proofs.Marking.{rows_are}
-use Rattle.sc_calm_rows_law.proofs.Viewing.{view_others}
-use Rattle.sc_calm_groups_law.specs.Kinds.{IsLedStep}
-use Rattle.sc_calm_groups_law.specs.Led.{Ends, IsWellLed}
-use Rattle.sc_calm_groups_law.specs.Through.{AreWellBorn, HasOneLog, IsSentSo}
-use Rattle.sc_calm_groups_law.proofs.Keeping.{replicas_kept, scenarios_kept_born}
-use Rattle.sc_calm_mail_law.specs.Idle.{JournalsKeepIdle}
+use Rattle.sc_node_table.specs.Definitions.{ReplicaState, listed, first_ballot}
+use Rattle.sc_sound.specs.Definitions.{Player, player_table, births, as_nodes}
+use Rattle.sc_calm_law.specs.Definitions.{players, Rows}
+use Rattle.sc_following_law.specs.Definitions.{Mark, Prepares, reached, pledged, AreFit, Course, Progress, Sets, IsOpen, Tellers, IsRow, marks_for}
+use Rattle.sc_following_law.proofs.Lemmas.{pledged-append}
+use Rattle.sc_calm_rows_law.specs.Definitions.{view_at, marks_at, taken_mark, promise_in, progress_at, IsSeat, with_event}
+use Rattle.sc_calm_rows_law.proofs.Lemmas.{rows_are, view_others}
+use Rattle.sc_calm_groups_law.specs.Definitions.{IsLedStep, Ends, IsWellLed, AreWellBorn, HasOneLog, IsSentSo}
+use Rattle.sc_calm_groups_law.proofs.Lemmas.{replicas_kept, scenarios_kept_born}
+use Rattle.sc_calm_mail_law.specs.Definitions.{JournalsKeepIdle}
 use Rattle.sc_calm_answers_law.proofs.SentSeen.{Shows, ShowsNone, ShowsAsked, ShowsRefused, ShowsOwn, shown}
 use Rattle.sc_calm_answers_law.proofs.RiseHomes.{RefusesOld, promise_then}
 use Rattle.sc_calm_answers_law.proofs.Lists.{member_open, pledged_rises, fit_behind}

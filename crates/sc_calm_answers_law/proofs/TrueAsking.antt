@@ -1,40 +1,23 @@
 -- Questions go to nodes that have a replica of their group, after each delivery.
-use Rattle.std.proofs.Common.{◌≡◌, ℕ, eqb, Bool, true, false, true≢false, List, [], ◌∷◌, ◌++◌, Option, Some, None, ◌⊎◌, inl, inr, option_map, refl, sym, ◌∙◌, ap, subst, append_assoc}
+use Rattle.std.proofs.Common.{◌≡◌, ℕ, true, false, true≢false, List, [], ◌∷◌, ◌++◌, Some, None, ◌⊎◌, inl, inr, option_map, refl, sym, ◌∙◌, ap, subst}
 use Rattle.std.proofs.lemmas.Bool.{cases_Bool, cond-false}
-use Rattle.sc_base.specs.Among.{Among}
-use Rattle.sc_base.specs.declared.names.Draw.{Draw}
-use Rattle.sc_actor.specs.declared.actors.Seat.{Seat}
-use Rattle.sc_actor.specs.declared.rows.Event.TheVariants.{Deliver}
-use Rattle.sc_actor.specs.declared.rows.Input.TheVariants.{Got}
-use Rattle.sc_actor.specs.Replay.{value}
-use Rattle.sc_actor.specs.System.{row_of}
-use Rattle.sc_cmd.specs.declared.cores.Base.{Base}
-use Rattle.sc_mail.specs.declared.bodies.Mail.{Mail}
-use Rattle.sc_mail.specs.declared.roles.Role.TheVariants.{Client, Node}
-use Rattle.sc_node_table.specs.Node.{NodeState, group_of_mail, may_come, replica_of, routed}
-use Rattle.sc_node_table.specs.Replica.{Place, ReplicaState}
-use Rattle.sc_node_table.specs.Rows.{mailed}
-use Rattle.sc_orderly_law.proofs.InTime.{last_in_time}
+use Rattle.sc_base.specs.Definitions.{Among}
+use Rattle.sc_node_table.specs.Values.{Draw, Seat, Deliver, Got, Base, Mail, Client, Node}
+use Rattle.sc_actor.specs.Definitions.{value, row_of}
+use Rattle.sc_node_table.specs.Definitions.{NodeState, group_of_mail, may_come, replica_of, routed, Place, ReplicaState, mailed}
+use Rattle.sc_orderly_law.proofs.Lemmas.{last_in_time}
 use Rattle.sc_scenario.specs.declared.scenarios.Scenario.{Scenario}
-use Rattle.sc_sound.specs.Players.{Player, as_nodes, births, player_table}
-use Rattle.sc_calm_law.specs.Totals.{Rows}
-use Rattle.sc_calm_orders_law.specs.Parts.{errand_by, errand_for, errands_for}
-use Rattle.sc_calm_orders_law.specs.Scenes.{Errand}
-use Rattle.sc_calm_rows_law.specs.Groups.{view_at}
-use Rattle.sc_calm_rows_law.specs.Turns.{with_event}
-use Rattle.sc_calm_rows_law.proofs.Viewing.{view_was}
-use Rattle.sc_calm_scenes_law.specs.Found.{AtAnother, AtLeader, FindsReplica}
-use Rattle.sc_calm_scenes_law.specs.Kept.{ComesTo, Led, Unled}
-use Rattle.sc_calm_scenes_law.specs.Scenes.{left_after}
-use Rattle.sc_calm_scenes_law.specs.Taken.{IsTaking}
-use Rattle.sc_calm_scenes_law.proofs.Keeping.{row_of_comes}
-use Rattle.sc_calm_scenes_law.proofs.Left.{TakesOne, errands-append, left_row, takes_one}
-use Rattle.sc_calm_scenes_law.proofs.Taking.{all_sent}
-use Rattle.sc_calm_scenes_law.proofs.Turning.{calm_is}
-use Rattle.sc_calm_answers_law.specs.TrueGoing.{GoesOnSince}
+use Rattle.sc_sound.specs.Definitions.{Player, as_nodes, births, player_table}
+use Rattle.sc_calm_law.specs.Definitions.{Rows}
+use Rattle.sc_calm_orders_law.specs.Definitions.{errand_by, errand_for, errands_for, Errand}
+use Rattle.sc_calm_rows_law.specs.Definitions.{view_at, with_event}
+use Rattle.sc_calm_rows_law.proofs.Lemmas.{view_was}
+use Rattle.sc_calm_scenes_law.specs.Definitions.{AtAnother, AtLeader, FindsReplica, ComesTo, Led, Unled, left_after, IsTaking}
+use Rattle.sc_calm_scenes_law.proofs.Lemmas.{row_of_comes, TakesOne, errands-append, left_row, takes_one, all_sent, calm_is}
+use Rattle.sc_calm_answers_law.specs.Definitions.{GoesOnSince}
 use Rattle.sc_calm_answers_law.proofs.Hinting.{no_append, skip_middle}
 use Rattle.sc_calm_answers_law.proofs.TrueSending.{IsSending, leader_sends}
-use Rattle.sc_paxos_law.proofs.Among.{Among-either}
+use Rattle.sc_paxos_law.proofs.Lemmas.{Among-either}
 
 module _ (words : ℕ → ℕ → ℕ × ℕ) (scenario : Scenario) (first : Base) (journal quiet rows : Rows) (seat : Seat Player) (number : ℕ) (stage : Rattle.sc_calm_orders_law.specs.Stages.Stage) (g : GoesOnSince words scenario first journal quiet rows seat number stage) where
   abbrev all : List (Seat Player)

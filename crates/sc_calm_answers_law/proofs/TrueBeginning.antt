@@ -1,61 +1,31 @@
 -- What is known of an order since a quiet journal, from when it is told.
 use Rattle.std.proofs.Common.{◌≡◌, ℕ, eqb, true≢false, List, [], ◌∷◌, Option, Some, None, ◌⊎◌, inl, inr, refl, sym, ◌∙◌, ap, subst}
 use Rattle.std.proofs.lemmas.Bool.{cases_Bool, eq-eqb, eqb-true}
-use Rattle.sc_base.specs.Among.{Each}
-use Rattle.sc_base.specs.Drawing.{next_name}
-use Rattle.sc_base.specs.declared.names.Draw.{Draw}
-use Rattle.sc_actor.specs.declared.actors.Seat.{Seat}
+use Rattle.sc_base.specs.Definitions.{Each, next_name}
+use Rattle.sc_node_table.specs.Values.{Draw, Seat, Base, Order, OrderLine, OrderRefusal, Node, Client}
 use Rattle.sc_actor.specs.declared.rows.Event.TheVariants.{Told}
 use Rattle.sc_actor.specs.declared.rows.Input.TheVariants.{Told as ToldInput}
-use Rattle.sc_actor.specs.Replay.{value}
-use Rattle.sc_actor.specs.System.{numbers_of, row_of}
-use Rattle.sc_actor.proofs.WalkLemmas.{lawful-prefix}
-use Rattle.sc_client_table.specs.Client.{Client as ClientState}
-use Rattle.sc_cmd.specs.declared.cores.Base.{Base}
-use Rattle.sc_cmd.specs.declared.orders.Order.{Order}
+use Rattle.sc_actor.specs.Definitions.{value, numbers_of, row_of}
+use Rattle.sc_actor.proofs.Lemmas.{lawful-prefix}
+use Rattle.sc_client_table.specs.Definitions.{Client as ClientState}
 use Rattle.sc_cmd.specs.declared.orders.Order.TheVariants as An
-use Rattle.sc_cmd.specs.declared.orders.OrderLine.{OrderLine}
-use Rattle.sc_cmd.specs.declared.orders.OrderRefusal.{OrderRefusal}
-use Rattle.sc_mail.specs.declared.roles.Role.TheVariants.{Node, Client}
-use Rattle.sc_node_table.specs.Node.{NodeState, group_of_order, on_order, ordered_of, replica_of}
-use Rattle.sc_node_table.specs.Ordering.{ordered_command, ordered_row, untaken}
-use Rattle.sc_node_table.specs.Replica.{ReplicaState, born_replica, listed}
-use Rattle.sc_node_table.specs.Slots.{slots_ahead}
-use Rattle.sc_names_law.specs.Laws.{NodesHaveNames, OtherNamesAreFree, TakenOrdersAreAllowed, TakenWishesAreAllowed, WishesAreAtPositions}
-use Rattle.sc_scenario.specs.Valid.{ValidScenariosAreBounded}
+use Rattle.sc_node_table.specs.Definitions.{NodeState, group_of_order, on_order, ordered_of, replica_of, ordered_command, ordered_row, untaken, ReplicaState, born_replica, listed, slots_ahead}
+use Rattle.sc_names_law.specs.Definitions.{NodesHaveNames, OtherNamesAreFree, TakenOrdersAreAllowed, TakenWishesAreAllowed, WishesAreAtPositions}
+use Rattle.sc_scenario.specs.Definitions.{ValidScenariosAreBounded}
 use Rattle.sc_scenario.specs.declared.scenarios.Scenario.{Scenario}
-use Rattle.sc_whole_law.specs.StartLaws.{ValidScenariosBeginWell}
-use Rattle.sc_sound.specs.Players.{Lawful, Player, as_nodes, births, player_table, schedule, system_of}
-use Rattle.sc_calm_law.specs.Totals.{Rows}
-use Rattle.sc_calm_orders_law.specs.Follows.{IsStepOf, ByRest, ByOrder, ByChange, ByDeal, ByPassing, ByAsking, ByTaking, ByVote, ByNo, ByHearing, ByDeciding, ByEnd, LastFreed, LastTakes, OfOutcome, OfQuestion, OfVote, OneFreed, OneTakes, TwoFreed, TwoTakes}
-use Rattle.sc_calm_orders_law.specs.Parts.{work_by, works}
-use Rattle.sc_calm_orders_law.specs.Scenes.{Answers, Asking, Bound, Changes, Ends, GivesUp, Here, Opens, Records, Scene, Turn, Unbound, Work, free}
-use Rattle.sc_calm_orders_law.specs.Stages.{Asks, Closes, ClosesBoth, Filed, IsAt, Leg, Mailed, Ordered, Recorded, Replied, SentOn, Stage, Still, Weighs, closing}
-use Rattle.sc_calm_orders_law.specs.Tables.{MayFile}
-use Rattle.sc_calm_orders_law.proofs.Lists.{cases-draw}
-use Rattle.sc_calm_orders_law.proofs.Ordering.{tables-order}
-use Rattle.sc_calm_rows_law.specs.Groups.{view_at}
-use Rattle.sc_calm_rows_law.specs.Turns.{with_event}
-use Rattle.sc_calm_rows_law.proofs.Viewing.{view_is, view_others}
-use Rattle.sc_calm_scenes_law.specs.Counted.{IsOrdered}
-use Rattle.sc_calm_scenes_law.specs.Found.{ByAnother, ByLeader, FindsQuiet}
-use Rattle.sc_calm_scenes_law.specs.Fresh.{IsToldInQuiet}
-use Rattle.sc_calm_scenes_law.specs.Kept.{StageAfter}
-use Rattle.sc_calm_scenes_law.specs.Scenes.{is_running, scene_at}
-use Rattle.sc_calm_scenes_law.specs.Turns.{IsOfGroup, IsTablesRow, LeavesOrMakes}
-use Rattle.sc_calm_scenes_law.proofs.Found.{found_step}
-use Rattle.sc_calm_scenes_law.proofs.Newest.{lead_runs}
-use Rattle.sc_calm_scenes_law.proofs.Taking.{now_is, rows_taken, was_is}
-use Rattle.sc_calm_answers_law.specs.Journal.{IsCalmJournal}
-use Rattle.sc_calm_answers_law.specs.Resting.{RestsAt}
-use Rattle.sc_calm_answers_law.specs.TrueBeginning.{TrueOrdersBegin}
-use Rattle.sc_calm_answers_law.specs.Deeds.{HasDone, doer}
-use Rattle.sc_calm_answers_law.specs.New.{IsUnused, opened_by}
-use Rattle.sc_calm_answers_law.specs.TrueUnder.{AreSeen, IsTrueSince}
+use Rattle.sc_whole_law.specs.Definitions.{ValidScenariosBeginWell}
+use Rattle.sc_sound.specs.Definitions.{Lawful, Player, as_nodes, births, player_table, schedule, system_of}
+use Rattle.sc_calm_law.specs.Definitions.{Rows}
+use Rattle.sc_calm_orders_law.specs.Definitions.{IsStepOf, ByRest, ByOrder, ByChange, ByDeal, ByPassing, ByAsking, ByTaking, ByVote, ByNo, ByHearing, ByDeciding, ByEnd, LastFreed, LastTakes, OfOutcome, OfQuestion, OfVote, OneFreed, OneTakes, TwoFreed, TwoTakes, work_by, works, Answers, Asking, Bound, Changes, Ends, GivesUp, Here, Opens, Records, Scene, Turn, Unbound, Work, free, Asks, Closes, ClosesBoth, Filed, IsAt, Leg, Mailed, Ordered, Recorded, Replied, SentOn, Stage, Still, Weighs, closing, MayFile}
+use Rattle.sc_calm_orders_law.proofs.Lemmas.{cases-draw, tables-order}
+use Rattle.sc_calm_rows_law.specs.Definitions.{view_at, with_event}
+use Rattle.sc_calm_rows_law.proofs.Lemmas.{view_is, view_others, none_some}
+use Rattle.sc_calm_scenes_law.specs.Definitions.{IsOrdered, ByAnother, ByLeader, FindsQuiet, IsToldInQuiet, StageAfter, is_running, scene_at, IsOfGroup, IsTablesRow, LeavesOrMakes}
+use Rattle.sc_calm_scenes_law.proofs.Lemmas.{found_step, lead_runs, now_is, rows_taken, was_is}
+use Rattle.sc_calm_answers_law.specs.Definitions.{IsCalmJournal, RestsAt, TrueOrdersBegin, HasDone, doer, IsUnused, opened_by, AreSeen, IsTrueSince}
 use Rattle.sc_calm_answers_law.proofs.Doers.{lead_works, one_not_none}
 use Rattle.sc_calm_answers_law.proofs.Numbers.{next_unused}
 use Rattle.sc_calm_answers_law.proofs.Took.{rests_idle}
-use Rattle.sc_calm_rows_law.proofs.Beginning.{none_some}
 
 -- an order leads from nothing to its command, or nowhere
 pub begun_so : (group : Draw) (later : Stage) → IsStepOf group Still later → (later ≡ Still) ⊎ ((chief : ℕ) × (work : Work) × (later ≡ Ordered group chief work))

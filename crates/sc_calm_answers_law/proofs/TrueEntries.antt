@@ -1,70 +1,29 @@
 -- What a leader has in flight of an order is true: where it asks, and where its group votes.
 use Rattle.std.proofs.Common.{◌≡◌, ℕ, Bool, true, false, true≢false, cond, List, [], ◌∷◌, Option, Some, None, inl, inr, refl, sym, ◌∙◌, ap, subst}
 use Rattle.std.proofs.lemmas.Bool.{cases_Bool, cond-true, cond-false, cond_both}
-use Rattle.sc_base.specs.Among.{Among, Each}
-use Rattle.sc_base.specs.Same.{same_draw}
-use Rattle.sc_base.specs.declared.names.Draw.{Draw}
-use Rattle.sc_base.proofs.NameLemmas.{same_name}
-use Rattle.sc_cmd.specs.Cores.{is_alone}
-use Rattle.sc_cmd.specs.Effects.{is_changed}
-use Rattle.sc_cmd.specs.declared.bodies.Body.{Body}
+use Rattle.sc_base.specs.Definitions.{Among, Each, same_draw, is_member}
+use Rattle.sc_node_table.specs.Values.{Draw, Body, Watch, Command, Noop, Call, Join, Leave, Split, Begin, Prepared, RecordVote, GiveUp, Finish, Watched, RecordWatch, Base, Core, Coordinating, Free, Effect, NoEffect, Voted, Route, OrderRefusal, No, Flight, Seat, Promised, Watching, Apart}
+use Rattle.sc_base.proofs.Lemmas.{same_name}
+use Rattle.sc_cmd.specs.Definitions.{is_alone, is_changed}
 use Rattle.sc_cmd.specs.declared.bodies.Body.TheVariants as At
-use Rattle.sc_cmd.specs.declared.bodies.Watch.{Watch}
-use Rattle.sc_cmd.specs.declared.commands.Command.{Command}
-use Rattle.sc_cmd.specs.declared.commands.Command.TheVariants.{Noop, Call, Join, Leave, Split, Begin, Prepared, RecordVote, GiveUp, Finish, Watched, RecordWatch}
-use Rattle.sc_cmd.specs.declared.cores.Base.{Base}
-use Rattle.sc_cmd.specs.declared.cores.Core.{Core}
-use Rattle.sc_cmd.specs.declared.cores.Lock.TheVariants.{Coordinating, Free}
-use Rattle.sc_cmd.specs.declared.effects.Effect.{Effect}
-use Rattle.sc_cmd.specs.declared.effects.Effect.TheVariants.{NoEffect, Voted}
-use Rattle.sc_cmd.specs.declared.links.Route.{Route}
-use Rattle.sc_cmd.specs.declared.orders.OrderRefusal.{OrderRefusal}
-use Rattle.sc_cmd.specs.declared.votes.No.{No}
-use Rattle.sc_machine_table.specs.Group.{Group}
-use Rattle.sc_machine_table.specs.Machine.{applied, split_group}
-use Rattle.sc_machine_table.specs.Orders.{body_refused, locked_in, ordered, refusal_of, refused_in}
-use Rattle.sc_machine_table.specs.Splits.{has_named, left_group}
-use Rattle.sc_machine_table.specs.Transactions.{begun_group}
-use Rattle.sc_machine_table.specs.Votes.{has_voted, no_of, past_of, voted_on, watch_no, watch_vote_of}
-use Rattle.sc_base.specs.Roster.{is_member}
-use Rattle.sc_node_table.specs.Replica.{ReplicaState}
-use Rattle.sc_paxos_words.specs.declared.flights.Flight.{Flight}
-use Rattle.sc_paxos_words.proofs.ListLemmas.{Each-among}
+use Rattle.sc_machine_table.specs.Definitions.{Group, applied, split_group, body_refused, locked_in, ordered, refusal_of, refused_in, has_named, left_group, begun_group, has_voted, no_of, past_of, voted_on, watch_no, watch_vote_of, merged_link, right_link, vote_of}
+use Rattle.sc_node_table.specs.Definitions.{ReplicaState}
+use Rattle.sc_paxos_words.proofs.Lemmas.{Each-among}
 use Rattle.sc_scenario.specs.declared.scenarios.Scenario.{Scenario}
-use Rattle.sc_sound.specs.Players.{as_nodes, births}
-use Rattle.sc_names_law.specs.Names.{CoreNames}
-use Rattle.sc_calm_law.specs.Totals.{Rows}
-use Rattle.sc_calm_orders_law.specs.Entries.{IsBegun}
-use Rattle.sc_calm_scenes_law.specs.Counted.{StaysIn}
-use Rattle.sc_calm_answers_law.specs.Votes.{IsTrueEntry}
-use Rattle.sc_actor.specs.declared.actors.Seat.{Seat}
-use Rattle.sc_actor.proofs.WalkLemmas.{lawful-prefix}
-use Rattle.sc_budget_law.specs.AskingQuiet.{replicas_after}
-use Rattle.sc_calm_law.specs.Quiet.{StandsQuiet}
-use Rattle.sc_calm_orders_law.specs.Parts.{turn_of, work_by}
-use Rattle.sc_calm_orders_law.specs.Scenes.{Answers, Asking, Ends, First, Here, Lone, Next, Opens, Records, Turn, Work, is_watch}
-use Rattle.sc_calm_orders_law.specs.Stages.{Deal, IsAt, IsOrder, Stage, Weighs, heard, heard_lead}
-use Rattle.sc_calm_rows_law.specs.Groups.{view_at}
-use Rattle.sc_calm_scenes_law.specs.Fresh.{IsThere}
-use Rattle.sc_calm_scenes_law.specs.Scenes.{scene_at}
-use Rattle.sc_calm_scenes_law.proofs.Viewing.{tell}
-use Rattle.sc_cmd.specs.declared.cores.Lock.TheVariants.{Promised, Watching}
-use Rattle.sc_cmd.specs.declared.votes.No.TheVariants.{Apart}
-use Rattle.sc_log_law.specs.Findings.{AreItsLogs}
-use Rattle.sc_machine_table.specs.Plans.{merged_link}
-use Rattle.sc_machine_table.specs.Splits.{right_link}
-use Rattle.sc_machine_table.specs.Votes.{vote_of}
-use Rattle.sc_names_law.specs.Fresh.{IsUsed, NamesAreDrawn}
-use Rattle.sc_ring_law.specs.Stories.{Story, unsigned_watch, watch_with}
-use Rattle.sc_scenario.specs.Valid.{ValidScenariosAreBounded}
-use Rattle.sc_sound.specs.GroupsOf.{world_at}
-use Rattle.sc_sound.specs.Players.{Lawful, Player, schedule, system_of}
-use Rattle.sc_sound.specs.Soundness.{IsOneMap}
-use Rattle.sc_whole_law.specs.Valid.{ValidEntriesAreLogs, ValidJournalsAreSound}
-use Rattle.sc_calm_answers_law.specs.Deeds.{Doer, HasDone, Promising, doer, heard_doer, opened}
-use Rattle.sc_calm_answers_law.specs.TrueEntries.{IsAskedOrCast, LeadsSince, VotesAreTrue}
-use Rattle.sc_calm_answers_law.specs.Told.{IsAllowedBy, LockTells, ReplicasTell}
-use Rattle.sc_calm_answers_law.specs.TrueUnder.{IsTrueSince}
+use Rattle.sc_sound.specs.Definitions.{as_nodes, births, world_at, Lawful, Player, schedule, system_of, IsOneMap}
+use Rattle.sc_names_law.specs.Definitions.{CoreNames, IsUsed, NamesAreDrawn}
+use Rattle.sc_calm_law.specs.Definitions.{Rows, StandsQuiet}
+use Rattle.sc_calm_orders_law.specs.Definitions.{IsBegun, turn_of, work_by, Answers, Asking, Ends, First, Here, Lone, Next, Opens, Records, Turn, Work, is_watch, Deal, IsAt, IsOrder, Stage, Weighs, heard, heard_lead}
+use Rattle.sc_calm_scenes_law.specs.Definitions.{StaysIn, IsThere, scene_at}
+use Rattle.sc_calm_answers_law.specs.Definitions.{IsTrueEntry, Doer, HasDone, Promising, doer, heard_doer, opened, IsAskedOrCast, LeadsSince, VotesAreTrue, IsAllowedBy, LockTells, ReplicasTell, IsTrueSince}
+use Rattle.sc_actor.proofs.Lemmas.{lawful-prefix}
+use Rattle.sc_budget_law.specs.Definitions.{replicas_after}
+use Rattle.sc_calm_rows_law.specs.Definitions.{view_at}
+use Rattle.sc_calm_scenes_law.proofs.Lemmas.{tell}
+use Rattle.sc_log_law.specs.Definitions.{AreItsLogs}
+use Rattle.sc_ring_law.specs.Definitions.{Story, unsigned_watch, watch_with}
+use Rattle.sc_scenario.specs.Definitions.{ValidScenariosAreBounded}
+use Rattle.sc_whole_law.specs.Definitions.{ValidEntriesAreLogs, ValidJournalsAreSound}
 use Rattle.sc_calm_answers_law.proofs.Leads.{IsWorkAt, OfOrder, OfOutcome, OfQuestion, OfVote, at_stage, stands_in, was_there}
 use Rattle.sc_calm_answers_law.proofs.Names.{has_not_voted, used_in}
 use Rattle.sc_calm_answers_law.proofs.Opened.{IsOpened}

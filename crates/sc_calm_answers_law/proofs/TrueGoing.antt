@@ -1,28 +1,17 @@
 -- What is known of an order since a quiet journal, after one more delivery.
 use Rattle.std.proofs.Common.{◌≡◌, ℕ, List, [], ◌∷◌, ◌++◌, Some, ◌⊎◌, inl, inr, refl, sym, ◌∙◌, ap, subst, append_assoc}
-use Rattle.sc_base.specs.Among.{Each}
-use Rattle.sc_base.specs.declared.names.Draw.{Draw}
-use Rattle.sc_actor.specs.declared.actors.Seat.{Seat}
-use Rattle.sc_actor.specs.declared.rows.Event.TheVariants.{Deliver}
-use Rattle.sc_actor.specs.System.{row_of}
-use Rattle.sc_cmd.specs.declared.cores.Base.{Base}
-use Rattle.sc_node_table.specs.Replica.{listed}
+use Rattle.sc_base.specs.Definitions.{Each}
+use Rattle.sc_node_table.specs.Values.{Draw, Seat, Deliver, Base}
+use Rattle.sc_actor.specs.Definitions.{row_of}
+use Rattle.sc_node_table.specs.Definitions.{listed}
 use Rattle.sc_scenario.specs.declared.scenarios.Scenario.{Scenario}
-use Rattle.sc_sound.specs.Players.{Player, as_nodes, births, player_table}
-use Rattle.sc_calm_law.specs.Quiet.{StandsQuiet}
-use Rattle.sc_calm_law.specs.Totals.{Rows}
-use Rattle.sc_calm_orders_law.specs.Follows.{OfQuestion, OfVote, OfOutcome, LastTakes, OneTakes, TwoTakes, LastFreed, OneFreed, TwoFreed, IsStepOf, ByRest, ByOrder, ByChange, ByDeal, ByPassing, ByAsking, ByTaking, ByVote, ByNo, ByHearing, ByDeciding, ByEnd, closed}
-use Rattle.sc_calm_orders_law.specs.Scenes.{First, Here, Lone, Next, Scene, Turn}
-use Rattle.sc_calm_orders_law.specs.Stages.{Asks, Deal, IsAt, Stage, Still, Weighs}
-use Rattle.sc_calm_rows_law.specs.Turns.{with_event}
-use Rattle.sc_calm_scenes_law.specs.Kept.{GoesBy}
-use Rattle.sc_calm_scenes_law.specs.Scenes.{scene_at}
-use Rattle.sc_budget_law.specs.AskingQuiet.{replicas_after}
-use Rattle.sc_calm_answers_law.specs.Deeds.{Doer, FlightsBeginSo, HasDone, doer, doers_of}
-use Rattle.sc_calm_answers_law.specs.TrueGoing.{GoesOnSince}
-use Rattle.sc_calm_answers_law.specs.New.{IsUnused, tx_of}
-use Rattle.sc_calm_answers_law.specs.Told.{ReplicasTell}
-use Rattle.sc_calm_answers_law.specs.TrueUnder.{asked_of}
+use Rattle.sc_sound.specs.Definitions.{Player, as_nodes, births, player_table}
+use Rattle.sc_calm_law.specs.Definitions.{StandsQuiet, Rows}
+use Rattle.sc_calm_orders_law.specs.Definitions.{OfQuestion, OfVote, OfOutcome, LastTakes, OneTakes, TwoTakes, LastFreed, OneFreed, TwoFreed, IsStepOf, ByRest, ByOrder, ByChange, ByDeal, ByPassing, ByAsking, ByTaking, ByVote, ByNo, ByHearing, ByDeciding, ByEnd, closed, First, Here, Lone, Next, Scene, Turn, Asks, Deal, IsAt, Stage, Still, Weighs}
+use Rattle.sc_calm_rows_law.specs.Definitions.{with_event}
+use Rattle.sc_calm_scenes_law.specs.Definitions.{GoesBy, scene_at}
+use Rattle.sc_budget_law.specs.Definitions.{replicas_after}
+use Rattle.sc_calm_answers_law.specs.Definitions.{Doer, FlightsBeginSo, HasDone, doer, doers_of, GoesOnSince, IsUnused, tx_of, ReplicasTell, asked_of}
 use Rattle.sc_calm_answers_law.proofs.Doers.{stays, steps}
 use Rattle.sc_calm_answers_law.proofs.Since.{asked_stands, begin_so}
 

@@ -1,53 +1,26 @@
 -- So each question goes to a node that has a replica of its group, and a coordinator that is to ask elsewhere is told whom.
 use Rattle.std.proofs.Common.{◌≡◌, ℕ, Bool, true, false, true≢false, List, [], ◌∷◌, Some, None, ◌⊎◌, inl, inr, refl, sym, ◌∙◌, ap, subst}
-use Rattle.sc_base.specs.Among.{Among, Each}
-use Rattle.sc_base.specs.declared.names.Draw.{Draw}
-use Rattle.sc_actor.specs.declared.actors.Seat.{Seat}
-use Rattle.sc_actor.specs.declared.rows.Event.TheVariants.{Deliver}
-use Rattle.sc_actor.specs.System.{row_of}
-use Rattle.sc_cmd.specs.declared.commands.Command.{Command}
-use Rattle.sc_cmd.specs.declared.commands.Command.TheVariants.{Noop, Call, Join, Leave, Split, Begin, Prepared, RecordVote, GiveUp, Finish, Watched, RecordWatch}
-use Rattle.sc_cmd.specs.declared.cores.Base.{Base}
-use Rattle.sc_cmd.specs.declared.votes.Frozen.{Frozen}
+use Rattle.sc_base.specs.Definitions.{Among, Each, least_of}
+use Rattle.sc_node_table.specs.Values.{Draw, Seat, Deliver, Command, Noop, Call, Join, Leave, Split, Begin, Prepared, RecordVote, GiveUp, Finish, Watched, RecordWatch, Base, Frozen, Mail, Flight}
+use Rattle.sc_actor.specs.Definitions.{row_of, mails, numbered}
 use Rattle.sc_cmd.specs.declared.votes.Vote.TheVariants as Says
-use Rattle.sc_mail.specs.declared.bodies.Mail.{Mail}
-use Rattle.sc_base.specs.Roster.{least_of}
-use Rattle.sc_node_table.specs.Node.{group_of_mail}
-use Rattle.sc_node_table.specs.Replica.{ReplicaState}
-use Rattle.sc_paxos_words.specs.declared.flights.Flight.{Flight}
-use Rattle.sc_paxos_words.proofs.ListLemmas.{Each-among}
+use Rattle.sc_node_table.specs.Definitions.{group_of_mail, ReplicaState}
+use Rattle.sc_paxos_words.proofs.Lemmas.{Each-among}
 use Rattle.sc_scenario.specs.declared.scenarios.Scenario.{Scenario}
-use Rattle.sc_sound.specs.Players.{Player, as_nodes, births, player_table}
-use Rattle.sc_budget_law.specs.AskingQuiet.{replicas_after}
-use Rattle.sc_calm_law.specs.Quiet.{HasReplica}
-use Rattle.sc_calm_law.specs.Totals.{Rows}
-use Rattle.sc_calm_answers_law.specs.Votes.{IsTrueEntry}
-use Rattle.sc_calm_orders_law.specs.Parts.{bond_of, work_by, works}
-use Rattle.sc_calm_orders_law.specs.Scenes.{Asking, First, Here, Next, Records, is_watch}
-use Rattle.sc_calm_orders_law.specs.Stages.{Asks, IsAt, Ordered, Recorded, SentOn, Stage}
-use Rattle.sc_calm_rows_law.specs.Groups.{view_at}
-use Rattle.sc_calm_rows_law.specs.Turns.{with_event}
-use Rattle.sc_calm_scenes_law.specs.Scenes.{scene_at}
-use Rattle.sc_calm_answers_law.specs.Deeds.{HasDone, Promising, doer, opened}
-use Rattle.sc_calm_answers_law.specs.TrueGoing.{GoesOnSince}
-use Rattle.sc_calm_answers_law.specs.TrueHinted.{IsHinted}
-use Rattle.sc_calm_answers_law.specs.Told.{IsAllowedBy, ReplicasTell}
-use Rattle.sc_calm_answers_law.specs.TrueUnder.{IsTrueSince}
+use Rattle.sc_sound.specs.Definitions.{Player, as_nodes, births, player_table}
+use Rattle.sc_budget_law.specs.Definitions.{replicas_after}
+use Rattle.sc_calm_law.specs.Definitions.{HasReplica, Rows}
+use Rattle.sc_calm_answers_law.specs.Definitions.{IsTrueEntry, HasDone, Promising, doer, opened, GoesOnSince, IsHinted, IsAllowedBy, ReplicasTell, IsTrueSince, HintedOrdersGoOn, heard_doer}
+use Rattle.sc_calm_orders_law.specs.Definitions.{bond_of, work_by, works, Asking, First, Here, Next, Records, is_watch, Asks, IsAt, Ordered, Recorded, SentOn, Stage, Hears, OfQuestion, OfVote, OfOutcome, LastTakes, OneTakes, TwoTakes, LastFreed, OneFreed, TwoFreed, IsStepOf, ByRest, ByOrder, ByChange, ByDeal, ByPassing, ByAsking, ByTaking, ByVote, ByNo, ByHearing, ByDeciding, ByEnd, closed, Lone, Turn, Closes, ClosesBoth, Replied, Still, Weighs, heard, heard_lead}
+use Rattle.sc_calm_rows_law.specs.Definitions.{view_at, with_event}
+use Rattle.sc_calm_scenes_law.specs.Definitions.{scene_at, GoesBy}
 use Rattle.sc_calm_answers_law.proofs.TrueAsking.{one}
 use Rattle.sc_calm_answers_law.proofs.Doers.{lead_works}
 use Rattle.sc_calm_answers_law.proofs.Hinting.{hears_least}
 use Rattle.sc_calm_answers_law.proofs.Leads.{is_work_of}
-use Rattle.sc_calm_orders_law.specs.Follows.{Hears}
-use Rattle.sc_calm_scenes_law.specs.Kept.{GoesBy}
 use Rattle.sc_calm_answers_law.proofs.Hints.{at_seat, front, goes_to, least_at, the_work}
 use Rattle.sc_calm_answers_law.proofs.Since.{flights_at, frozen_is, heard_vote, next_is, one_vote}
 use Rattle.sc_calm_answers_law.proofs.Parties.{lead_bond}
-use Rattle.sc_actor.specs.Mail.{mails, numbered}
-use Rattle.sc_calm_answers_law.specs.TrueHinted.{HintedOrdersGoOn}
-use Rattle.sc_calm_orders_law.specs.Follows.{OfQuestion, OfVote, OfOutcome, LastTakes, OneTakes, TwoTakes, LastFreed, OneFreed, TwoFreed, IsStepOf, ByRest, ByOrder, ByChange, ByDeal, ByPassing, ByAsking, ByTaking, ByVote, ByNo, ByHearing, ByDeciding, ByEnd, closed}
-use Rattle.sc_calm_orders_law.specs.Scenes.{Lone, Turn}
-use Rattle.sc_calm_orders_law.specs.Stages.{Closes, ClosesBoth, Replied, Still, Weighs, heard, heard_lead}
-use Rattle.sc_calm_answers_law.specs.Deeds.{heard_doer}
 use Rattle.sc_calm_answers_law.proofs.TrueReaching.{asks_so, named_by, no_elsewhere, opens_so, runs_at, stays_so, true_flight}
 use Rattle.sc_calm_answers_law.proofs.TruePassing.{passes_so, recorded_not, recorded_on}
 

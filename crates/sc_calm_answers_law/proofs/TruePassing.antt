@@ -1,54 +1,27 @@
 -- A replica that sends a question on names one that has a replica; and whom a participant handed over asks next has one.
 use Rattle.std.proofs.Common.{◌≡◌, ℕ, Bool, false, List, [], ◌∷◌, ◌++◌, Option, Some, inl, inr, option_map, refl, sym, ◌∙◌, ap, subst}
 use Rattle.std.proofs.lemmas.Bool.{cases_Bool, cond-false}
-use Rattle.sc_base.specs.Among.{Among}
-use Rattle.sc_base.specs.declared.names.Draw.{Draw}
-use Rattle.sc_actor.specs.declared.actors.Seat.{Seat}
-use Rattle.sc_actor.specs.declared.rows.Event.TheVariants.{Deliver}
-use Rattle.sc_actor.specs.declared.rows.Input.TheVariants.{Got}
-use Rattle.sc_actor.specs.Replay.{value}
-use Rattle.sc_actor.specs.System.{row_of}
-use Rattle.sc_cmd.specs.declared.cores.Base.{Base}
-use Rattle.sc_mail.specs.declared.bodies.Mail.{Mail}
-use Rattle.sc_mail.specs.declared.bodies.MailBody.TheVariants.{TxElsewhere}
-use Rattle.sc_mail.specs.declared.roles.Role.TheVariants.{Client, Node}
-use Rattle.sc_node_table.specs.Node.{NodeState, group_of_mail, may_come, replica_of, routed}
-use Rattle.sc_node_table.specs.Replica.{ReplicaState}
+use Rattle.sc_base.specs.Definitions.{Among}
+use Rattle.sc_node_table.specs.Values.{Draw, Seat, Deliver, Got, Base, Mail, TxElsewhere, Client, Node}
+use Rattle.sc_actor.specs.Definitions.{value, row_of}
+use Rattle.sc_node_table.specs.Definitions.{NodeState, group_of_mail, may_come, replica_of, routed, ReplicaState, Place, mailed}
 use Rattle.sc_scenario.specs.declared.scenarios.Scenario.{Scenario}
-use Rattle.sc_sound.specs.Players.{Player, as_nodes, births, player_table}
-use Rattle.sc_budget_law.specs.AskingQuiet.{replicas_after}
-use Rattle.sc_calm_law.specs.Quiet.{HasReplica}
-use Rattle.sc_calm_law.specs.Totals.{Rows}
-use Rattle.sc_calm_orders_law.specs.Parts.{errand_by, errands_for}
-use Rattle.sc_calm_orders_law.specs.Scenes.{Elsewhere, Here, Question, is_watch}
-use Rattle.sc_calm_orders_law.specs.Stages.{Asks, Deal, IsAt, Recorded, SentOn, Stage}
-use Rattle.sc_calm_rows_law.specs.Groups.{view_at}
-use Rattle.sc_calm_rows_law.specs.Turns.{with_event}
-use Rattle.sc_calm_rows_law.proofs.Viewing.{view_was}
-use Rattle.sc_calm_scenes_law.specs.Scenes.{left_after, scene_at}
-use Rattle.sc_calm_answers_law.specs.TrueGoing.{GoesOnSince}
-use Rattle.sc_calm_answers_law.specs.TrueHinted.{IsHintedAt}
-use Rattle.sc_calm_answers_law.specs.Told.{ReplicasTell}
-use Rattle.sc_calm_answers_law.specs.TrueUnder.{IsTrueSince}
+use Rattle.sc_sound.specs.Definitions.{Player, as_nodes, births, player_table}
+use Rattle.sc_budget_law.specs.Definitions.{replicas_after}
+use Rattle.sc_calm_law.specs.Definitions.{HasReplica, Rows}
+use Rattle.sc_calm_orders_law.specs.Definitions.{errand_by, errands_for, Elsewhere, Here, Question, is_watch, Asks, Deal, IsAt, Recorded, SentOn, Stage}
+use Rattle.sc_calm_rows_law.specs.Definitions.{view_at, with_event}
+use Rattle.sc_calm_rows_law.proofs.Lemmas.{view_was, none_some}
+use Rattle.sc_calm_scenes_law.specs.Definitions.{left_after, scene_at, AtAnother, AtLeader, FindsReplica, AreUntouched, ComesTo, IsTaking}
+use Rattle.sc_calm_answers_law.specs.Definitions.{GoesOnSince, IsHintedAt, ReplicasTell, IsTrueSince}
 use Rattle.sc_calm_answers_law.proofs.TrueAsking.{errands_are, gone_is, mail_was, one}
 use Rattle.sc_calm_answers_law.proofs.Hinting.{errand_there, own_errand}
 use Rattle.sc_calm_answers_law.proofs.Pending.{elsewhere_at}
 use Rattle.sc_calm_answers_law.proofs.TrueSending.{AsksOn, Enters, IsSending, Mute}
-use Rattle.sc_calm_scenes_law.specs.Found.{AtAnother, AtLeader, FindsReplica}
-use Rattle.sc_calm_scenes_law.specs.Fresh.{AreUntouched}
-use Rattle.sc_calm_scenes_law.specs.Kept.{ComesTo}
-use Rattle.sc_calm_scenes_law.specs.Taken.{IsTaking}
-use Rattle.sc_calm_scenes_law.proofs.Found.{IsQuestion}
-use Rattle.sc_calm_scenes_law.proofs.Fresh.{aside_is}
-use Rattle.sc_calm_scenes_law.proofs.Keeping.{row_of_comes}
-use Rattle.sc_calm_scenes_law.proofs.Taking.{all_sent}
-use Rattle.sc_calm_scenes_law.proofs.Untouched.{asked_fresh}
-use Rattle.sc_node_table.specs.Replica.{Place}
-use Rattle.sc_node_table.specs.Rows.{mailed}
+use Rattle.sc_calm_scenes_law.proofs.Lemmas.{IsQuestion, aside_is, row_of_comes, all_sent, asked_fresh}
 use Rattle.sc_calm_answers_law.proofs.Hinting.{aside_off, no_append, question_mail}
 use Rattle.sc_calm_answers_law.proofs.TrueQuiet.{stands_there}
 use Rattle.sc_calm_answers_law.proofs.TrueSending.{leader_sends}
-use Rattle.sc_calm_rows_law.proofs.Beginning.{none_some}
 use Rattle.sc_calm_answers_law.proofs.Hints.{same_hint}
 
 asks_not : (deal other : Deal) (to : ℕ) → Asks deal to ≡ SentOn other → ⊥

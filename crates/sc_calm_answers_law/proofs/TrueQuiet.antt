@@ -1,20 +1,16 @@
 -- What stands in a quiet journal: whoever runs leads a group that stands, and so does its successor.
 use Rattle.std.proofs.Common.{◌≡◌, ℕ, true, true≢false, Option, Some, None, inl, inr, sym, ◌∙◌, ap, subst}
-use Rattle.sc_base.specs.declared.names.Draw.{Draw}
-use Rattle.sc_cmd.specs.declared.links.Route.{Route}
-use Rattle.sc_base.specs.Roster.{least_of}
-use Rattle.sc_machine_table.specs.Group.{Group}
-use Rattle.sc_node_table.specs.Replica.{ReplicaState}
+use Rattle.sc_node_table.specs.Values.{Draw, Route}
+use Rattle.sc_base.specs.Definitions.{least_of}
+use Rattle.sc_machine_table.specs.Definitions.{Group}
+use Rattle.sc_node_table.specs.Definitions.{ReplicaState}
 use Rattle.sc_scenario.specs.declared.scenarios.Scenario.{Scenario}
-use Rattle.sc_sound.specs.Players.{as_nodes, births}
-use Rattle.sc_calm_law.specs.Quiet.{HasReplica, IsNewest, IsQuiet, StandsQuiet, View}
-use Rattle.sc_calm_law.specs.Totals.{Rows}
-use Rattle.sc_calm_answers_law.specs.Cuts.{AreKnown}
-use Rattle.sc_calm_answers_law.specs.Settings.{AreReachable}
-use Rattle.sc_calm_scenes_law.specs.Fresh.{IsThere}
-use Rattle.sc_budget_law.specs.AskingQuiet.{replicas_after}
-use Rattle.sc_calm_answers_law.specs.TrueUnder.{AreSeen}
-use Rattle.sc_following_law.proofs.Leads.{least_in}
+use Rattle.sc_sound.specs.Definitions.{as_nodes, births}
+use Rattle.sc_calm_law.specs.Definitions.{HasReplica, IsNewest, IsQuiet, StandsQuiet, View, Rows}
+use Rattle.sc_calm_answers_law.specs.Definitions.{AreKnown, AreReachable, AreSeen}
+use Rattle.sc_calm_scenes_law.specs.Definitions.{IsThere}
+use Rattle.sc_budget_law.specs.Definitions.{replicas_after}
+use Rattle.sc_following_law.proofs.Lemmas.{least_in}
 
 no_route : (into : Route) → ◌≡◌ {A = Option Route} None (Some into) → ⊥
 no_route into e = cc

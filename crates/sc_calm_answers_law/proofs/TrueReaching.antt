@@ -1,41 +1,23 @@
 -- So questions go to nodes that have replicas, after each delivery.
 use Rattle.std.proofs.Common.{◌≡◌, ℕ, true, List, [], ◌∷◌, ◌++◌, Option, Some, ◌⊎◌, inl, inr, refl, sym, ◌∙◌, ap, subst}
-use Rattle.sc_base.specs.Among.{Among, Each}
-use Rattle.sc_base.specs.declared.names.Draw.{Draw}
-use Rattle.sc_actor.specs.declared.actors.Seat.{Seat}
-use Rattle.sc_actor.specs.declared.rows.Event.TheVariants.{Deliver}
-use Rattle.sc_actor.specs.System.{numbers_of, row_of}
-use Rattle.sc_cmd.specs.declared.commands.Command.{Command}
-use Rattle.sc_cmd.specs.declared.cores.Base.{Base}
-use Rattle.sc_machine_table.specs.Group.{Group}
-use Rattle.sc_mail.specs.declared.bodies.Mail.{Mail}
-use Rattle.sc_mail.specs.declared.bodies.MailBody.TheVariants.{TxElsewhere}
-use Rattle.sc_base.specs.Roster.{least_of}
-use Rattle.sc_node_table.specs.Node.{group_of_mail}
-use Rattle.sc_node_table.specs.Replica.{ReplicaState}
-use Rattle.sc_paxos_words.specs.declared.flights.Flight.{Flight}
-use Rattle.sc_paxos_words.proofs.ListLemmas.{Each-among}
+use Rattle.sc_base.specs.Definitions.{Among, Each, least_of}
+use Rattle.sc_node_table.specs.Values.{Draw, Seat, Deliver, Command, Base, Mail, TxElsewhere, Flight}
+use Rattle.sc_actor.specs.Definitions.{numbers_of, row_of, mails, numbered}
+use Rattle.sc_machine_table.specs.Definitions.{Group}
+use Rattle.sc_node_table.specs.Definitions.{group_of_mail, ReplicaState}
+use Rattle.sc_paxos_words.proofs.Lemmas.{Each-among}
 use Rattle.sc_scenario.specs.declared.scenarios.Scenario.{Scenario}
-use Rattle.sc_sound.specs.Players.{Player, as_nodes, births, player_table}
-use Rattle.sc_budget_law.specs.AskingQuiet.{replicas_after}
-use Rattle.sc_calm_law.specs.Quiet.{HasReplica}
-use Rattle.sc_calm_law.specs.Totals.{Rows}
-use Rattle.sc_calm_answers_law.specs.Votes.{IsTrueEntry}
-use Rattle.sc_calm_orders_law.specs.Parts.{errand_by, errands_for, works}
-use Rattle.sc_calm_orders_law.specs.Scenes.{Asking, Elsewhere, Errand, First, Here, Next, Opens, Question, Records, Work, is_watch}
-use Rattle.sc_calm_orders_law.specs.Stages.{Asks, Deal, IsAt, Ordered, SentOn, Stage}
-use Rattle.sc_calm_rows_law.specs.Groups.{view_at}
-use Rattle.sc_calm_rows_law.specs.Turns.{with_event}
-use Rattle.sc_calm_scenes_law.specs.Scenes.{is_running, left_after, scene_at}
-use Rattle.sc_calm_scenes_law.proofs.Newest.{lead_runs}
-use Rattle.sc_calm_answers_law.specs.Deeds.{HasDone, doer, opened}
-use Rattle.sc_calm_answers_law.specs.TrueGoing.{GoesOnSince}
-use Rattle.sc_calm_answers_law.specs.TrueHinted.{IsHintedAt}
-use Rattle.sc_calm_answers_law.specs.Told.{ReplicasTell}
-use Rattle.sc_calm_answers_law.specs.TrueUnder.{IsTrueSince}
+use Rattle.sc_sound.specs.Definitions.{Player, as_nodes, births, player_table}
+use Rattle.sc_budget_law.specs.Definitions.{replicas_after}
+use Rattle.sc_calm_law.specs.Definitions.{HasReplica, Rows}
+use Rattle.sc_calm_answers_law.specs.Definitions.{IsTrueEntry, HasDone, doer, opened, GoesOnSince, IsHintedAt, ReplicasTell, IsTrueSince}
+use Rattle.sc_calm_orders_law.specs.Definitions.{errand_by, errands_for, works, Elsewhere, First, Here, Opens, Work, Asks, Deal, IsAt, Ordered, SentOn, Stage}
+use Rattle.sc_calm_rows_law.specs.Definitions.{view_at, with_event}
+use Rattle.sc_calm_scenes_law.specs.Definitions.{is_running, left_after, scene_at}
+use Rattle.sc_calm_scenes_law.proofs.Lemmas.{lead_runs}
 use Rattle.sc_calm_answers_law.proofs.TrueAsking.{Nothing, Sending, Sends, errands_are, gone_is, leader_row, mail_was, one}
 use Rattle.sc_calm_answers_law.proofs.Doers.{lead_works}
-use Rattle.sc_calm_answers_law.proofs.Hinting.{elsewhere_mail, errand_there, hears_least, one_right, opens_least, own_errand}
+use Rattle.sc_calm_answers_law.proofs.Hinting.{elsewhere_mail, errand_there, one_right, opens_least, own_errand}
 use Rattle.sc_calm_answers_law.proofs.Leads.{is_work_of}
 use Rattle.sc_calm_answers_law.proofs.Pending.{elsewhere_at}
 use Rattle.sc_calm_answers_law.proofs.TrueSending.{AsksOn, Enters, IsSending, Mute}
@@ -44,7 +26,6 @@ use Rattle.sc_calm_answers_law.proofs.Hints.{at_seat, front, goes_to, least_at, 
 use Rattle.sc_calm_answers_law.proofs.Since.{coords}
 use Rattle.sc_calm_answers_law.proofs.Parties.{Coordinates}
 use Rattle.sc_calm_answers_law.proofs.Opened.{IsOpened}
-use Rattle.sc_actor.specs.Mail.{mails, numbered}
 use Rattle.std.proofs.lemmas.Option.{same_Some}
 
 module _ (tells : ReplicasTell) (words : ℕ → ℕ → ℕ × ℕ) (scenario : Scenario) (first : Base) (journal quiet rows : Rows) (seat : Seat Player) (number : ℕ) (stage : Stage) (g : GoesOnSince words scenario first journal quiet rows seat number stage)

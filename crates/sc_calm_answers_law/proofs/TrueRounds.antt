@@ -1,43 +1,22 @@
 -- A row of a group leaves it without rounds, where its leader has at most one command in flight, by which nobody comes.
 use Rattle.std.proofs.Common.{◌≡◌, ℕ, zero, suc, ◌+◌, ◌≤◌, ◌==◌, true, true≢false, is_some, List, [], ◌∷◌, ◌++◌, Option, Some, None, ◌⊎◌, inl, inr, option_map, refl, sym, ◌∙◌, ap, subst, arith}
 use Rattle.std.proofs.lemmas.Bool.{cases_eq, cases_lt, cond_both}
-use Rattle.sc_base.specs.Among.{Each}
-use Rattle.sc_base.specs.declared.names.Ballot.{Ballot}
-use Rattle.sc_actor.specs.declared.actors.Seat.{Seat}
-use Rattle.sc_actor.specs.declared.rows.Event.{Event}
-use Rattle.sc_actor.specs.System.{row_of}
-use Rattle.sc_cmd.specs.declared.commands.Command.{Command}
-use Rattle.sc_cmd.specs.declared.commands.Command.TheVariants.{Noop, Call, Join, Leave, Split, Begin, Prepared, RecordVote, GiveUp, Finish, Watched, RecordWatch}
-use Rattle.sc_cmd.specs.declared.cores.Base.{Base}
-use Rattle.sc_cmd.specs.declared.orders.OrderLine.{OrderLine}
-use Rattle.sc_base.specs.Roster.{is_member}
-use Rattle.sc_node_table.specs.Pump.{is_act}
-use Rattle.sc_node_table.specs.Replica.{Place, ReplicaState, flying, listed, next, taken_at}
-use Rattle.sc_node_table.specs.Slots.{at_slot}
-use Rattle.sc_orderly_law.specs.Timely.{AreInTime}
-use Rattle.sc_paxos_words.specs.declared.flights.Flight.{Flight}
-use Rattle.sc_paxos_words.specs.Leaders.{flight_at}
-use Rattle.sc_paxos_words.proofs.ListLemmas.{Each-among, Each-append, Each-weaker, find_found}
-use Rattle.sc_sound.specs.Players.{Player, player_table}
-use Rattle.sc_following_law.specs.Following.{Asks, Course, Installs, Mark, Prepares, Progress, Promises, Sets, Tells, Votes, members_at}
-use Rattle.sc_following_law.specs.Hints.{Tellers}
-use Rattle.sc_following_law.specs.Leading.{ActsAlone, IsLeadOf}
-use Rattle.sc_following_law.specs.Counted.{IsLed}
-use Rattle.sc_following_law.specs.Orderly.{IsOrderly}
-use Rattle.sc_following_law.specs.Rows.{IsOffer, IsRow, answered, told_from, told_of, welcome}
-use Rattle.sc_calm_law.specs.Charts.{players}
-use Rattle.sc_calm_law.specs.Totals.{Rows}
-use Rattle.sc_calm_orders_law.specs.Parts.{work_by}
-use Rattle.sc_calm_orders_law.specs.Scenes.{Work}
-use Rattle.sc_calm_rows_law.specs.Groups.{marks_at, progress_at, view_at}
-use Rattle.sc_calm_rows_law.specs.Steps.{led_course}
-use Rattle.sc_calm_rows_law.specs.Turns.{with_event}
-use Rattle.sc_calm_rows_law.proofs.Marking.{rows_are}
-use Rattle.sc_calm_scenes_law.specs.Quiet.{IsWork}
-use Rattle.sc_calm_groups_law.specs.Kinds.{IsGroupRow, IsLedStep, RowElects, RowLeads, RowMakes, RowPasses, RowRests, RowTakes}
-use Rattle.sc_calm_groups_law.specs.Led.{Ends, IsWellLed}
-use Rattle.sc_calm_answers_law.specs.Votes.{IsOrdersAlone}
-use Rattle.sc_calm_answers_law.specs.Settled.{HasNoRounds, IsNoRound}
+use Rattle.sc_base.specs.Definitions.{Each, is_member}
+use Rattle.sc_node_table.specs.Values.{Ballot, Seat, Event, Command, Noop, Call, Join, Leave, Split, Begin, Prepared, RecordVote, GiveUp, Finish, Watched, RecordWatch, Base, OrderLine, Flight}
+use Rattle.sc_actor.specs.Definitions.{row_of}
+use Rattle.sc_node_table.specs.Definitions.{is_act, ReplicaState, flying, listed, next, at_slot}
+use Rattle.sc_orderly_law.specs.Definitions.{AreInTime}
+use Rattle.sc_paxos_words.specs.Definitions.{flight_at}
+use Rattle.sc_paxos_words.proofs.Lemmas.{Each-among, Each-append, Each-weaker, find_found}
+use Rattle.sc_sound.specs.Definitions.{Player, player_table}
+use Rattle.sc_following_law.specs.Definitions.{Asks, Course, Installs, Mark, Prepares, Progress, Promises, Sets, Tells, Votes, members_at, Tellers, ActsAlone, IsLeadOf, IsLed, IsOrderly, IsOffer, IsRow, answered, told_from, told_of, welcome}
+use Rattle.sc_calm_law.specs.Definitions.{players, Rows}
+use Rattle.sc_calm_orders_law.specs.Definitions.{work_by, Work}
+use Rattle.sc_calm_rows_law.specs.Definitions.{progress_at, view_at, led_course, with_event}
+use Rattle.sc_calm_rows_law.proofs.Lemmas.{rows_are}
+use Rattle.sc_calm_scenes_law.specs.Definitions.{IsWork}
+use Rattle.sc_calm_groups_law.specs.Definitions.{IsGroupRow, IsLedStep, RowElects, RowLeads, RowMakes, RowPasses, RowRests, RowTakes, Ends, IsWellLed}
+use Rattle.sc_calm_answers_law.specs.Definitions.{IsOrdersAlone, HasNoRounds, IsNoRound}
 
 -- ---- lists of marks
 

@@ -1,50 +1,18 @@
 -- Whom a leader asks in a delivery: the node that it is sent to, or whom an entry names that it executes.
 use Rattle.std.proofs.Common.{◌≡◌, ℕ, Bool, true, false, List, [], ◌∷◌, Some, None, inl, inr, refl, sym, ◌∙◌, ap, subst}
-use Rattle.sc_base.specs.Among.{Among}
-use Rattle.sc_base.specs.declared.names.Ballot.{Ballot}
-use Rattle.sc_base.specs.declared.names.Draw.{Draw}
-use Rattle.sc_cmd.specs.declared.commands.Command.{Command}
-use Rattle.sc_machine_table.specs.Machine.{applied}
-use Rattle.sc_mail.specs.declared.bodies.Mail.{Mail}
-use Rattle.sc_mail.specs.declared.bodies.MailBody.{MailBody}
-use Rattle.sc_mail.specs.declared.bodies.MailBody.TheVariants.{Request, Answer, Prepare, Promise, Accept, Accepted, Nack, Learn, Ask, Install, TxPrepare, TxVote, TxOutcome, TxElsewhere, TxWatch, TxWatched, Told as ToldMail}
-use Rattle.sc_actor.specs.declared.actors.Seat.{Seat}
-use Rattle.sc_node_table.specs.Node.{group_of_mail}
-use Rattle.sc_node_table.specs.Replica.{ReplicaState, Place}
-use Rattle.sc_node_table.specs.Rows.{mailed}
-use Rattle.sc_paxos_words.specs.declared.flights.Flight.{Flight}
-use Rattle.sc_sound.specs.Players.{Player}
-use Rattle.sc_calm_law.specs.Totals.{Rows}
-use Rattle.sc_calm_orders_law.specs.Parts.{bond_of, errand_by, is_yes, is_cast_yes, work_by, works}
-use Rattle.sc_calm_orders_law.specs.Running.{FliesLone, RunsAlone}
-use Rattle.sc_calm_orders_law.specs.Scenes.{Answers, Bound, Elsewhere, Errand, Question, Reply, Result, Here, Records, Ends, Unbound, Work}
-use Rattle.sc_calm_orders_law.specs.Stages.{IsUnderWay}
-use Rattle.sc_calm_orders_law.specs.Tables.{IsUnbound, MayFile, Works}
-use Rattle.sc_calm_orders_law.proofs.Counting.{votes-count-alone}
-use Rattle.sc_calm_orders_law.proofs.Filing.{tables-file, tables-ask-on}
-use Rattle.sc_calm_orders_law.proofs.Lists.{cases-draw}
-use Rattle.sc_calm_orders_law.proofs.Resting.{tables-rest, promises-keep}
-use Rattle.sc_calm_orders_law.proofs.Runs.{entries-run-alone}
-use Rattle.sc_calm_scenes_law.specs.Asked.{Expects, IsAsking, IsWaiting}
-use Rattle.sc_calm_scenes_law.specs.Found.{Aborted, Changed, Decided, Ended, FindsFlight, Heard, Late, LeaderFinds, Leaves, Opened, Voted}
-use Rattle.sc_calm_scenes_law.specs.Kept.{ComesToLeader}
-use Rattle.sc_calm_scenes_law.specs.Scenes.{scene_at}
-use Rattle.sc_calm_scenes_law.proofs.Keeping.{row_of_comes}
-use Rattle.sc_calm_scenes_law.proofs.Reaching.{answers_reach, errand_among}
-use Rattle.sc_calm_scenes_law.proofs.Viewing.{tell}
+use Rattle.sc_base.specs.Definitions.{Among, Each}
+use Rattle.sc_node_table.specs.Values.{Ballot, Draw, Command, Mail, MailBody, Request, Answer, Prepare, Promise, Accept, Accepted, Nack, Learn, Ask, Install, TxPrepare, TxVote, TxOutcome, TxElsewhere, TxWatch, TxWatched, Told as ToldMail, Seat, Flight}
+use Rattle.sc_machine_table.specs.Definitions.{applied, Group}
+use Rattle.sc_node_table.specs.Definitions.{group_of_mail, ReplicaState, Place, mailed, name_of, before_of, went_on}
+use Rattle.sc_sound.specs.Definitions.{Player}
+use Rattle.sc_calm_law.specs.Definitions.{Rows}
+use Rattle.sc_calm_orders_law.specs.Definitions.{bond_of, errand_by, is_yes, is_cast_yes, work_by, works, FliesLone, RunsAlone, Answers, Bound, Elsewhere, Errand, Question, Reply, Result, Here, Records, Ends, Unbound, Work, IsUnderWay, IsUnbound, MayFile, Works, EntryLeaves, results, errands_for, is_watch, Asking, Bond, First, IsOnly, IsNone, Lone, Next, Turn}
+use Rattle.sc_calm_orders_law.proofs.Lemmas.{votes-count-alone, tables-file, tables-ask-on, cases-draw, tables-rest, promises-keep, entries-run-alone}
+use Rattle.sc_calm_scenes_law.specs.Definitions.{Expects, IsAsking, IsWaiting, Aborted, Changed, Decided, Ended, FindsFlight, Heard, Late, LeaderFinds, Leaves, Opened, Voted, ComesToLeader, scene_at, IsEntry}
+use Rattle.sc_calm_scenes_law.proofs.Lemmas.{row_of_comes, answers_reach, errand_among, tell}
 use Rattle.sc_calm_answers_law.proofs.Late.{untouched, asks_leave, votes_late, learnt_late, sent_late}
-use Rattle.sc_paxos_words.proofs.ListLemmas.{Each-among}
-use Rattle.sc_base.specs.Among.{Each}
-use Rattle.sc_calm_orders_law.specs.Entries.{EntryLeaves}
-use Rattle.sc_calm_orders_law.specs.Rows.{results}
-use Rattle.sc_calm_orders_law.specs.Parts.{errands_for}
-use Rattle.sc_calm_orders_law.specs.Scenes.{is_watch, Asking, Bond, First, IsOnly, IsNone, Lone, Next, Turn}
+use Rattle.sc_paxos_words.proofs.Lemmas.{Each-among}
 use Rattle.std.specs.Prelude.{cond}
-use Rattle.sc_node_table.specs.Replica.{name_of}
-use Rattle.sc_machine_table.specs.Group.{Group}
-use Rattle.sc_node_table.specs.Spoken.{before_of}
-use Rattle.sc_node_table.specs.Spoken.{before_of, went_on}
-use Rattle.sc_calm_scenes_law.specs.Counted.{IsEntry}
 
 -- ---- errands
 

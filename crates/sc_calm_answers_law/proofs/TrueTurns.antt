@@ -1,20 +1,14 @@
 -- Turns, votes and offers of one transaction.
 use Rattle.std.proofs.Common.{◌≡◌, ℕ, Bool, false, true≢false, Option, Some, None, refl, sym, ◌∙◌, ap}
-use Rattle.sc_base.specs.declared.names.Draw.{Draw}
-use Rattle.sc_base.proofs.NameLemmas.{same_name}
-use Rattle.sc_cmd.specs.Cores.{is_alone}
-use Rattle.sc_cmd.specs.declared.bodies.Body.{Body}
+use Rattle.sc_node_table.specs.Values.{Draw, Body, Offer, Prepared, Core, Coordinating}
+use Rattle.sc_base.proofs.Lemmas.{same_name}
+use Rattle.sc_cmd.specs.Definitions.{is_alone}
 use Rattle.sc_cmd.specs.declared.bodies.Body.TheVariants as At
-use Rattle.sc_cmd.specs.declared.bodies.Offer.{Offer}
-use Rattle.sc_cmd.specs.declared.commands.Command.TheVariants.{Prepared}
-use Rattle.sc_cmd.specs.declared.cores.Core.{Core}
-use Rattle.sc_cmd.specs.declared.cores.Lock.TheVariants.{Coordinating}
-use Rattle.sc_ring_law.specs.Stories.{Story, offer_for, offer_with, unsigned}
+use Rattle.sc_ring_law.specs.Definitions.{Story, offer_for, offer_with, unsigned}
 use Rattle.sc_scenario.specs.declared.scenarios.Scenario.{Scenario}
-use Rattle.sc_calm_law.specs.Totals.{Rows}
-use Rattle.sc_calm_orders_law.specs.Parts.{turn_of}
-use Rattle.sc_calm_orders_law.specs.Scenes.{Asking, First, Lone, Next, Records, Turn, is_watch}
-use Rattle.sc_calm_answers_law.specs.Told.{IsAllowedBy}
+use Rattle.sc_calm_law.specs.Definitions.{Rows}
+use Rattle.sc_calm_orders_law.specs.Definitions.{turn_of, Asking, First, Lone, Next, Records, Turn, is_watch}
+use Rattle.sc_calm_answers_law.specs.Definitions.{IsAllowedBy}
 use Rattle.sc_calm_answers_law.proofs.Fits.{none_of}
 use Rattle.sc_calm_answers_law.proofs.Opened.{opening_refused}
 

@@ -1,42 +1,20 @@
 -- What an event of a player does to its replica of a group that is well led: nothing, or the replica is born or made, or takes a mail or an order.
 use Rattle.std.proofs.Common.{◌≡◌, ℕ, true≢false, List, [], Option, Some, None, inl, inr, refl, sym, ◌∙◌, ap, subst, append-nil}
 use Rattle.std.proofs.lemmas.Bool.{cases_Bool}
-use Rattle.sc_base.specs.Same.{same_draw}
-use Rattle.sc_base.specs.declared.names.Draw.{Draw}
-use Rattle.sc_base.proofs.NameLemmas.{draw_is, same_name}
-use Rattle.sc_cmd.specs.declared.cores.Base.{Base}
-use Rattle.sc_cmd.specs.declared.orders.OrderLine.{OrderLine}
-use Rattle.sc_mail.specs.declared.bodies.Mail.{Mail}
-use Rattle.sc_mail.specs.declared.roles.Role.TheVariants.{Node, Client}
-use Rattle.sc_actor.specs.declared.actors.Seat.{Seat}
-use Rattle.sc_actor.specs.declared.rows.Event.{Event}
-use Rattle.sc_actor.specs.declared.rows.Event.TheVariants.{Deliver, Tick, Go, Told, Crash, Drop, Again}
-use Rattle.sc_actor.specs.Mail.{mails}
-use Rattle.sc_actor.specs.Replay.{value}
-use Rattle.sc_actor.specs.System.{row_of}
-use Rattle.sc_orderly_law.specs.Orderly.{IsTidy, IsCalmEvent}
-use Rattle.sc_orderly_law.specs.Timely.{AreInTime}
-use Rattle.sc_orderly_law.proofs.InTime.{in_time_before, in_time_tidy}
-use Rattle.sc_orderly_law.proofs.Resting.{takes_first, is_born-from}
-use Rattle.sc_node_table.specs.Node.{NodeState, replica_of, group_of_mail, may_come, group_of_order}
-use Rattle.sc_node_table.specs.Ordering.{ordered_row}
-use Rattle.sc_node_table.specs.Replica.{ReplicaState, born_replica}
-use Rattle.sc_node_table.specs.Rows.{mailed, made_by}
-use Rattle.sc_node_table.specs.Slots.{slots_ahead}
-use Rattle.sc_sound.specs.Players.{Player, player_table}
-use Rattle.sc_calm_law.specs.Charts.{players}
-use Rattle.sc_calm_law.specs.Totals.{Rows}
-use Rattle.sc_following_law.specs.Following.{mark_of, Sets}
-use Rattle.sc_following_law.specs.Hints.{Tellers}
-use Rattle.sc_calm_rows_law.specs.Groups.{view_at, mark_in, taken_mark, begun_course}
-use Rattle.sc_calm_rows_law.specs.Mailed.{TakesMail, HoldsReplica}
-use Rattle.sc_calm_rows_law.specs.Turns.{IsSeat, with_event, IsReplicasRow, LeavesAlone, LeavesOrBears}
-use Rattle.sc_calm_rows_law.proofs.Turning.{others_idle, rows_replicas}
-use Rattle.sc_calm_rows_law.proofs.Viewing.{view_was}
-use Rattle.sc_calm_rows_law.proofs.WellNodes.{Plays, Found, found_well, replay_well}
-use Rattle.sc_calm_groups_law.specs.Led.{Ends}
-use Rattle.sc_calm_groups_law.specs.Logged.{IsLogsState}
-use Rattle.sc_calm_groups_law.specs.Through.{AreWellBorn, Delivers, HasOneLog, IsSentSo}
+use Rattle.sc_base.specs.Definitions.{same_draw}
+use Rattle.sc_node_table.specs.Values.{Draw, Base, OrderLine, Mail, Node, Client, Seat, Event, Deliver, Tick, Go, Crash, Drop, Again}
+use Rattle.sc_base.proofs.Lemmas.{draw_is, same_name}
+use Rattle.sc_actor.specs.declared.rows.Event.TheVariants.{Told}
+use Rattle.sc_actor.specs.Definitions.{mails, value, row_of}
+use Rattle.sc_orderly_law.specs.Definitions.{IsTidy, IsCalmEvent, AreInTime}
+use Rattle.sc_orderly_law.proofs.Lemmas.{in_time_before, in_time_tidy, takes_first, is_born-from}
+use Rattle.sc_node_table.specs.Definitions.{NodeState, replica_of, group_of_mail, may_come, group_of_order, ordered_row, ReplicaState, born_replica, mailed, made_by, slots_ahead}
+use Rattle.sc_sound.specs.Definitions.{Player, player_table}
+use Rattle.sc_calm_law.specs.Definitions.{players, Rows}
+use Rattle.sc_following_law.specs.Definitions.{mark_of, Sets, Tellers}
+use Rattle.sc_calm_rows_law.specs.Definitions.{view_at, mark_in, taken_mark, begun_course, TakesMail, HoldsReplica, IsSeat, with_event, IsReplicasRow, LeavesAlone, LeavesOrBears}
+use Rattle.sc_calm_rows_law.proofs.Lemmas.{others_idle, rows_replicas, view_was, Plays, Found, found_well, replay_well}
+use Rattle.sc_calm_groups_law.specs.Definitions.{Ends, IsLogsState, AreWellBorn, Delivers, HasOneLog, IsSentSo}
 use Rattle.sc_calm_answers_law.proofs.Playing.{plays_of}
 
 -- a node of a seat takes this mail of the group, for its replica

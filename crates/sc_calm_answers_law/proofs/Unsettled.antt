@@ -1,42 +1,22 @@
 -- Mail of a transaction that is under way comes unsettled.
 use Rattle.std.proofs.Common.{◌≡◌, ℕ, Bool, true, false, List, Option, Some, None, option_map, refl, sym, ◌∙◌, ap, subst}
 use Rattle.std.specs.List.{find}
-use Rattle.sc_base.specs.Among.{Among}
-use Rattle.sc_base.specs.Same.{same_draw}
-use Rattle.sc_base.specs.declared.names.Draw.{Draw}
-use Rattle.sc_actor.specs.declared.actors.Seat.{Seat}
-use Rattle.sc_actor.specs.declared.rows.Event.TheVariants.{Deliver}
-use Rattle.sc_actor.proofs.WalkLemmas.{lawful-prefix}
-use Rattle.sc_cmd.specs.declared.cores.Base.{Base}
-use Rattle.sc_cmd.specs.declared.votes.Outcome.{Outcome}
-use Rattle.sc_mail.specs.declared.bodies.Mail.{Mail}
-use Rattle.sc_mail.specs.declared.bodies.MailBody.{MailBody}
-use Rattle.sc_mail.specs.declared.bodies.MailBody.TheVariants.{Accept, Accepted, Answer, Ask, Install, Learn, Nack, Prepare, Promise, Request, TxElsewhere, TxOutcome, TxPrepare, TxVote, TxWatch, TxWatched, Told as ToldMail}
-use Rattle.sc_mail.specs.declared.roles.Role.TheVariants.{Node}
-use Rattle.sc_machine_table.specs.Group.{Group}
-use Rattle.sc_machine_table.specs.Orders.{locked_in}
-use Rattle.sc_machine_table.specs.Splits.{is_locked_in}
-use Rattle.sc_node_table.specs.Node.{NodeState, replica_of}
-use Rattle.sc_node_table.specs.Replica.{ReplicaState}
-use Rattle.sc_node_table.specs.Transactions.{gone_vote, noted_outcome, standing_by, standing_vote}
-use Rattle.sc_scenario.specs.Valid.{ValidScenariosAreBounded}
+use Rattle.sc_base.specs.Definitions.{Among, same_draw}
+use Rattle.sc_node_table.specs.Values.{Draw, Seat, Deliver, Base, Outcome, Mail, MailBody, Accept, Accepted, Answer, Ask, Install, Learn, Nack, Prepare, Promise, Request, TxElsewhere, TxOutcome, TxPrepare, TxVote, TxWatch, TxWatched, Told as ToldMail, Node}
+use Rattle.sc_actor.proofs.Lemmas.{lawful-prefix}
+use Rattle.sc_machine_table.specs.Definitions.{Group, locked_in, is_locked_in}
+use Rattle.sc_node_table.specs.Definitions.{NodeState, ReplicaState, gone_vote, noted_outcome, standing_by, standing_vote}
+use Rattle.sc_scenario.specs.Definitions.{ValidScenariosAreBounded}
 use Rattle.sc_scenario.specs.declared.scenarios.Scenario.{Scenario}
-use Rattle.sc_sound.specs.Players.{Lawful, Player, as_nodes, births, schedule, system_of}
-use Rattle.sc_names_law.specs.Fresh.{IsUsed, NamesAreDrawn}
-use Rattle.sc_names_law.specs.Names.{CoreNames}
-use Rattle.sc_calm_law.specs.Totals.{Rows}
-use Rattle.sc_calm_orders_law.specs.Parts.{bond_of, errand_by, is_cast_yes, is_yes}
-use Rattle.sc_calm_orders_law.specs.Scenes.{Asking, Errand, Here, Question, Reply}
-use Rattle.sc_calm_orders_law.specs.Stages.{Asks, Deal, Replied, Stage}
-use Rattle.sc_calm_rows_law.specs.Groups.{view_at}
-use Rattle.sc_calm_rows_law.proofs.Viewing.{view_was}
-use Rattle.sc_calm_scenes_law.specs.Fresh.{AreUntouched, IsThere}
-use Rattle.sc_calm_scenes_law.specs.Scenes.{scene_at}
-use Rattle.sc_calm_scenes_law.proofs.Untouched.{asked_fresh}
-use Rattle.sc_calm_answers_law.specs.Beside.{IsUnsettled}
-use Rattle.sc_calm_answers_law.specs.Deeds.{HasDone, doer, opened}
-use Rattle.sc_calm_answers_law.specs.TrueUnder.{IsTrueSince}
-use Rattle.sc_calm_answers_law.specs.Unsettled.{MailComesUnsettled, TakesSince}
+use Rattle.sc_sound.specs.Definitions.{Lawful, Player, as_nodes, births, schedule, system_of}
+use Rattle.sc_names_law.specs.Definitions.{IsUsed, NamesAreDrawn, CoreNames}
+use Rattle.sc_calm_law.specs.Definitions.{Rows}
+use Rattle.sc_calm_orders_law.specs.Definitions.{bond_of, errand_by, is_cast_yes, is_yes, Asking, Errand, Here, Question, Reply, Asks, Deal, Replied, Stage}
+use Rattle.sc_calm_rows_law.specs.Definitions.{view_at}
+use Rattle.sc_calm_rows_law.proofs.Lemmas.{view_was}
+use Rattle.sc_calm_scenes_law.specs.Definitions.{AreUntouched, IsThere, scene_at}
+use Rattle.sc_calm_scenes_law.proofs.Lemmas.{asked_fresh}
+use Rattle.sc_calm_answers_law.specs.Definitions.{IsUnsettled, HasDone, doer, opened, IsTrueSince, MailComesUnsettled, TakesSince}
 use Rattle.sc_calm_answers_law.proofs.Names.{undecided, unvoted, used_in}
 use Rattle.sc_calm_answers_law.proofs.Parties.{coordinates, decided_same, lead_bond}
 use Rattle.sc_calm_answers_law.proofs.Pending.{goes_to, is_pending, question_at, reply_at}

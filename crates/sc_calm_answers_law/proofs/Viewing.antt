@@ -1,8 +1,8 @@
 -- What a quiet group is does not depend on how its replicas are seen.
 use Rattle.std.proofs.Common.{◌≡◌, ℕ, Some, sym, ◌∙◌}
-use Rattle.sc_base.specs.declared.names.Draw.{Draw}
-use Rattle.sc_node_table.specs.Replica.{ReplicaState}
-use Rattle.sc_calm_law.specs.Quiet.{View, HasReplica, IsNewest, IsLinked, StandsQuiet, IsGoneQuiet}
+use Rattle.sc_node_table.specs.Values.{Draw}
+use Rattle.sc_node_table.specs.Definitions.{ReplicaState}
+use Rattle.sc_calm_law.specs.Definitions.{View, HasReplica, IsNewest, IsLinked, StandsQuiet, IsGoneQuiet}
 
 module _ (one other : View) (same : (name : Draw) (node : ℕ) → other name node ≡ one name node) where
   has_as : (name : Draw) (node : ℕ) → HasReplica one name node → HasReplica other name node

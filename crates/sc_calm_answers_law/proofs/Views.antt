@@ -2,37 +2,25 @@
 use Rattle.std.proofs.Common.{◌≡◌, ℕ, ◌≤◌, eqb, cond, true, false, Bool, List, [], ◌∷◌, ◌++◌, find, map, Option, Some, None, inl, inr, refl, sym, ◌∙◌, ap, subst, arith}
 use Rattle.std.proofs.lemmas.Bool.{eqb-true}
 use Rattle.std.proofs.lemmas.Option.{none-some}
-use Rattle.sc_base.specs.Among.{Among}
-use Rattle.sc_base.specs.declared.names.Draw.{Draw}
-use Rattle.sc_mail.specs.declared.roles.Role.TheVariants.{Node, Client}
-use Rattle.sc_base.specs.Limits.{client_actor}
-use Rattle.sc_cmd.specs.declared.orders.OrderLine.{OrderLine}
-use Rattle.sc_mail.specs.declared.bodies.Mail.{Mail}
-use Rattle.sc_actor.specs.declared.actors.Seat.{Seat}
-use Rattle.sc_actor.specs.declared.rows.Input.{Input}
-use Rattle.sc_actor.specs.Replay.{value, acted, replay, input_of}
-use Rattle.sc_client_table.specs.Client.{Client as ClientState, born_client}
-use Rattle.sc_client_table.specs.Table.{table}
-use Rattle.sc_orderly_law.proofs.Seats.{seat_found}
-use Rattle.sc_paxos_law.proofs.Among.{Among-either, from_map}
-use Rattle.sc_paxos_words.proofs.ListLemmas.{find_found}
-use Rattle.sc_node_table.specs.Node.{replica_of, born_node}
-use Rattle.sc_node_table.specs.Replica.{ReplicaState}
-use Rattle.sc_node_table.specs.Slots.{numbers_from}
+use Rattle.sc_base.specs.Definitions.{Among, client_actor}
+use Rattle.sc_node_table.specs.Values.{Draw, Node, Client, OrderLine, Mail, Seat, Input}
+use Rattle.sc_actor.specs.Definitions.{value, acted, replay, input_of}
+use Rattle.sc_client_table.specs.Definitions.{Client as ClientState, born_client, table}
+use Rattle.sc_orderly_law.proofs.Lemmas.{seat_found}
+use Rattle.sc_paxos_law.proofs.Lemmas.{Among-either, from_map}
+use Rattle.sc_paxos_words.proofs.Lemmas.{find_found}
+use Rattle.sc_node_table.specs.Definitions.{replica_of, born_node, ReplicaState, numbers_from}
 use Rattle.sc_scenario.specs.declared.scenarios.Asks.{Asks}
 use Rattle.sc_scenario.specs.declared.scenarios.Scenario.{Scenario}
-use Rattle.sc_scenario.specs.Valid.{IsBounded}
-use Rattle.sc_sound.specs.Players.{Player, player_table, node_seat, client_seat, route_of, births, as_nodes}
-use Rattle.sc_whole_law.proofs.Seats.{all_apart}
-use Rattle.sc_calm_law.specs.Totals.{Rows}
-use Rattle.sc_calm_rows_law.specs.Groups.{replicas_of, replica_in, view_at}
-use Rattle.sc_calm_charts_law.specs.Charting.{replicas_of as chart_replicas, replica_at as chart_replica}
-use Rattle.sc_budget_law.specs.AskingQuiet.{replicas_after}
-use Rattle.sc_budget_law.specs.BetweenJournal.{replicas_of as node_replicas}
-use Rattle.sc_budget_law.proofs.BetweenStage.{IsStage, stage}
-use Rattle.sc_budget_law.proofs.BetweenSteps.{in_numbers, node_born, node_number}
-use Rattle.sc_calm_answers_law.specs.Settings.{AreAtNodes}
-use Rattle.sc_calm_answers_law.specs.Viewing.{ViewsAgree}
+use Rattle.sc_scenario.specs.Definitions.{IsBounded}
+use Rattle.sc_sound.specs.Definitions.{Player, player_table, node_seat, client_seat, route_of, births, as_nodes}
+use Rattle.sc_whole_law.proofs.Lemmas.{all_apart}
+use Rattle.sc_calm_law.specs.Definitions.{Rows}
+use Rattle.sc_calm_rows_law.specs.Definitions.{replicas_of, replica_in, view_at}
+use Rattle.sc_calm_charts_law.specs.Definitions.{replicas_of as chart_replicas, replica_at as chart_replica}
+use Rattle.sc_budget_law.specs.Definitions.{replicas_after, replicas_of as node_replicas}
+use Rattle.sc_budget_law.proofs.Lemmas.{IsStage, stage, in_numbers, node_born, node_number}
+use Rattle.sc_calm_answers_law.specs.Definitions.{AreAtNodes, ViewsAgree}
 use Rattle.sc_calm_answers_law.proofs.Takers.{roles_differ}
 
 -- ---- what a player has
@@ -129,6 +117,7 @@ module _ (scenario : Scenario) (bounded : IsBounded scenario) (rows : Rows) (nam
           no_both : (s : Seat Player) (asks : Asks) → client_seat (route_of begins.first) asks ≡ nseat who → ⊥
           no_both s asks e = roles_differ (born_client asks.client asks.ops (route_of begins.first)) (born_node as_nodes.slots who scenario.groups scenario.policy) (ap (λ (x : Seat Player). x.actor) e)
 
+-- After any rows of a scenario the replica of a player is that of the node with its number.
 pub views_agree : ViewsAgree
 views_agree = record {
   nodes = λ scenario rows name who bounded homes. agree scenario bounded rows name homes who;

@@ -2,68 +2,30 @@
 use Rattle.std.proofs.Common.{Bool, List, None, Option, Some, [], ap, arith, eqb, false, inl, inr, option_map, refl, subst, sym, true, true≢false, ℕ, ◌++◌, ◌+◌, ◌<◌, ◌∙◌, ◌∷◌, ◌≡◌, ◌≤◌}
 use Rattle.std.proofs.lemmas.Bool.{cases_Bool, eqb-true}
 use Rattle.std.specs.Prelude.{is_none}
-use Rattle.sc_actor.specs.declared.actors.Seat.{Seat}
-use Rattle.sc_actor.specs.declared.rows.Event.TheVariants.{Deliver}
-use Rattle.sc_base.specs.Among.{Among, Each}
-use Rattle.sc_base.specs.declared.names.Ballot.{Ballot}
-use Rattle.sc_base.specs.declared.names.Draw.{Draw}
+use Rattle.sc_node_table.specs.Values.{Seat, Deliver, Ballot, Draw, Command, Begin, Call, Finish, GiveUp, Join, Leave, Noop, Prepared, RecordVote, RecordWatch, Split, Watched, Base, Free, Mail, Accepted, Flight}
+use Rattle.sc_base.specs.Definitions.{Among, Each, least_of}
 use Rattle.sc_calm_answers_law.proofs.Beside.{row_here}
 use Rattle.sc_calm_answers_law.proofs.Leader.{free_of, here_view, leads, leads_alone, named_so, takes, the_scene, works_one}
 use Rattle.sc_calm_answers_law.proofs.Newest.{newest_after, stopped_newest}
-use Rattle.sc_calm_answers_law.specs.Beside.{IsHere}
-use Rattle.sc_calm_answers_law.specs.Guided.{IsGuided}
-use Rattle.sc_calm_answers_law.specs.Votes.{IsOrdersAlone, IsTrueEntry, StagesExpectWork, VotesAreFound, WorkExpects}
-use Rattle.sc_calm_groups_law.specs.Slots.{IsSlotKept}
-use Rattle.sc_calm_law.specs.Totals.{Rows}
-use Rattle.sc_calm_orders_law.proofs.Counting.{votes-count-alone}
-use Rattle.sc_calm_orders_law.proofs.Entries.{orders-leave, votes-leave}
-use Rattle.sc_calm_orders_law.proofs.Lists.{among-left, among-right, cases-draw}
-use Rattle.sc_calm_orders_law.proofs.Records.{ends-leave, records-leave, watch-records-leave}
-use Rattle.sc_calm_orders_law.proofs.Runs.{entries-run-alone}
-use Rattle.sc_calm_orders_law.specs.Entries.{EntryLeaves}
-use Rattle.sc_calm_orders_law.specs.Parts.{bond_of, work_by, works, works_flying, works_in, works_ready}
-use Rattle.sc_calm_orders_law.specs.Rows.{results}
-use Rattle.sc_calm_orders_law.specs.Running.{FliesLone}
-use Rattle.sc_calm_orders_law.specs.Scenes.{Answers, Asking, Bond, Bound, Changes, Elsewhere, Ends, Errand, First, GivesUp, Here, IsNone, Lone, Next, Opens, Question, Records, Reply, Result, Scene, Turn, Unbound, Work, free, is_watch}
-use Rattle.sc_calm_orders_law.specs.Stages.{Closes, ClosesBoth, Filed, IsOrder, IsSound, IsUnderWay, IsVote, Leg, Mailed, Ordered, Recorded, Replied, SentOn, Stage, Still, Weighs, bound_by, closing, heard, parties_of}
-use Rattle.sc_calm_rows_law.proofs.Scenes.{known}
-use Rattle.sc_calm_rows_law.proofs.Turning.{found_name}
-use Rattle.sc_calm_rows_law.specs.Groups.{progress_at}
-use Rattle.sc_calm_rows_law.specs.Turns.{with_event}
-use Rattle.sc_calm_scenes_law.proofs.Over.{fly_lone, quiet_over}
-use Rattle.sc_calm_scenes_law.proofs.Viewing.{tell}
-use Rattle.sc_calm_scenes_law.specs.Counted.{IsEntry, StaysIn}
-use Rattle.sc_calm_scenes_law.specs.Found.{Aborted, Changed, Decided, Ended, FindsFlight, Heard, Late, Opened, Voted}
-use Rattle.sc_calm_scenes_law.specs.Fresh.{IsThere}
-use Rattle.sc_calm_scenes_law.specs.Quiet.{IsWork}
-use Rattle.sc_calm_scenes_law.specs.Scenes.{scene_at}
-use Rattle.sc_calm_scenes_law.specs.Turns.{LeadsAlone, NewestAreBound}
-use Rattle.sc_cmd.specs.Cores.{is_alone}
-use Rattle.sc_cmd.specs.Effects.{is_changed}
-use Rattle.sc_cmd.specs.declared.commands.Command.{Command}
-use Rattle.sc_cmd.specs.declared.commands.Command.TheVariants.{Begin, Call, Finish, GiveUp, Join, Leave, Noop, Prepared, RecordVote, RecordWatch, Split, Watched}
-use Rattle.sc_cmd.specs.declared.cores.Base.{Base}
-use Rattle.sc_cmd.specs.declared.cores.Lock.TheVariants.{Free}
-use Rattle.sc_following_law.proofs.Nodes.{same_mark}
-use Rattle.sc_following_law.proofs.Ordered.{order_is_kept}
-use Rattle.sc_following_law.specs.Following.{Votes, mark_of}
-use Rattle.sc_following_law.specs.Leading.{ActsAlone, IsLeadOf}
-use Rattle.sc_machine_table.specs.Group.{Group}
-use Rattle.sc_machine_table.specs.Machine.{applied}
-use Rattle.sc_machine_table.specs.Votes.{vote_of}
-use Rattle.sc_mail.specs.declared.bodies.Mail.{Mail}
-use Rattle.sc_mail.specs.declared.bodies.MailBody.TheVariants.{Accepted}
-use Rattle.sc_base.specs.Roster.{least_of}
-use Rattle.sc_node_table.specs.Node.{NodeState}
-use Rattle.sc_node_table.specs.Replica.{Place, ReplicaState, next}
-use Rattle.sc_node_table.specs.Rows.{mailed}
-use Rattle.sc_paxos_words.proofs.ListLemmas.{Each-among, find_found}
-use Rattle.sc_paxos_words.specs.Leaders.{flight_at}
-use Rattle.sc_paxos_words.specs.declared.flights.Flight.{Flight}
-use Rattle.sc_sound.specs.Players.{Player}
+use Rattle.sc_calm_answers_law.specs.Definitions.{IsHere, IsGuided, IsOrdersAlone, IsTrueEntry, StagesExpectWork, VotesAreFound, WorkExpects}
+use Rattle.sc_calm_groups_law.specs.Definitions.{IsSlotKept}
+use Rattle.sc_calm_law.specs.Definitions.{Rows}
+use Rattle.sc_calm_orders_law.proofs.Lemmas.{votes-count-alone, orders-leave, votes-leave, among-left, among-right, cases-draw, ends-leave, records-leave, watch-records-leave, entries-run-alone}
+use Rattle.sc_calm_orders_law.specs.Definitions.{EntryLeaves, bond_of, work_by, works, works_flying, works_in, works_ready, results, FliesLone, Answers, Asking, Bond, Bound, Changes, Elsewhere, Ends, Errand, First, GivesUp, Here, IsNone, Lone, Next, Opens, Question, Records, Reply, Result, Scene, Turn, Unbound, Work, free, is_watch, Closes, ClosesBoth, Filed, IsOrder, IsSound, IsUnderWay, IsVote, Leg, Mailed, Ordered, Recorded, Replied, SentOn, Stage, Still, Weighs, bound_by, closing, heard, parties_of, Asks as AsksStage}
+use Rattle.sc_calm_rows_law.proofs.Lemmas.{known, found_name}
+use Rattle.sc_calm_rows_law.specs.Definitions.{progress_at, with_event}
+use Rattle.sc_calm_scenes_law.proofs.Lemmas.{fly_lone, quiet_over, tell}
+use Rattle.sc_calm_scenes_law.specs.Definitions.{IsEntry, StaysIn, Aborted, Changed, Decided, Ended, FindsFlight, Heard, Late, Opened, Voted, IsThere, IsWork, scene_at, LeadsAlone, NewestAreBound}
+use Rattle.sc_cmd.specs.Definitions.{is_alone, is_changed}
+use Rattle.sc_following_law.proofs.Lemmas.{same_mark, order_is_kept}
+use Rattle.sc_following_law.specs.Definitions.{Votes, mark_of, ActsAlone, IsLeadOf}
+use Rattle.sc_machine_table.specs.Definitions.{Group, applied, vote_of}
+use Rattle.sc_node_table.specs.Definitions.{NodeState, Place, ReplicaState, next, mailed}
+use Rattle.sc_paxos_words.proofs.Lemmas.{Each-among, find_found}
+use Rattle.sc_paxos_words.specs.Definitions.{flight_at}
+use Rattle.sc_sound.specs.Definitions.{Player}
 use Rattle.sc_cmd.specs.declared.votes.Past.TheVariants as Cast
 use Rattle.sc_cmd.specs.declared.votes.Vote.TheVariants as Says
-use Rattle.sc_calm_orders_law.specs.Stages.{Asks as AsksStage}
 use Rattle.sc_calm_answers_law.proofs.KeptCounting.{only_work, work_flies}
 use Rattle.sc_calm_answers_law.proofs.TrueRounds.{work_act}
 use Rattle.sc_calm_answers_law.proofs.TrueTurns.{first_turn}
@@ -122,6 +84,7 @@ parties_fit now group (party ∷ named) are fit none = elim (cases-draw group pa
   | inr apart ↦ parties_fit now group named are.1 fit.1 (λ more. none (apart, more))
 ]
 
+-- In each stage a group waits for its leader's work, by its bond.
 pub stages_expect_work : StagesExpectWork
 stages_expect_work now group work under = parties_fit now group (parties_of under.0) under.1.parties.0 (stage_fits under.0 under.1.sound) (under.1.parties.1 group) work
 
@@ -293,5 +256,6 @@ module _ (words : ℕ → ℕ → ℕ × ℕ) (births : List (Seat Player)) (row
     found_at : FindsFlight births rows seat number mail base.core.id r slot
     found_at = by_flight (flight_at slot r.leader.flights) refl
 
+-- A vote at the leader finds nothing in flight at its slot, or the one command that is there, of one of the kinds of entries, where only work is in flight and that is true.
 pub votes_found : VotesAreFound
 votes_found words births rows seat number mail base node r named ballot slot h runs body under lone kept are_true = found_at words births rows seat number mail base node r named ballot slot h runs body under lone kept are_true

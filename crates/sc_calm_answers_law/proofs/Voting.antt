@@ -1,32 +1,18 @@
 -- By a vote a leader executes nothing of a group that is gone.
 use Rattle.std.proofs.Common.{◌≡◌, ℕ, ◌+◌, ◌-◌, ◌<◌, ◌≤◌, ◌&&◌, eqb, nat_lt, Bool, true, false, cond, List, [], ◌∷◌, length, take, slice_get, is_some, Option, Some, None, inl, inr, refl, sym, ◌∙◌, ap, subst, arith}
 use Rattle.std.proofs.lemmas.Bool.{cases_eq, cases_lt, cond_both, and_parts, eqb-true}
-use Rattle.sc_base.specs.Among.{Among, Each}
-use Rattle.sc_base.specs.declared.names.Ballot.{Ballot}
-use Rattle.sc_cmd.specs.declared.commands.Command.{Command}
-use Rattle.sc_cmd.specs.declared.cores.Base.{Base}
-use Rattle.sc_base.specs.Roster.{IsRoster}
-use Rattle.sc_paxos_words.specs.declared.answers.Counted.{Counted}
-use Rattle.sc_paxos_words.specs.declared.answers.Counted.TheVariants.{Chosen, NotYet}
-use Rattle.sc_paxos_words.specs.Leaders.{LeaderState}
-use Rattle.sc_paxos_words.specs.Votes.{counted}
-use Rattle.sc_paxos_words.proofs.ListLemmas.{Each-among}
-use Rattle.sc_paxos_law.specs.Chosen.{needed, IsLog}
-use Rattle.sc_paxos_law.specs.Lawful.{IsLawfulHistory}
-use Rattle.sc_paxos_law.specs.Steps.{Accepted}
-use Rattle.sc_paxos_law.proofs.Law.{earlier}
-use Rattle.sc_node_table.specs.Execute.{executed_one, next_child, next_ready, has_room, ending, executed_ready, executed}
-use Rattle.sc_node_table.specs.Pump.{pumped}
-use Rattle.sc_node_table.specs.Replica.{ReplicaState, Place, Executed, childless, next, set_at}
-use Rattle.sc_node_table.specs.Slots.{slots_ahead, with_slot}
-use Rattle.sc_node_table.specs.Voting.{leads, readied, vote_tallied, voted, accepted_row}
-use Rattle.sc_sound.specs.Players.{Ahead}
-use Rattle.sc_group_law.proofs.Growth.{IsLearnt}
-use Rattle.sc_group_law.proofs.Invariant.{Steps, rule, first, IsFlying}
-use Rattle.sc_following_law.specs.Offers.{AreAt}
-use Rattle.sc_calm_logs_law.proofs.Along.{at, IsAlong, by_log, next_ready_is, one_past}
-use Rattle.sc_calm_logs_law.proofs.Counting.{counted_learnt, each_with_slot}
-use Rattle.sc_calm_groups_law.specs.Led.{Ends}
+use Rattle.sc_base.specs.Definitions.{Among, Each, IsRoster}
+use Rattle.sc_node_table.specs.Values.{Ballot, Command, Base, Counted, Chosen, NotYet}
+use Rattle.sc_paxos_words.specs.Definitions.{LeaderState, counted}
+use Rattle.sc_paxos_words.proofs.Lemmas.{Each-among}
+use Rattle.sc_paxos_law.specs.Definitions.{needed, IsLog, IsLawfulHistory, Accepted}
+use Rattle.sc_paxos_law.proofs.Lemmas.{earlier}
+use Rattle.sc_node_table.specs.Definitions.{executed_one, next_child, next_ready, has_room, ending, executed_ready, executed, pumped, ReplicaState, Place, Executed, childless, next, set_at, slots_ahead, with_slot, leads, readied, vote_tallied, voted, accepted_row}
+use Rattle.sc_sound.specs.Definitions.{Ahead}
+use Rattle.sc_group_law.proofs.Lemmas.{IsLearnt, Steps, rule, first, IsFlying}
+use Rattle.sc_following_law.specs.Definitions.{AreAt}
+use Rattle.sc_calm_logs_law.proofs.Lemmas.{at, IsAlong, by_log, next_ready_is, one_past, counted_learnt, each_with_slot}
+use Rattle.sc_calm_groups_law.specs.Definitions.{Ends}
 use Rattle.sc_calm_answers_law.proofs.Pumping.{pump_next}
 
 -- some steps of a group, and where it is gone by its log

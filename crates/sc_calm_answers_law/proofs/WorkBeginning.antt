@@ -1,53 +1,28 @@
 -- An order that is told in a quiet journal stands at its group, or nothing does.
 use Rattle.std.proofs.Common.{◌≡◌, ℕ, ◌≤◌, eqb, cond, true, false, true≢false, List, [], ◌∷◌, ◌++◌, Option, Some, None, inl, inr, refl, sym, ◌∙◌, ap, subst}
-use Rattle.sc_base.specs.Among.{Each}
-use Rattle.sc_base.specs.Drawing.{next_name}
-use Rattle.sc_base.specs.declared.names.Draw.{Draw}
-use Rattle.sc_cmd.specs.declared.commands.Command.{Command}
-use Rattle.sc_cmd.specs.declared.orders.Order.{Order}
+use Rattle.sc_base.specs.Definitions.{Each, next_name}
+use Rattle.sc_node_table.specs.Values.{Draw, Command, Order, OrderLine, OrderRefusal, Refused, Mail, Node, Client, Seat, Go, Input}
 use Rattle.sc_cmd.specs.declared.orders.Order.TheVariants as An
-use Rattle.sc_cmd.specs.declared.orders.OrderLine.{OrderLine}
-use Rattle.sc_cmd.specs.declared.orders.OrderRefusal.{OrderRefusal}
 use Rattle.sc_cmd.specs.declared.orders.OrderRefusal.TheVariants.{NotLeader}
-use Rattle.sc_cmd.specs.declared.orders.ToldResult.TheVariants.{Refused}
-use Rattle.sc_mail.specs.declared.bodies.Mail.{Mail}
-use Rattle.sc_mail.specs.declared.roles.Role.TheVariants.{Node, Client}
-use Rattle.sc_actor.specs.declared.actors.Seat.{Seat}
-use Rattle.sc_actor.specs.declared.rows.Event.TheVariants.{Told, Go}
-use Rattle.sc_actor.specs.declared.rows.Input.{Input}
+use Rattle.sc_actor.specs.declared.rows.Event.TheVariants.{Told}
 use Rattle.sc_actor.specs.declared.rows.Input.TheVariants.{Told as ToldInput}
-use Rattle.sc_actor.specs.Replay.{value, acted, input_of, replay}
-use Rattle.sc_actor.specs.System.{row_of}
-use Rattle.sc_actor.specs.Walk.{is_quiet}
-use Rattle.sc_client_table.specs.Client.{Client as ClientState}
-use Rattle.sc_orderly_law.specs.Timely.{AreInTime}
-use Rattle.sc_orderly_law.proofs.InTime.{in_time_before, in_time_tidy}
-use Rattle.sc_orderly_law.proofs.Resting.{quiet-empty}
-use Rattle.sc_scenario.specs.Valid.{IsBounded, ValidScenariosAreBounded}
+use Rattle.sc_actor.specs.Definitions.{value, acted, input_of, replay, row_of, is_quiet}
+use Rattle.sc_client_table.specs.Definitions.{Client as ClientState}
+use Rattle.sc_orderly_law.specs.Definitions.{AreInTime}
+use Rattle.sc_orderly_law.proofs.Lemmas.{in_time_before, in_time_tidy, quiet-empty}
+use Rattle.sc_scenario.specs.Definitions.{IsBounded, ValidScenariosAreBounded}
 use Rattle.sc_scenario.specs.declared.scenarios.Scenario.{Scenario}
-use Rattle.sc_node_table.specs.Mails.{told_desk}
-use Rattle.sc_node_table.specs.Node.{NodeState, replica_of, group_of_order, ordered_of}
-use Rattle.sc_node_table.specs.Ordering.{takes_name, untaken, taken_or_told, ordered_command, ordered_row}
-use Rattle.sc_node_table.specs.Replica.{ReplicaState, Place, name_of, next, last_slot}
-use Rattle.sc_sound.specs.Players.{Player, player_table, births, as_nodes, Lawful}
-use Rattle.sc_calm_law.specs.Charts.{players}
-use Rattle.sc_calm_law.specs.Quiet.{IsAtRest}
-use Rattle.sc_calm_law.specs.Totals.{Rows}
-use Rattle.sc_calm_law.proofs.OwedParties.{put_others}
-use Rattle.sc_calm_orders_law.proofs.Lists.{cases-draw}
-use Rattle.sc_calm_rows_law.specs.Groups.{view_at}
-use Rattle.sc_calm_rows_law.specs.Turns.{IsSeat, with_event, IsReplicasRow}
-use Rattle.sc_calm_rows_law.specs.WellKept.{IsWellKept}
-use Rattle.sc_calm_rows_law.proofs.Hearing.{names_stay}
-use Rattle.sc_calm_rows_law.proofs.Turning.{found_name, rows_replicas}
-use Rattle.sc_calm_rows_law.proofs.Viewing.{view_was, sent_is}
-use Rattle.sc_calm_rows_law.proofs.WellNodes.{Plays, Found, found_well, replay_well}
-use Rattle.sc_calm_groups_law.specs.Through.{ScenariosAreWellBorn}
-use Rattle.sc_law_lemmas.proofs.Ways.{either_way}
-use Rattle.sc_calm_scenes_law.proofs.Fresh.{client_leaves}
-use Rattle.sc_calm_scenes_law.proofs.Taking.{now_is, all_sent}
-use Rattle.sc_calm_answers_law.specs.Tasks.{Task, is_split}
-use Rattle.sc_calm_answers_law.specs.Works.{AreAtWork, IsTaskOf, OrdersBeginWork}
+use Rattle.sc_node_table.specs.Definitions.{told_desk, NodeState, replica_of, group_of_order, ordered_of, takes_name, untaken, taken_or_told, ordered_command, ordered_row, ReplicaState, Place, name_of, next, last_slot}
+use Rattle.sc_sound.specs.Definitions.{Player, player_table, births, as_nodes, Lawful}
+use Rattle.sc_calm_law.specs.Definitions.{players, IsAtRest, Rows}
+use Rattle.sc_calm_law.proofs.Lemmas.{put_others}
+use Rattle.sc_calm_orders_law.proofs.Lemmas.{cases-draw}
+use Rattle.sc_calm_rows_law.specs.Definitions.{view_at, IsSeat, with_event, IsReplicasRow, IsWellKept}
+use Rattle.sc_calm_rows_law.proofs.Lemmas.{names_stay, found_name, rows_replicas, view_was, sent_is, Plays, Found, found_well, replay_well}
+use Rattle.sc_calm_groups_law.specs.Definitions.{ScenariosAreWellBorn}
+use Rattle.sc_law_lemmas.proofs.Lemmas.{either_way}
+use Rattle.sc_calm_scenes_law.proofs.Lemmas.{client_leaves, now_is, all_sent}
+use Rattle.sc_calm_answers_law.specs.Definitions.{Task, is_split, AreAtWork, IsTaskOf, OrdersBeginWork}
 use Rattle.sc_calm_answers_law.proofs.Affairs.{Affair, BeginsFree, AreGood}
 use Rattle.sc_calm_answers_law.proofs.WorkRows.{HeldSo, RowHolds}
 use Rattle.sc_calm_answers_law.proofs.Tasks.{affair_by, begins_free}

@@ -2,45 +2,17 @@
 use Rattle.std.proofs.Common.{◌≡◌, ◌⊎◌, ℕ, ◌&&◌, ◌||◌, not, nat_le, length, Bool, true, false, true≢false, cond, List, [], ◌∷◌, ◌++◌, Option, Some, None, inl, inr, refl, sym, ◌∙◌, ap, subst}
 use Rattle.std.specs.List.{list_any}
 use Rattle.std.proofs.lemmas.Bool.{cond_both}
-use Rattle.sc_base.specs.Same.{same_draw}
-use Rattle.sc_base.proofs.NameLemmas.{draw_is, same_name}
-use Rattle.sc_base.specs.declared.names.Draw.{Draw}
-use Rattle.sc_cmd.specs.Cores.{is_alone}
-use Rattle.sc_cmd.specs.declared.bodies.Body.{Body}
+use Rattle.sc_base.specs.Definitions.{same_draw, holds, united}
+use Rattle.sc_base.proofs.Lemmas.{draw_is, same_name}
+use Rattle.sc_node_table.specs.Values.{Draw, Body, Offer, Command, Noop, Call, Join, Leave, Split, Begin, Prepared, RecordVote, GiveUp, Finish, Watched, RecordWatch, Base, Lock, Free, Coordinating, Promised, Watching, Effect, NoEffect, Route, OrderRefusal, Heard, Outcome, Past, Vote, Frozen, Gift, Core}
+use Rattle.sc_cmd.specs.Definitions.{is_alone}
 use Rattle.sc_cmd.specs.declared.bodies.Body.TheVariants as At
-use Rattle.sc_cmd.specs.declared.bodies.Offer.{Offer}
-use Rattle.sc_cmd.specs.declared.commands.Command.{Command}
-use Rattle.sc_cmd.specs.declared.commands.Command.TheVariants.{Noop, Call, Join, Leave, Split, Begin, Prepared, RecordVote, GiveUp, Finish, Watched, RecordWatch}
-use Rattle.sc_cmd.specs.declared.cores.Base.{Base}
-use Rattle.sc_cmd.specs.declared.cores.Lock.{Lock}
-use Rattle.sc_cmd.specs.declared.cores.Lock.TheVariants.{Free, Coordinating, Promised, Watching}
-use Rattle.sc_cmd.specs.declared.effects.Effect.{Effect}
-use Rattle.sc_cmd.specs.declared.effects.Effect.TheVariants.{NoEffect}
 use Rattle.sc_cmd.specs.declared.votes.Outcome.TheVariants as Is
-use Rattle.sc_cmd.specs.declared.links.Route.{Route}
-use Rattle.sc_cmd.specs.declared.orders.OrderRefusal.{OrderRefusal}
-use Rattle.sc_cmd.specs.declared.votes.Heard.{Heard}
-use Rattle.sc_cmd.specs.declared.votes.Outcome.{Outcome}
-use Rattle.sc_cmd.specs.declared.votes.Past.{Past}
 use Rattle.sc_cmd.specs.declared.votes.Past.TheVariants as Cast
-use Rattle.sc_cmd.specs.declared.votes.Vote.{Vote}
 use Rattle.sc_cmd.specs.declared.votes.Vote.TheVariants as Votes
-use Rattle.sc_cmd.specs.declared.votes.Frozen.{Frozen}
-use Rattle.sc_machine_table.specs.Children.{ordered_child, answered_child, watched_child, child_by}
-use Rattle.sc_machine_table.specs.Finishes.{participant_after, moved, can_gain, gained_group, lost_group, welcomed_group, settled_in, watch_ended, finished}
-use Rattle.sc_machine_table.specs.Group.{Group}
-use Rattle.sc_machine_table.specs.Machine.{applied, split_group}
-use Rattle.sc_machine_table.specs.Plans.{Plan, can_cut, has_key_of, taken, can_split, may_merge, merge_plan, closing_plan, can_repart, giving_plan, taking_plan, repart_plan, can_migrate, migrate_plan}
-use Rattle.sc_base.specs.Arc.{holds}
-use Rattle.sc_cmd.specs.declared.votes.Gift.{Gift}
-use Rattle.sc_cmd.specs.declared.cores.Core.{Core}
-use Rattle.sc_base.specs.Union.{united}
-use Rattle.sc_machine_table.specs.Orders.{refusal_of, with_node, without_node, ordered}
-use Rattle.sc_machine_table.specs.Splits.{left_group, right_members, child_of, has_named}
-use Rattle.sc_machine_table.specs.Transactions.{begun_group, committed, granted, participant_answered, asks_watcher, vote_recorded, watch_answered, watch_recorded, is_coordinating}
-use Rattle.sc_machine_table.specs.Votes.{has_voted}
+use Rattle.sc_machine_table.specs.Definitions.{ordered_child, answered_child, watched_child, child_by, participant_after, moved, can_gain, gained_group, lost_group, welcomed_group, settled_in, watch_ended, finished, Group, applied, split_group, Plan, can_cut, has_key_of, taken, can_split, may_merge, merge_plan, closing_plan, can_repart, giving_plan, taking_plan, repart_plan, can_migrate, migrate_plan, refusal_of, with_node, without_node, ordered, left_group, right_members, child_of, has_named, begun_group, committed, granted, participant_answered, asks_watcher, vote_recorded, watch_answered, watch_recorded, is_coordinating, has_voted}
 use Rattle.sc_calm_answers_law.proofs.Cores.{called_core}
-use Rattle.sc_ring_law.proofs.Notes.{any_keeps, any_new}
+use Rattle.sc_ring_law.proofs.Lemmas.{any_keeps, any_new}
 
 -- a group's own part of a step
 module _ (group : Group) where

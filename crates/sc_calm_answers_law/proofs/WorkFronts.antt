@@ -1,44 +1,24 @@
 -- What stands at groups is kept from the order on, front by front.
 use Rattle.std.proofs.Common.{◌≡◌, ◌⊎◌, ℕ, eqb, Bool, true, false, List, [], drop, Some, inl, inr, refl, sym, ◌∙◌, ap, subst}
 use Rattle.std.proofs.lemmas.Bool.{cases_Bool, eq-eqb, eqb-true}
-use Rattle.sc_base.specs.Among.{Each}
-use Rattle.sc_base.specs.declared.names.Draw.{Draw}
-use Rattle.sc_cmd.specs.declared.commands.Command.{Command}
-use Rattle.sc_cmd.specs.declared.commands.Command.TheVariants.{Noop, Call, Join, Leave, Split, Begin, Prepared, RecordVote, GiveUp, Finish, Watched, RecordWatch}
-use Rattle.sc_cmd.specs.declared.cores.Base.{Base}
-use Rattle.sc_cmd.specs.declared.orders.OrderLine.{OrderLine}
-use Rattle.sc_mail.specs.declared.bodies.Mail.{Mail}
-use Rattle.sc_mail.specs.declared.bodies.MailBody.{MailBody}
-use Rattle.sc_mail.specs.declared.bodies.MailBody.TheVariants.{Request, Answer, Prepare, Promise, Accept, Accepted, Nack, Learn, Ask, Install, TxPrepare, TxVote, TxOutcome, TxElsewhere, TxWatch, TxWatched, Told as ToldMail}
-use Rattle.sc_actor.specs.declared.actors.Seat.{Seat}
-use Rattle.sc_actor.specs.declared.rows.Event.{Event}
-use Rattle.sc_actor.specs.declared.rows.Event.TheVariants.{Deliver}
-use Rattle.sc_actor.specs.declared.rows.Row.{Row}
-use Rattle.sc_actor.specs.Mail.{mails, numbered}
-use Rattle.sc_actor.specs.System.{System, row_of}
-use Rattle.sc_orderly_law.specs.Orderly.{is_born, rest, mail_for, taken}
-use Rattle.sc_orderly_law.specs.Timely.{AreInTime}
-use Rattle.sc_orderly_law.proofs.InTime.{in_time_before, in_time_tidy, last_in_time}
-use Rattle.sc_orderly_law.proofs.Resting.{TakesFirst, is_born-from, takes_first, rest-calm}
-use Rattle.sc_paxos_words.proofs.ListLemmas.{Each-append, Each-weaker}
-use Rattle.sc_names_law.proofs.Lists.{Each-drop}
+use Rattle.sc_base.specs.Definitions.{Each}
+use Rattle.sc_node_table.specs.Values.{Draw, Command, Noop, Call, Join, Leave, Split, Begin, Prepared, RecordVote, GiveUp, Finish, Watched, RecordWatch, Base, OrderLine, Mail, MailBody, Request, Answer, Prepare, Promise, Accept, Accepted, Nack, Learn, Ask, Install, TxPrepare, TxVote, TxOutcome, TxElsewhere, TxWatch, TxWatched, Told as ToldMail, Seat, Event, Deliver, Row}
+use Rattle.sc_actor.specs.Definitions.{mails, numbered, System, row_of}
+use Rattle.sc_orderly_law.specs.Definitions.{is_born, rest, mail_for, taken, AreInTime}
+use Rattle.sc_orderly_law.proofs.Lemmas.{in_time_before, in_time_tidy, last_in_time, TakesFirst, is_born-from, takes_first, rest-calm}
+use Rattle.sc_paxos_words.proofs.Lemmas.{Each-append, Each-weaker}
+use Rattle.sc_names_law.proofs.Lemmas.{Each-drop}
 use Rattle.sc_scenario.specs.declared.scenarios.Scenario.{Scenario}
-use Rattle.sc_node_table.specs.Node.{NodeState, replica_of}
-use Rattle.sc_node_table.specs.Replica.{ReplicaState}
-use Rattle.sc_node_table.specs.Rows.{mailed}
-use Rattle.sc_sound.specs.Players.{Player, player_table, births, as_nodes}
-use Rattle.sc_calm_law.specs.Charts.{players}
-use Rattle.sc_calm_law.specs.Totals.{Rows}
-use Rattle.sc_calm_orders_law.specs.Parts.{works_in}
-use Rattle.sc_calm_rows_law.specs.Groups.{view_at}
-use Rattle.sc_calm_rows_law.specs.Turns.{IsSeat, with_event}
-use Rattle.sc_calm_rows_law.proofs.Viewing.{view_others}
-use Rattle.sc_calm_groups_law.specs.Through.{ScenariosAreWellBorn}
-use Rattle.sc_calm_scenes_law.specs.Quiet.{IsWork}
-use Rattle.sc_calm_scenes_law.specs.Taken.{IsTaking}
-use Rattle.sc_calm_scenes_law.proofs.Turning.{calm_is}
-use Rattle.sc_calm_answers_law.specs.Tasks.{Task, Does, DoesBy, BearsBy, IsAtWork, SaysWork}
-use Rattle.sc_calm_answers_law.specs.Works.{AreAtWork, IsGuidedRow, DeliveriesKeepWork, WorkStandsAlone}
+use Rattle.sc_node_table.specs.Definitions.{NodeState, replica_of, ReplicaState, mailed}
+use Rattle.sc_sound.specs.Definitions.{Player, player_table, births, as_nodes}
+use Rattle.sc_calm_law.specs.Definitions.{players, Rows}
+use Rattle.sc_calm_orders_law.specs.Definitions.{works_in}
+use Rattle.sc_calm_rows_law.specs.Definitions.{view_at, IsSeat, with_event}
+use Rattle.sc_calm_rows_law.proofs.Lemmas.{view_others}
+use Rattle.sc_calm_groups_law.specs.Definitions.{ScenariosAreWellBorn}
+use Rattle.sc_calm_scenes_law.specs.Definitions.{IsWork, IsTaking}
+use Rattle.sc_calm_scenes_law.proofs.Lemmas.{calm_is}
+use Rattle.sc_calm_answers_law.specs.Definitions.{Task, Does, DoesBy, BearsBy, IsAtWork, SaysWork, AreAtWork, IsGuidedRow, DeliveriesKeepWork, WorkStandsAlone}
 use Rattle.sc_calm_answers_law.proofs.Affairs.{Affair, BeginsFree, Says, IsGood, AreGood}
 use Rattle.sc_calm_answers_law.proofs.Places.{Kids}
 use Rattle.sc_calm_answers_law.proofs.WorkRows.{HeldSo, RowHolds, delivery_holds, delivery_bears, delivery_unborn}
@@ -243,6 +223,7 @@ does_work false told child name Noop d = absurd d
 does_work true told child name (Call client seq op) d = absurd d
 does_work false told child name (Call client seq op) d = absurd d
 
+-- So nothing but work is in flight or ready at a replica.
 pub stands_alone : WorkStandsAlone
 stands_alone = record {
   alone = λ task name r k. record {

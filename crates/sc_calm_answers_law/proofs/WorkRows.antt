@@ -2,66 +2,30 @@
 use Rattle.std.proofs.Common.{◌≡◌, ℕ, Bool, true, false, List, [], ◌++◌, Option, Some, None, inl, inr, refl, sym, ◌∙◌, ap, subst, append-nil, arith, ◌<◌}
 use Rattle.std.specs.Option.{option_map}
 use Rattle.std.proofs.lemmas.Bool.{cond-true, cond-false}
-use Rattle.sc_base.specs.Among.{Each}
-use Rattle.sc_base.specs.declared.names.Ballot.{Ballot}
-use Rattle.sc_base.specs.declared.names.Draw.{Draw}
-use Rattle.sc_cmd.specs.declared.commands.Command.{Command}
-use Rattle.sc_cmd.specs.declared.cores.Base.{Base}
-use Rattle.sc_cmd.specs.declared.orders.OrderLine.{OrderLine}
-use Rattle.sc_mail.specs.declared.bodies.AnswerBody.{AnswerBody}
-use Rattle.sc_mail.specs.declared.bodies.Mail.{Mail}
-use Rattle.sc_mail.specs.declared.bodies.MailBody.{MailBody}
-use Rattle.sc_mail.specs.declared.bodies.MailBody.TheVariants.{Request, Answer, Prepare, Promise, Accept, Accepted, Nack, Learn, Ask, Install, TxPrepare, TxVote, TxOutcome, TxElsewhere, TxWatch, TxWatched, Told as ToldMail}
-use Rattle.sc_mail.specs.declared.roles.Role.TheVariants.{Node, Client}
-use Rattle.sc_actor.specs.declared.actors.Seat.{Seat}
-use Rattle.sc_actor.specs.declared.rows.Event.{Event}
-use Rattle.sc_actor.specs.declared.rows.Event.TheVariants.{Deliver, Go}
-use Rattle.sc_actor.specs.declared.rows.Input.TheVariants.{Got}
-use Rattle.sc_actor.specs.Mail.{mails, numbered}
-use Rattle.sc_actor.specs.Replay.{value}
-use Rattle.sc_actor.specs.System.{row_of}
-use Rattle.sc_client_table.specs.Client.{Client as ClientState}
-use Rattle.sc_orderly_law.specs.Timely.{AreInTime}
-use Rattle.sc_node_table.specs.Node.{NodeState, replica_of, with_replica, with_children, group_of_mail, may_come, unknown, taken_by, routed, on_mail, absent}
-use Rattle.sc_node_table.specs.Replica.{ReplicaState, Executed, name_of, next, born_replica}
-use Rattle.sc_node_table.specs.Rows.{mailed, made_by}
-use Rattle.sc_node_table.specs.Slots.{slots_ahead}
-use Rattle.sc_law_lemmas.proofs.Ways.{either_way}
+use Rattle.sc_base.specs.Definitions.{Each}
+use Rattle.sc_node_table.specs.Values.{Ballot, Draw, Command, Base, OrderLine, AnswerBody, Mail, MailBody, Request, Answer, Prepare, Promise, Accept, Accepted, Nack, Learn, Ask, Install, TxPrepare, TxVote, TxOutcome, TxElsewhere, TxWatch, TxWatched, Told as ToldMail, Node, Client, Seat, Event, Deliver, Go, Got}
+use Rattle.sc_actor.specs.Definitions.{mails, numbered, value, row_of}
+use Rattle.sc_client_table.specs.Definitions.{Client as ClientState}
+use Rattle.sc_orderly_law.specs.Definitions.{AreInTime}
+use Rattle.sc_node_table.specs.Definitions.{NodeState, replica_of, with_replica, with_children, group_of_mail, may_come, unknown, taken_by, routed, on_mail, absent, ReplicaState, Executed, name_of, next, born_replica, mailed, made_by, slots_ahead, listed}
+use Rattle.sc_law_lemmas.proofs.Lemmas.{either_way}
 use Rattle.sc_scenario.specs.declared.scenarios.Scenario.{Scenario}
-use Rattle.sc_sound.specs.Players.{Player, player_table, births, as_nodes}
-use Rattle.sc_calm_law.specs.Charts.{players}
-use Rattle.sc_calm_law.specs.Totals.{Rows}
-use Rattle.sc_calm_law.proofs.OwedParties.{put_others}
-use Rattle.sc_calm_orders_law.proofs.Lists.{cases-draw}
-use Rattle.sc_following_law.specs.Following.{Mark, Asks, Prepares, mark_of, IsFit}
-use Rattle.sc_following_law.specs.Dated.{from_slot_of}
-use Rattle.sc_following_law.proofs.Dated.{prepares_are_known}
-use Rattle.sc_following_law.proofs.Nodes.{same_mark}
-use Rattle.sc_node_table.specs.Replica.{listed}
-use Rattle.sc_calm_rows_law.specs.Groups.{view_at, next_in, progress_at}
-use Rattle.sc_calm_rows_law.specs.Mailed.{TakesMail, HoldsReplica}
-use Rattle.sc_calm_rows_law.specs.Turns.{IsSeat, with_event, IsReplicasRow}
-use Rattle.sc_calm_rows_law.specs.WellKept.{IsWellKept}
-use Rattle.sc_calm_rows_law.proofs.Hearing.{names_stay}
-use Rattle.sc_calm_rows_law.proofs.Scenes.{fit}
-use Rattle.sc_calm_rows_law.proofs.Turning.{found_name, rows_replicas}
-use Rattle.sc_calm_rows_law.proofs.Viewing.{view_was, sent_is}
-use Rattle.sc_calm_rows_law.proofs.WellNodes.{Plays, Found, found_well, replay_well}
-use Rattle.sc_calm_groups_law.specs.Led.{dated_at}
-use Rattle.sc_calm_groups_law.specs.Mailed.{IsLedScene}
-use Rattle.sc_calm_groups_law.specs.Through.{Delivers, ScenariosAreWellBorn}
-use Rattle.sc_calm_groups_law.proofs.Mails.{scene}
-use Rattle.sc_calm_groups_law.proofs.Dating.{dated_in, taken_dated, rows_dated}
-use Rattle.sc_calm_answers_law.specs.Guided.{IsGuided, IsNamedGuide}
-use Rattle.sc_calm_answers_law.specs.FoundRows.{MeetsOrder}
-use Rattle.sc_calm_scenes_law.specs.Found.{FindsReplica, AtLeader, AtAnother, LeaderFinds, BesideFinds, NodeFinds}
-use Rattle.sc_calm_scenes_law.specs.Taken.{IsTaking}
-use Rattle.sc_calm_scenes_law.proofs.Fresh.{client_leaves, got_nothing, unknown_apart}
-use Rattle.sc_calm_scenes_law.proofs.Taking.{OneOf, all_children, all_sent, each_is, now_is}
+use Rattle.sc_sound.specs.Definitions.{Player, player_table, births, as_nodes}
+use Rattle.sc_calm_law.specs.Definitions.{players, Rows}
+use Rattle.sc_calm_law.proofs.Lemmas.{put_others}
+use Rattle.sc_calm_orders_law.proofs.Lemmas.{cases-draw}
+use Rattle.sc_following_law.specs.Definitions.{Mark, Asks, Prepares, mark_of, IsFit, from_slot_of}
+use Rattle.sc_following_law.proofs.Lemmas.{prepares_are_known, same_mark}
+use Rattle.sc_calm_rows_law.specs.Definitions.{view_at, next_in, progress_at, TakesMail, HoldsReplica, IsSeat, with_event, IsReplicasRow, IsWellKept}
+use Rattle.sc_calm_rows_law.proofs.Lemmas.{names_stay, fit, found_name, rows_replicas, view_was, sent_is, Plays, Found, found_well, replay_well}
+use Rattle.sc_calm_groups_law.specs.Definitions.{dated_at, IsLedScene, Delivers, ScenariosAreWellBorn}
+use Rattle.sc_calm_groups_law.proofs.Lemmas.{scene, dated_in, taken_dated, rows_dated}
+use Rattle.sc_calm_answers_law.specs.Definitions.{IsGuided, IsNamedGuide, MeetsOrder}
+use Rattle.sc_calm_scenes_law.specs.Definitions.{FindsReplica, AtLeader, AtAnother, LeaderFinds, BesideFinds, NodeFinds, IsTaking}
+use Rattle.sc_calm_scenes_law.proofs.Lemmas.{client_leaves, got_nothing, unknown_apart, OneOf, all_children, all_sent, each_is, now_is}
 use Rattle.sc_calm_answers_law.proofs.Affairs.{Affair, BeginsFree, Says, IsGood, AreGood}
 use Rattle.sc_calm_answers_law.proofs.Places.{Held, AllDo, Fly, Wait, Fine, Kids}
-use Rattle.sc_machine_table.specs.Children.{child_by}
-use Rattle.sc_machine_table.specs.Group.{Group}
+use Rattle.sc_machine_table.specs.Definitions.{child_by, Group}
 use Rattle.sc_calm_answers_law.proofs.Unborn.{IsUnborn, made_unborn}
 use Rattle.sc_calm_answers_law.proofs.Taking.{Hears, mailed_fine, mailed_kids, made_fine}
 use Rattle.std.proofs.lemmas.Option.{same_Some}

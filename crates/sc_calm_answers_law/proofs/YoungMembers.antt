@@ -3,46 +3,24 @@ use Rattle.std.proofs.Common.{◌≡◌, ◌==◌, ℕ, zero, suc, ◌+◌, ◌-
 use Rattle.std.specs.List.{list_any}
 use Rattle.std.proofs.lemmas.Bool.{cases_Bool}
 use Rattle.std.proofs.lemmas.List.{length-append}
-use Rattle.sc_base.specs.Among.{Among}
-use Rattle.sc_base.specs.declared.names.Draw.{Draw}
-use Rattle.sc_cmd.specs.declared.cores.Base.{Base}
-use Rattle.sc_cmd.specs.declared.orders.OrderLine.{OrderLine}
-use Rattle.sc_base.specs.Roster.{is_member}
-use Rattle.sc_actor.specs.Walk.{is_quiet}
-use Rattle.sc_actor.specs.declared.actors.Seat.{Seat}
-use Rattle.sc_orderly_law.specs.Orderly.{is_born}
-use Rattle.sc_orderly_law.specs.Timely.{AreInTime}
-use Rattle.sc_orderly_law.proofs.InTime.{in_time_tidy}
-use Rattle.sc_orderly_law.proofs.Resting.{quiet-empty}
-use Rattle.sc_machine_table.specs.Group.{Group, group_of}
-use Rattle.sc_machine_table.specs.Logs.{state_after}
-use Rattle.sc_machine_table.specs.Splits.{staying, right_members}
+use Rattle.sc_base.specs.Definitions.{Among, is_member}
+use Rattle.sc_node_table.specs.Values.{Draw, Base, OrderLine, Seat}
+use Rattle.sc_actor.specs.Definitions.{is_quiet}
+use Rattle.sc_orderly_law.specs.Definitions.{is_born, AreInTime}
+use Rattle.sc_orderly_law.proofs.Lemmas.{in_time_tidy, quiet-empty}
+use Rattle.sc_machine_table.specs.Definitions.{Group, group_of, state_after, staying, right_members}
 use Rattle.sc_scenario.specs.declared.scenarios.Scenario.{Scenario}
-use Rattle.sc_node_table.specs.Replica.{ReplicaState, next}
-use Rattle.sc_sound.specs.GroupsOf.{groups_at}
-use Rattle.sc_sound.specs.Logs.{decided_log}
-use Rattle.sc_sound.specs.Players.{Player, births, as_nodes}
-use Rattle.sc_calm_law.specs.Charts.{players}
-use Rattle.sc_calm_law.specs.Quiet.{HasReplica}
-use Rattle.sc_calm_law.specs.Totals.{Rows}
-use Rattle.sc_following_law.specs.Following.{Mark, marks_of, reached}
-use Rattle.sc_following_law.specs.Taught.{QuietMembersKnow}
-use Rattle.sc_calm_mail_law.specs.Few.{SlotsAreLeft}
-use Rattle.sc_calm_mail_law.specs.Lasting.{ReplicasLast}
-use Rattle.sc_calm_rows_law.specs.Groups.{view_at, next_in, marks_at, progress_at}
-use Rattle.sc_calm_groups_law.specs.Taught.{IsTaughtOn}
-use Rattle.sc_calm_groups_law.specs.Through.{ScenariosAreWellBorn}
-use Rattle.sc_calm_logs_law.specs.Logged.{logged_sets}
-use Rattle.sc_calm_answers_law.specs.Led.{over_at, ChildrenAreBegun}
-use Rattle.sc_calm_answers_law.specs.Taught.{GroupsAreTaught}
-use Rattle.sc_calm_answers_law.specs.Tellers.{tellers_at, AreFew}
-use Rattle.sc_calm_scenes_law.specs.Fresh.{IsThere}
-use Rattle.sc_calm_answers_law.specs.Tasks.{Task}
-use Rattle.sc_calm_answers_law.specs.Works.{IsTaskOf, DeliveriesKeepWork}
+use Rattle.sc_node_table.specs.Definitions.{ReplicaState, next}
+use Rattle.sc_sound.specs.Definitions.{groups_at, decided_log, Player, births, as_nodes}
+use Rattle.sc_calm_law.specs.Definitions.{players, HasReplica, Rows}
+use Rattle.sc_following_law.specs.Definitions.{Mark, marks_of, reached, QuietMembersKnow}
+use Rattle.sc_calm_mail_law.specs.Definitions.{SlotsAreLeft, ReplicasLast}
+use Rattle.sc_calm_rows_law.specs.Definitions.{view_at, next_in, marks_at, progress_at}
+use Rattle.sc_calm_groups_law.specs.Definitions.{IsTaughtOn, ScenariosAreWellBorn}
+use Rattle.sc_calm_logs_law.specs.Definitions.{logged_sets}
+use Rattle.sc_calm_answers_law.specs.Definitions.{over_at, ChildrenAreBegun, GroupsAreTaught, tellers_at, AreFew, Task, IsTaskOf, DeliveriesKeepWork, IsCalmJournal, IsUnder, Knows, AreBorneSo, AreOfGroups, ChildrenAreBorne}
+use Rattle.sc_calm_scenes_law.specs.Definitions.{IsThere}
 use Rattle.sc_calm_answers_law.proofs.WorkBirths.{HasBorn}
-use Rattle.sc_calm_answers_law.specs.Journal.{IsCalmJournal}
-use Rattle.sc_calm_answers_law.specs.JournalUnder.{IsUnder}
-use Rattle.sc_calm_answers_law.specs.Borne.{Knows, AreBorneSo, AreOfGroups, ChildrenAreBorne}
 use Rattle.sc_calm_answers_law.proofs.Borne.{are_young}
 use Rattle.sc_calm_answers_law.proofs.Keeping.{borne_still}
 use Rattle.sc_calm_answers_law.proofs.YoungTelling.{borne_first}

@@ -3,37 +3,19 @@ use Rattle.std.proofs.Common.{◌≡◌, ◌⊎◌, ℕ, Bool, true, false, List
 use Rattle.std.specs.Option.{option_map}
 use Rattle.std.specs.Prelude.{is_some}
 use Rattle.std.proofs.lemmas.Bool.{cond-true, cond-false}
-use Rattle.sc_base.specs.Among.{Among}
-use Rattle.sc_base.specs.declared.names.Draw.{Draw}
-use Rattle.sc_cmd.specs.declared.cores.Base.{Base}
-use Rattle.sc_mail.specs.declared.bodies.AnswerBody.{AnswerBody}
-use Rattle.sc_mail.specs.declared.bodies.Mail.{Mail}
-use Rattle.sc_mail.specs.declared.bodies.MailBody.{MailBody}
-use Rattle.sc_mail.specs.declared.bodies.MailBody.TheVariants.{Request, Answer, Prepare, Promise, Accept, Accepted, Nack, Learn, Ask, Install, TxPrepare, TxVote, TxOutcome, TxElsewhere, TxWatch, TxWatched, Told as ToldMail}
-use Rattle.sc_mail.specs.declared.roles.Role.TheVariants.{Node, Client}
-use Rattle.sc_actor.specs.declared.actors.Seat.{Seat}
-use Rattle.sc_actor.specs.declared.rows.Event.TheVariants.{Deliver, Go}
-use Rattle.sc_actor.specs.declared.rows.Input.TheVariants.{Got}
-use Rattle.sc_actor.specs.Mail.{mails, numbered}
-use Rattle.sc_actor.specs.Replay.{value}
-use Rattle.sc_orderly_law.specs.Timely.{AreInTime}
-use Rattle.sc_node_table.specs.Node.{NodeState, replica_of, with_replica, with_new, with_born, with_children, group_of_mail, may_come, unknown, taken_by, routed, on_mail}
-use Rattle.sc_node_table.specs.Replica.{ReplicaState, Executed, born_replica}
-use Rattle.sc_node_table.specs.Rows.{mailed}
-use Rattle.sc_node_table.specs.Slots.{slots_ahead}
-use Rattle.sc_law_lemmas.proofs.Ways.{either_way}
-use Rattle.sc_sound.specs.Players.{Player, player_table}
-use Rattle.sc_calm_law.specs.Charts.{players}
-use Rattle.sc_calm_law.specs.Totals.{Rows}
-use Rattle.sc_calm_law.proofs.OwedParties.{put_others}
-use Rattle.sc_calm_rows_law.specs.Groups.{view_at}
-use Rattle.sc_calm_rows_law.specs.Turns.{IsSeat, with_event}
-use Rattle.sc_calm_rows_law.proofs.Hearing.{names_stay}
-use Rattle.sc_calm_rows_law.proofs.Turning.{found_name, rows_replicas}
-use Rattle.sc_calm_rows_law.proofs.Viewing.{view_was, new_is}
-use Rattle.sc_calm_scenes_law.specs.Taken.{IsTaking}
-use Rattle.sc_calm_scenes_law.proofs.Fresh.{client_leaves, got_nothing, unknown_apart}
-use Rattle.sc_calm_scenes_law.proofs.Taking.{OneOf, all_children, now_is}
+use Rattle.sc_base.specs.Definitions.{Among}
+use Rattle.sc_node_table.specs.Values.{Draw, Base, AnswerBody, Mail, MailBody, Request, Answer, Prepare, Promise, Accept, Accepted, Nack, Learn, Ask, Install, TxPrepare, TxVote, TxOutcome, TxElsewhere, TxWatch, TxWatched, Told as ToldMail, Node, Client, Seat, Deliver, Go, Got}
+use Rattle.sc_actor.specs.Definitions.{mails, numbered, value}
+use Rattle.sc_orderly_law.specs.Definitions.{AreInTime}
+use Rattle.sc_node_table.specs.Definitions.{NodeState, replica_of, with_replica, with_new, with_born, with_children, group_of_mail, may_come, unknown, taken_by, routed, on_mail, ReplicaState, Executed, born_replica, mailed, slots_ahead}
+use Rattle.sc_law_lemmas.proofs.Lemmas.{either_way}
+use Rattle.sc_sound.specs.Definitions.{Player, player_table}
+use Rattle.sc_calm_law.specs.Definitions.{players, Rows}
+use Rattle.sc_calm_law.proofs.Lemmas.{put_others}
+use Rattle.sc_calm_rows_law.specs.Definitions.{view_at, IsSeat, with_event}
+use Rattle.sc_calm_rows_law.proofs.Lemmas.{names_stay, found_name, rows_replicas, view_was, new_is, child_me as born_me}
+use Rattle.sc_calm_scenes_law.specs.Definitions.{IsTaking}
+use Rattle.sc_calm_scenes_law.proofs.Lemmas.{client_leaves, got_nothing, unknown_apart, OneOf, all_children, now_is}
 
 -- a child that is made has a replica then
 stays_there : (who : ℕ) (name : Draw) (x : ReplicaState) (children : List Base) (node : NodeState) → node.me ≡ who → replica_of name node.replicas ≡ Some x → (y : ReplicaState) × (replica_of name (with_children children node).replicas ≡ Some y)
@@ -50,9 +32,6 @@ born_there who kid node me = by (replica_of kid.core.id node.replicas) refl
         → (y : ReplicaState) × (replica_of kid.core.id (cond (is_some o) node (record node { replicas = with_new (born_replica slots_ahead node.me kid) node.replicas })).replicas ≡ Some y)
     by (Some r) e = (r, e)
     by None e = (born_replica slots_ahead node.me kid, new_is kid.core.id (born_replica slots_ahead node.me kid) node.replicas refl e)
-
-born_me : (kid : Base) (node : NodeState) → (with_born kid node).me ≡ node.me
-born_me kid node = either_way (λ (n : NodeState). n.me ≡ node.me) (is_some (replica_of kid.core.id node.replicas)) node (record node { replicas = with_new (born_replica slots_ahead node.me kid) node.replicas }) refl refl
 
 child_there : (who : ℕ) (kid : Base) (children : List Base) (node : NodeState) → node.me ≡ who → Among kid children → (y : ReplicaState) × (replica_of kid.core.id (with_children children node).replicas ≡ Some y)
 unfolding with_children

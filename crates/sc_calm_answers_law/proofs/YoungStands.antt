@@ -1,38 +1,26 @@
 -- What a replica's group knows for a child, in a calm journal, is one by the log: a group of the journal.
 use Rattle.std.proofs.Common.{◌≡◌, ◌⊎◌, ℕ, zero, suc, ◌+◌, ◌-◌, ◌≤◌, ◌<◌, List, [], ◌∷◌, ◌++◌, take, drop, Some, inl, inr, refl, sym, subst, arith}
 use Rattle.std.proofs.lemmas.List.{take-append-drop}
-use Rattle.sc_base.specs.Among.{Among}
-use Rattle.sc_base.specs.declared.names.Draw.{Draw}
-use Rattle.sc_cmd.specs.declared.commands.Command.{Command}
-use Rattle.sc_cmd.specs.declared.cores.Base.{Base}
-use Rattle.sc_cmd.specs.declared.links.Route.{Route}
-use Rattle.sc_machine_table.specs.Children.{child_by}
-use Rattle.sc_machine_table.specs.Group.{Group, group_of}
-use Rattle.sc_machine_table.specs.Logs.{state_after}
-use Rattle.sc_machine_table.specs.Splits.{right_members}
-use Rattle.sc_scenario.specs.Valid.{ValidScenariosAreBounded}
+use Rattle.sc_base.specs.Definitions.{Among}
+use Rattle.sc_node_table.specs.Values.{Draw, Command, Base, Route}
+use Rattle.sc_machine_table.specs.Definitions.{child_by, Group, group_of, state_after, right_members}
+use Rattle.sc_scenario.specs.Definitions.{ValidScenariosAreBounded}
 use Rattle.sc_scenario.specs.declared.scenarios.Scenario.{Scenario}
-use Rattle.sc_node_table.specs.Replica.{ReplicaState, next}
-use Rattle.sc_sound.specs.GroupsOf.{groups_at, children_of}
-use Rattle.sc_sound.specs.Logs.{decided_log}
-use Rattle.sc_sound.specs.Players.{births, as_nodes, route_of}
-use Rattle.sc_log_law.specs.Findings.{AreFound}
-use Rattle.sc_ring_law.specs.Allowed.{Sources}
-use Rattle.sc_names_law.specs.Laws.{OtherNamesAreFree, TakenOrdersAreAllowed, TakenWishesAreAllowed, WishesAreAtPositions}
-use Rattle.sc_names_law.specs.Owners.{owner_in}
-use Rattle.sc_whole_law.specs.Begins.{BeginsWell, section_op}
-use Rattle.sc_whole_law.specs.Orders.{OrdersAreAllowed}
-use Rattle.sc_whole_law.specs.StartLaws.{ValidScenariosBeginWell}
-use Rattle.sc_whole_law.proofs.Scheduled.{orders_allowed}
-use Rattle.sc_calm_law.specs.Totals.{Rows}
-use Rattle.sc_calm_rows_law.specs.Groups.{view_at}
-use Rattle.sc_calm_logs_law.specs.Logged.{IsGroupOf, ViewsAreReplicas}
-use Rattle.sc_calm_logs_law.proofs.Journals.{found}
-use Rattle.sc_calm_answers_law.specs.States.{ReplicasRunLogs}
-use Rattle.sc_calm_answers_law.specs.Journal.{IsCalmJournal, IsFront}
+use Rattle.sc_node_table.specs.Definitions.{ReplicaState, next}
+use Rattle.sc_sound.specs.Definitions.{groups_at, children_of, decided_log, births, as_nodes, route_of}
+use Rattle.sc_log_law.specs.Definitions.{AreFound}
+use Rattle.sc_ring_law.specs.Definitions.{Sources}
+use Rattle.sc_names_law.specs.Definitions.{OtherNamesAreFree, TakenOrdersAreAllowed, TakenWishesAreAllowed, WishesAreAtPositions, owner_in}
+use Rattle.sc_whole_law.specs.Definitions.{BeginsWell, section_op, OrdersAreAllowed, ValidScenariosBeginWell}
+use Rattle.sc_whole_law.proofs.Lemmas.{orders_allowed}
+use Rattle.sc_calm_law.specs.Definitions.{Rows}
+use Rattle.sc_calm_rows_law.specs.Definitions.{view_at}
+use Rattle.sc_calm_logs_law.specs.Definitions.{IsGroupOf, ViewsAreReplicas}
+use Rattle.sc_calm_logs_law.proofs.Lemmas.{found}
+use Rattle.sc_calm_answers_law.specs.Definitions.{ReplicasRunLogs, IsCalmJournal, IsFront}
 use Rattle.sc_calm_answers_law.proofs.WorkBirths.{HasBorn, stays_born, kid_members, new_born}
 use Rattle.sc_calm_answers_law.proofs.Lineage.{log_gains, take_more, last_child}
-use Rattle.sc_machine_table.proofs.LogLemmas.{state_push}
+use Rattle.sc_machine_table.proofs.Lemmas.{state_push}
 
 -- the laws of journals that are used
 pub record OfJournals : Type 0 where

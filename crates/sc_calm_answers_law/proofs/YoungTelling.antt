@@ -1,44 +1,26 @@
 -- Once an order is told in quiet nothing is there that was nowhere, and no group knows the child that the order may make.
 use Rattle.std.proofs.Common.{◌≡◌, ℕ, eqb, true≢false, List, [], Option, Some, None, inl, inr, refl, sym, ◌∙◌, ap, subst}
 use Rattle.std.proofs.lemmas.Bool.{cases_Bool, eq-eqb, eqb-true}
-use Rattle.sc_base.specs.Drawing.{Drawer, next_name}
-use Rattle.sc_base.specs.declared.names.Draw.{Draw}
-use Rattle.sc_cmd.specs.declared.commands.Command.{Command}
-use Rattle.sc_cmd.specs.declared.orders.OrderLine.{OrderLine}
-use Rattle.sc_cmd.specs.declared.orders.OrderRefusal.{OrderRefusal}
-use Rattle.sc_mail.specs.declared.bodies.Mail.{Mail}
-use Rattle.sc_mail.specs.declared.roles.Role.TheVariants.{Node, Client}
-use Rattle.sc_actor.specs.declared.actors.Seat.{Seat}
-use Rattle.sc_actor.specs.declared.rows.Event.TheVariants.{Told, Go}
+use Rattle.sc_base.specs.Definitions.{Drawer, next_name}
+use Rattle.sc_node_table.specs.Values.{Draw, Command, OrderLine, OrderRefusal, Mail, Node, Client, Seat, Go}
+use Rattle.sc_actor.specs.declared.rows.Event.TheVariants.{Told}
 use Rattle.sc_actor.specs.declared.rows.Input.TheVariants.{Told as ToldInput}
-use Rattle.sc_actor.specs.Replay.{value}
-use Rattle.sc_actor.specs.System.{row_of}
-use Rattle.sc_orderly_law.specs.Timely.{AreInTime}
+use Rattle.sc_actor.specs.Definitions.{value, row_of}
+use Rattle.sc_orderly_law.specs.Definitions.{AreInTime}
 use Rattle.sc_scenario.specs.declared.scenarios.Scenario.{Scenario}
-use Rattle.sc_node_table.specs.Node.{NodeState, replica_of, group_of_order, ordered_of}
-use Rattle.sc_node_table.specs.Ordering.{ordered_command, untaken, taken_or_told, ordered_row}
-use Rattle.sc_node_table.specs.Queues.{with_call}
-use Rattle.sc_node_table.specs.Replica.{ReplicaState, next}
-use Rattle.sc_sound.specs.Players.{Player, player_table, births, as_nodes}
-use Rattle.sc_calm_law.specs.Charts.{players}
-use Rattle.sc_calm_law.specs.Totals.{Rows}
-use Rattle.sc_calm_law.proofs.OwedParties.{put_others}
-use Rattle.sc_calm_orders_law.proofs.Lists.{cases-draw}
-use Rattle.sc_calm_rows_law.specs.Groups.{view_at}
-use Rattle.sc_calm_rows_law.specs.Turns.{IsSeat, with_event}
-use Rattle.sc_calm_rows_law.proofs.Hearing.{names_stay}
-use Rattle.sc_calm_rows_law.proofs.Turning.{found_name, rows_replicas}
-use Rattle.sc_calm_rows_law.proofs.Viewing.{view_others, view_was}
-use Rattle.sc_calm_scenes_law.proofs.Fresh.{client_leaves}
-use Rattle.sc_calm_scenes_law.proofs.Taking.{now_is}
-use Rattle.sc_calm_answers_law.specs.Tasks.{Task}
-use Rattle.sc_calm_answers_law.specs.Works.{IsTaskOf}
+use Rattle.sc_node_table.specs.Definitions.{NodeState, replica_of, group_of_order, ordered_of, ordered_command, untaken, taken_or_told, ordered_row, with_call, ReplicaState, next}
+use Rattle.sc_sound.specs.Definitions.{Player, player_table, births, as_nodes}
+use Rattle.sc_calm_law.specs.Definitions.{players, Rows}
+use Rattle.sc_calm_law.proofs.Lemmas.{put_others}
+use Rattle.sc_calm_orders_law.proofs.Lemmas.{cases-draw}
+use Rattle.sc_calm_rows_law.specs.Definitions.{view_at, IsSeat, with_event}
+use Rattle.sc_calm_rows_law.proofs.Lemmas.{names_stay, found_name, rows_replicas, view_others, view_was, none_some}
+use Rattle.sc_calm_scenes_law.proofs.Lemmas.{client_leaves, now_is}
+use Rattle.sc_calm_answers_law.specs.Definitions.{Task, IsTaskOf, AreBorneSo}
 use Rattle.sc_calm_answers_law.proofs.WorkBirths.{HasBorn}
-use Rattle.sc_calm_answers_law.specs.Borne.{AreBorneSo}
 use Rattle.sc_calm_answers_law.proofs.Logs.{At}
 use Rattle.sc_calm_answers_law.proofs.Parts.{pumps}
 use Rattle.std.proofs.lemmas.Option.{same_Some}
-use Rattle.sc_calm_rows_law.proofs.Beginning.{none_some}
 
 -- an order that is told leaves the group
 ordered_same : (drawer : Drawer) (line : OrderLine) (r : ReplicaState) → (ordered_row drawer line (r, [])).0.group ≡ r.group

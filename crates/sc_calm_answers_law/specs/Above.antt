@@ -1,17 +1,14 @@
 -- From which slot on each node is asked to promise a ballot: from above all that it has accepted by then.
 use Rattle.std.specs.Prelude.{◌≡◌, ℕ, suc, max, ◌<◌, ◌≤◌, List, [], ◌∷◌, Some}
-use Rattle.sc_base.specs.Among.{Each}
-use Rattle.sc_cmd.specs.declared.cores.Base.{Base}
-use Rattle.sc_actor.specs.declared.actors.Seat.{Seat}
-use Rattle.sc_paxos_words.specs.Ballots.{IsAtLeast}
-use Rattle.sc_node_table.specs.Replica.{ReplicaState}
-use Rattle.sc_sound.specs.Players.{Player}
-use Rattle.sc_calm_law.specs.Charts.{players}
-use Rattle.sc_calm_law.specs.Totals.{Rows}
-use Rattle.sc_following_law.specs.Dated.{Dated}
-use Rattle.sc_following_law.specs.Following.{Mark, Asks, Votes, Tells, Installs, Prepares, Promises, Course}
-use Rattle.sc_calm_rows_law.specs.Groups.{view_at}
-use Rattle.sc_calm_groups_law.specs.Led.{dated_at}
+use Rattle.sc_base.specs.Definitions.{Each}
+use Rattle.sc_node_table.specs.Values.{Base, Seat}
+use Rattle.sc_paxos_words.specs.Definitions.{IsAtLeast}
+use Rattle.sc_node_table.specs.Definitions.{ReplicaState}
+use Rattle.sc_sound.specs.Definitions.{Player}
+use Rattle.sc_calm_law.specs.Definitions.{players, Rows}
+use Rattle.sc_following_law.specs.Definitions.{Dated, Mark, Asks, Votes, Tells, Installs, Prepares, Promises, Course}
+use Rattle.sc_calm_rows_law.specs.Definitions.{view_at}
+use Rattle.sc_calm_groups_law.specs.Definitions.{dated_at}
 
 -- one that has accepted nothing from a slot on is asked to promise from no slot below that
 abbrev pub IsAbove : ℕ → Mark → ℕ → Type 0

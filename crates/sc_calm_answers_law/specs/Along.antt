@@ -1,24 +1,18 @@
 -- That the rows of a journal guide its groups.
 use Rattle.std.specs.Prelude.{ℕ, ◌++◌, ◌≡◌}
-use Rattle.sc_actor.specs.declared.actors.Seat.{Seat}
-use Rattle.sc_actor.specs.declared.rows.Event.{Event}
+use Rattle.sc_node_table.specs.Values.{Seat, Event, Base, OrderLine}
 use Rattle.sc_calm_answers_law.specs.Guided.{AreBoundBy, IsGuided, IsReachedSo}
-use Rattle.sc_calm_groups_law.specs.Led.{IsWellLed}
-use Rattle.sc_calm_groups_law.specs.Through.{IsSentSo}
-use Rattle.sc_calm_law.specs.Charts.{players}
-use Rattle.sc_calm_law.specs.Totals.{Rows}
+use Rattle.sc_calm_groups_law.specs.Definitions.{IsWellLed, IsSentSo}
+use Rattle.sc_calm_law.specs.Definitions.{players, Rows}
 use Rattle.sc_calm_answers_law.specs.Led.{over_at}
 use Rattle.sc_calm_answers_law.specs.Tellers.{AreFew, tellers_at}
-use Rattle.sc_calm_logs_law.specs.Logged.{IsGroupOf, logged_sets}
-use Rattle.sc_calm_orders_law.specs.Scenes.{Bond}
-use Rattle.sc_calm_rows_law.specs.Turns.{IsSeat, with_event}
-use Rattle.sc_cmd.specs.declared.cores.Base.{Base}
-use Rattle.sc_cmd.specs.declared.orders.OrderLine.{OrderLine}
-use Rattle.sc_following_law.specs.Following.{Course}
-use Rattle.sc_orderly_law.specs.Orderly.{IsCalmEvent}
-use Rattle.sc_orderly_law.specs.Timely.{AreInTime}
+use Rattle.sc_calm_logs_law.specs.Definitions.{IsGroupOf, logged_sets}
+use Rattle.sc_calm_orders_law.specs.Definitions.{Bond}
+use Rattle.sc_calm_rows_law.specs.Definitions.{IsSeat, with_event}
+use Rattle.sc_following_law.specs.Definitions.{Course}
+use Rattle.sc_orderly_law.specs.Definitions.{IsCalmEvent, AreInTime}
 use Rattle.sc_scenario.specs.declared.scenarios.Scenario.{Scenario}
-use Rattle.sc_sound.specs.Players.{Player, as_nodes, births}
+use Rattle.sc_sound.specs.Definitions.{Player, as_nodes, births}
 
 -- A group of a journal whose rows come in time is guided at a row, where its mail up to the row is sent so, no replica of it uses up its slots or its rounds, it is well led before the row, some replica of it is at its newest state, and its replicas are bound by what they have executed.
 abbrev pub RowsAreGuided : Type 0

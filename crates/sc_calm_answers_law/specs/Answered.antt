@@ -1,19 +1,13 @@
 -- That every request of a calm scenario at its budget is answered.
 use Rattle.std.specs.Prelude.{◌≡◌, ℕ, ◌+◌, ◌≤◌, true, false, List, ◌∷◌, length}
-use Rattle.sc_cmd.specs.declared.cores.Base.{Base}
-use Rattle.sc_cmd.specs.declared.orders.OrderLine.{OrderLine}
-use Rattle.sc_mail.specs.declared.bodies.Mail.{Mail}
-use Rattle.sc_actor.specs.declared.rows.Row.{Row}
-use Rattle.sc_actor.specs.Walk.{is_quiet, unsettled}
-use Rattle.sc_scenario.specs.Valid.{IsValid}
+use Rattle.sc_node_table.specs.Values.{Base, OrderLine, Mail, Row}
+use Rattle.sc_actor.specs.Definitions.{is_quiet, unsettled}
+use Rattle.sc_scenario.specs.Definitions.{IsValid}
 use Rattle.sc_scenario.specs.declared.scenarios.Scenario.{Scenario}
-use Rattle.sc_sound.specs.Players.{births, system_of, schedule, as_nodes, Lawful, Whole}
-use Rattle.sc_calm_law.specs.Charts.{Chart, players}
-use Rattle.sc_calm_law.specs.Totals.{Rows}
-use Rattle.sc_calm_charts_law.specs.Charting.{chart_at}
-use Rattle.sc_budget_law.specs.AskingQuiet.{IsQuietJournal}
-use Rattle.sc_budget_law.specs.Budget.{AreAnswered}
-use Rattle.sc_budget_law.specs.Calm.{orders_of, IsCalmAtBudget}
+use Rattle.sc_sound.specs.Definitions.{births, system_of, schedule, as_nodes, Lawful, Whole}
+use Rattle.sc_calm_law.specs.Definitions.{Chart, players, Rows}
+use Rattle.sc_calm_charts_law.specs.Definitions.{chart_at}
+use Rattle.sc_budget_law.specs.Definitions.{IsQuietJournal, AreAnswered, orders_of, IsCalmAtBudget}
 use Rattle.sc_calm_answers_law.specs.Lines.{AreCharted}
 
 -- In each lawful journal of a valid calm scenario at its budget no line is cut off with mail pending.

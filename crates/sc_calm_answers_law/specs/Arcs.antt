@@ -1,15 +1,11 @@
 -- That a group which stands, and is bound in no transaction, has an arc of the ring.
 use Rattle.std.specs.Prelude.{◌≡◌, ℕ, ◌<◌, ◌^◌, None}
-use Rattle.sc_base.specs.Among.{Among}
-use Rattle.sc_base.specs.Arc.{IsArc}
-use Rattle.sc_cmd.specs.declared.cores.Base.{Base}
-use Rattle.sc_cmd.specs.declared.cores.Lock.TheVariants.{Free}
-use Rattle.sc_scenario.specs.Valid.{IsValid}
+use Rattle.sc_base.specs.Definitions.{Among, IsArc}
+use Rattle.sc_node_table.specs.Values.{Base, Free}
+use Rattle.sc_scenario.specs.Definitions.{IsValid}
 use Rattle.sc_scenario.specs.declared.scenarios.Scenario.{Scenario}
-use Rattle.sc_sound.specs.GroupsOf.{groups_at}
-use Rattle.sc_sound.specs.Logs.{decided_state}
-use Rattle.sc_sound.specs.Players.{as_nodes, Lawful}
-use Rattle.sc_log_law.specs.Descent.{Rows}
+use Rattle.sc_sound.specs.Definitions.{groups_at, decided_state, as_nodes, Lawful}
+use Rattle.sc_log_law.specs.Definitions.{Rows}
 
 -- So it is of each group of a lawful journal of a valid scenario.
 abbrev pub FreeGroupsHaveArcs : Type 0

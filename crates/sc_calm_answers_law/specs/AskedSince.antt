@@ -1,30 +1,17 @@
 -- All that holds while clients ask alone since a quiet front of a calm journal: it begins so, each row keeps it, and the journal rests again once it is quiet.
 use Rattle.std.specs.Prelude.{◌≡◌, ℕ, ◌+◌, ◌≤◌, true, false, List, [], ◌∷◌, ◌++◌}
-use Rattle.sc_base.specs.Among.{Among, Each}
-use Rattle.sc_base.specs.declared.names.Draw.{Draw}
-use Rattle.sc_cmd.specs.declared.cores.Base.{Base}
-use Rattle.sc_cmd.specs.declared.orders.OrderLine.{OrderLine}
-use Rattle.sc_mail.specs.declared.bodies.Mail.{Mail}
-use Rattle.sc_actor.specs.Mail.{mails}
-use Rattle.sc_actor.specs.System.{row_of}
-use Rattle.sc_actor.specs.Walk.{is_quiet}
-use Rattle.sc_actor.specs.declared.actors.Seat.{Seat}
-use Rattle.sc_actor.specs.declared.rows.Event.{Event}
-use Rattle.sc_actor.specs.declared.rows.Row.{Row}
-use Rattle.sc_orderly_law.specs.Orderly.{IsInOrder, is_told, orders}
+use Rattle.sc_base.specs.Definitions.{Among, Each}
+use Rattle.sc_node_table.specs.Values.{Draw, Base, OrderLine, Mail, Seat, Event, Row}
+use Rattle.sc_actor.specs.Definitions.{mails, row_of, is_quiet}
+use Rattle.sc_orderly_law.specs.Definitions.{IsInOrder, is_told, orders}
 use Rattle.sc_scenario.specs.declared.scenarios.Scenario.{Scenario}
-use Rattle.sc_sound.specs.GroupsOf.{groups_at}
-use Rattle.sc_sound.specs.Players.{Player, player_table, births, as_nodes}
-use Rattle.sc_calm_law.specs.Charts.{players}
-use Rattle.sc_calm_law.specs.Keeping.{FindsCalm}
-use Rattle.sc_calm_law.specs.Totals.{Rows}
-use Rattle.sc_calm_rows_law.specs.Turns.{IsSeat, with_event}
-use Rattle.sc_calm_scenes_law.specs.Fresh.{IsThere}
-use Rattle.sc_calm_scenes_law.specs.Quiet.{GoesToActor}
-use Rattle.sc_calm_charts_law.specs.Charting.{chart_at}
-use Rattle.sc_calm_charts_law.specs.Fronts.{quiet_front}
-use Rattle.sc_calm_logs_law.specs.Logged.{logged_sets}
-use Rattle.sc_budget_law.specs.AskingLines.{NobodyWaits}
+use Rattle.sc_sound.specs.Definitions.{groups_at, Player, player_table, births, as_nodes}
+use Rattle.sc_calm_law.specs.Definitions.{players, FindsCalm, Rows}
+use Rattle.sc_calm_rows_law.specs.Definitions.{IsSeat, with_event}
+use Rattle.sc_calm_scenes_law.specs.Definitions.{IsThere, GoesToActor}
+use Rattle.sc_calm_charts_law.specs.Definitions.{chart_at, quiet_front}
+use Rattle.sc_calm_logs_law.specs.Definitions.{logged_sets}
+use Rattle.sc_budget_law.specs.Definitions.{NobodyWaits}
 use Rattle.sc_calm_answers_law.specs.Tellers.{tellers_at}
 use Rattle.sc_calm_answers_law.specs.RiseRising.{IsRisingOn}
 use Rattle.sc_calm_answers_law.specs.RiseRounds.{IsBallotSince}

@@ -1,25 +1,14 @@
 -- The children that the entries of a group's log name, and that who executes one has its child.
 use Rattle.std.specs.Prelude.{◌≡◌, ℕ, ◌-◌, ◌<◌, ◌≤◌, true, List, [], ◌∷◌, ◌++◌, take, Some}
-use Rattle.sc_base.specs.Among.{Among}
-use Rattle.sc_base.specs.declared.names.Ballot.{Ballot}
-use Rattle.sc_cmd.specs.declared.commands.Command.{Command}
-use Rattle.sc_cmd.specs.declared.cores.Base.{Base}
-use Rattle.sc_mail.specs.declared.bodies.Mail.{Mail}
-use Rattle.sc_mail.specs.declared.bodies.MailBody.TheVariants.{Accepted, Learn}
-use Rattle.sc_base.specs.Roster.{is_member}
-use Rattle.sc_actor.specs.declared.actors.Seat.{Seat}
-use Rattle.sc_actor.specs.Mail.{mails, numbered}
-use Rattle.sc_machine_table.specs.Children.{child_by}
-use Rattle.sc_machine_table.specs.Group.{group_of}
-use Rattle.sc_machine_table.specs.Logs.{state_after}
+use Rattle.sc_base.specs.Definitions.{Among, is_member}
+use Rattle.sc_node_table.specs.Values.{Ballot, Command, Base, Mail, Accepted, Learn, Seat}
+use Rattle.sc_actor.specs.Definitions.{mails, numbered}
+use Rattle.sc_machine_table.specs.Definitions.{child_by, group_of, state_after}
 use Rattle.sc_scenario.specs.declared.scenarios.Scenario.{Scenario}
-use Rattle.sc_node_table.specs.Node.{NodeState}
-use Rattle.sc_node_table.specs.Replica.{ReplicaState, next, last_slot}
-use Rattle.sc_node_table.specs.Rows.{mailed}
-use Rattle.sc_sound.specs.Logs.{decided_log}
-use Rattle.sc_sound.specs.Players.{Ahead, Player}
-use Rattle.sc_log_law.specs.Descent.{Rows}
-use Rattle.sc_calm_logs_law.specs.Logged.{IsGroupOf, HasReplica}
+use Rattle.sc_node_table.specs.Definitions.{NodeState, ReplicaState, next, last_slot, mailed}
+use Rattle.sc_sound.specs.Definitions.{decided_log, Ahead, Player}
+use Rattle.sc_log_law.specs.Definitions.{Rows}
+use Rattle.sc_calm_logs_law.specs.Definitions.{IsGroupOf, HasReplica}
 
 -- the entry at a slot of a group's log makes this child
 pub record IsBirth (all : List Command) (base : Base) (slot : ℕ) (child : Base) : Type 0 where

@@ -1,9 +1,9 @@
 -- That a valid scenario begins with a quiet journal.
 use Rattle.std.specs.Prelude.{◌≡◌, ℕ, List, [], ◌∷◌}
-use Rattle.sc_cmd.specs.declared.cores.Base.{Base}
+use Rattle.sc_node_table.specs.Values.{Base}
 use Rattle.sc_scenario.specs.declared.scenarios.Scenario.{Scenario}
-use Rattle.sc_scenario.specs.Valid.{IsValid}
-use Rattle.sc_budget_law.specs.AskingQuiet.{IsQuietJournal}
+use Rattle.sc_scenario.specs.Definitions.{IsValid}
+use Rattle.sc_budget_law.specs.Definitions.{IsQuietJournal}
 
 -- before the first row of a valid scenario all is quiet
 abbrev pub QuietJournalsBegin : Type 0

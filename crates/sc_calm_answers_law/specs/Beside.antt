@@ -1,28 +1,14 @@
 -- What a mail finds at a replica beside the leader.
 use Rattle.std.specs.Prelude.{List, None, Some, [], false, true, ℕ, ◌≡◌}
-use Rattle.sc_actor.specs.declared.actors.Seat.{Seat}
-use Rattle.sc_actor.specs.declared.rows.Event.TheVariants.{Deliver, Told}
+use Rattle.sc_node_table.specs.Values.{Seat, Deliver, Base, OrderLine, OrderRefusal, Mail, MailBody, Accept, Accepted, Answer, Ask, Install, Learn, Nack, Prepare, Promise, Request, TxElsewhere, TxOutcome, TxPrepare, TxVote, TxWatch, TxWatched, Told as ToldMail}
+use Rattle.sc_actor.specs.declared.rows.Event.TheVariants.{Told}
 use Rattle.sc_calm_answers_law.specs.Guided.{IsGuided}
-use Rattle.sc_calm_law.specs.Totals.{Rows}
-use Rattle.sc_calm_mail_law.specs.Posted.{IsPosted}
-use Rattle.sc_calm_orders_law.specs.Running.{IsIdle}
-use Rattle.sc_calm_scenes_law.specs.Counted.{IsOrdered}
-use Rattle.sc_calm_scenes_law.specs.Found.{BesideFinds}
-use Rattle.sc_calm_scenes_law.specs.Kept.{IsBeside}
-use Rattle.sc_calm_scenes_law.specs.Taken.{IsTaking}
-use Rattle.sc_cmd.specs.declared.cores.Base.{Base}
-use Rattle.sc_cmd.specs.declared.orders.OrderLine.{OrderLine}
-use Rattle.sc_cmd.specs.declared.orders.OrderRefusal.{OrderRefusal}
-use Rattle.sc_mail.specs.declared.bodies.Mail.{Mail}
-use Rattle.sc_mail.specs.declared.bodies.MailBody.{MailBody}
-use Rattle.sc_mail.specs.declared.bodies.MailBody.TheVariants.{Accept, Accepted, Answer, Ask, Install, Learn, Nack, Prepare, Promise, Request, TxElsewhere, TxOutcome, TxPrepare, TxVote, TxWatch, TxWatched}
-use Rattle.sc_node_table.specs.Node.{NodeState, group_of_order, replica_of}
-use Rattle.sc_node_table.specs.Ordering.{ordered_row, untaken}
-use Rattle.sc_node_table.specs.Replica.{ReplicaState, settled}
-use Rattle.sc_node_table.specs.Rows.{mailed}
-use Rattle.sc_node_table.specs.Transactions.{noted_outcome, standing_vote}
-use Rattle.sc_sound.specs.Players.{Player}
-use Rattle.sc_mail.specs.declared.bodies.MailBody.TheVariants.{Told as ToldMail}
+use Rattle.sc_calm_law.specs.Definitions.{Rows}
+use Rattle.sc_calm_mail_law.specs.Definitions.{IsPosted}
+use Rattle.sc_calm_orders_law.specs.Definitions.{IsIdle}
+use Rattle.sc_calm_scenes_law.specs.Definitions.{IsOrdered, BesideFinds, IsBeside, IsTaking}
+use Rattle.sc_node_table.specs.Definitions.{NodeState, group_of_order, replica_of, ordered_row, untaken, ReplicaState, settled, mailed, noted_outcome, standing_vote}
+use Rattle.sc_sound.specs.Definitions.{Player}
 
 -- A node takes a mail of a group of which it has a replica: the group is guided at this row, the replica is its node's, and where it does not run it has nothing to do.
 pub record IsHere (words : ℕ → ℕ → ℕ × ℕ) (births : List (Seat Player)) (rows : Rows) (seat : Seat Player) (number : ℕ) (mail : Mail) (base : Base) (node : NodeState) (r : ReplicaState) : Type 0 where

@@ -1,24 +1,15 @@
 -- What follows for groups and their children from what stands while an order is under way.
 use Rattle.std.specs.Prelude.{◌≡◌, ℕ, false, [], ◌++◌, Some}
-use Rattle.sc_base.specs.Among.{Among, Each}
-use Rattle.sc_base.specs.declared.names.Draw.{Draw}
-use Rattle.sc_cmd.specs.declared.cores.Base.{Base}
-use Rattle.sc_cmd.specs.declared.orders.OrderLine.{OrderLine}
-use Rattle.sc_mail.specs.declared.bodies.Mail.{Mail}
-use Rattle.sc_orderly_law.specs.Orderly.{is_born}
-use Rattle.sc_actor.specs.declared.actors.Seat.{Seat}
+use Rattle.sc_base.specs.Definitions.{Among, Each}
+use Rattle.sc_node_table.specs.Values.{Draw, Base, OrderLine, Mail, Seat}
+use Rattle.sc_orderly_law.specs.Definitions.{is_born}
 use Rattle.sc_scenario.specs.declared.scenarios.Scenario.{Scenario}
-use Rattle.sc_node_table.specs.Node.{NodeState, replica_of}
-use Rattle.sc_node_table.specs.Replica.{ReplicaState}
-use Rattle.sc_node_table.specs.Rows.{mailed}
-use Rattle.sc_sound.specs.GroupsOf.{groups_at}
-use Rattle.sc_sound.specs.Players.{Player, births, as_nodes}
-use Rattle.sc_calm_law.specs.Charts.{players}
-use Rattle.sc_calm_law.specs.Totals.{Rows}
-use Rattle.sc_calm_rows_law.specs.Groups.{marks_at}
+use Rattle.sc_node_table.specs.Definitions.{NodeState, replica_of, ReplicaState, mailed}
+use Rattle.sc_sound.specs.Definitions.{groups_at, Player, births, as_nodes}
+use Rattle.sc_calm_law.specs.Definitions.{players, Rows}
+use Rattle.sc_calm_rows_law.specs.Definitions.{marks_at}
 use Rattle.sc_calm_answers_law.specs.SentJournals.{IsQuietWhileYoung}
-use Rattle.sc_calm_scenes_law.specs.Fresh.{IsNowhere}
-use Rattle.sc_calm_scenes_law.specs.Taken.{IsTaking}
+use Rattle.sc_calm_scenes_law.specs.Definitions.{IsNowhere, IsTaking}
 use Rattle.sc_calm_answers_law.specs.Works.{AreAtWork, IsTaskOf, IsGuidedRow}
 use Rattle.sc_calm_answers_law.specs.Tasks.{Task}
 use Rattle.sc_calm_answers_law.specs.Journal.{IsCalmJournal}

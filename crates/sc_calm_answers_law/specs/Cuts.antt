@@ -1,23 +1,14 @@
 -- That the groups that stand in a quiet journal are those of the cuts of its ring.
 use Rattle.std.specs.Prelude.{◌≡◌, ℕ, ◌<◌, ◌^◌, List, None, Some}
-use Rattle.sc_base.specs.Among.{Among}
-use Rattle.sc_base.specs.Arc.{IsArc}
-use Rattle.sc_base.specs.declared.names.Draw.{Draw}
-use Rattle.sc_cmd.specs.declared.cores.Base.{Base}
-use Rattle.sc_cmd.specs.declared.orders.OrderLine.{OrderLine}
-use Rattle.sc_mail.specs.declared.bodies.Mail.{Mail}
-use Rattle.sc_actor.specs.declared.rows.Row.{Row}
-use Rattle.sc_log_law.specs.Findings.{AreItsLogs}
-use Rattle.sc_machine_table.specs.Group.{Group}
-use Rattle.sc_node_table.specs.Replica.{ReplicaState}
+use Rattle.sc_base.specs.Definitions.{Among, IsArc}
+use Rattle.sc_node_table.specs.Values.{Draw, Base, OrderLine, Mail, Row}
+use Rattle.sc_log_law.specs.Definitions.{AreItsLogs}
+use Rattle.sc_machine_table.specs.Definitions.{Group}
+use Rattle.sc_node_table.specs.Definitions.{ReplicaState}
 use Rattle.sc_scenario.specs.declared.scenarios.Scenario.{Scenario}
-use Rattle.sc_sound.specs.GroupsOf.{groups_at, world_at}
-use Rattle.sc_sound.specs.Logs.{decided_state}
-use Rattle.sc_sound.specs.Players.{as_nodes}
-use Rattle.sc_sound.specs.Soundness.{IsOneMap}
-use Rattle.sc_calm_law.specs.Quiet.{HasReplica, IsNewest}
-use Rattle.sc_budget_law.specs.AskingQuiet.{replicas_after, AreFramesOf, IsQuietJournal}
-use Rattle.sc_budget_law.specs.Frames.{Frame}
+use Rattle.sc_sound.specs.Definitions.{groups_at, world_at, decided_state, as_nodes, IsOneMap}
+use Rattle.sc_calm_law.specs.Definitions.{HasReplica, IsNewest}
+use Rattle.sc_budget_law.specs.Definitions.{replicas_after, AreFramesOf, IsQuietJournal, Frame}
 use Rattle.sc_calm_answers_law.specs.Round.{AreOfCuts}
 
 -- the group of a birth record as its decided log makes it

@@ -1,22 +1,14 @@
 -- What leaders have executed of an order since the quiet before it.
 use Rattle.std.specs.Prelude.{◌≡◌, ℕ, Bool, true, false, List, [], ◌∷◌, Some, ◌⊎◌}
-use Rattle.sc_actor.specs.declared.actors.Seat.{Seat}
-use Rattle.sc_base.specs.declared.names.Draw.{Draw}
-use Rattle.sc_base.specs.Among.{Among, Each}
-use Rattle.sc_cmd.specs.declared.commands.Command.{Command}
-use Rattle.sc_cmd.specs.declared.commands.Command.TheVariants.{Noop, Call, Join, Leave, Split, Begin, Prepared, RecordVote, GiveUp, Finish, Watched, RecordWatch}
-use Rattle.sc_paxos_words.specs.declared.flights.Flight.{Flight}
-use Rattle.sc_calm_orders_law.specs.Entries.{IsBegun}
-use Rattle.sc_machine_table.specs.Logs.{state_after}
-use Rattle.sc_machine_table.specs.Machine.{applied}
-use Rattle.sc_node_table.specs.Replica.{ReplicaState}
-use Rattle.sc_sound.specs.Players.{Player}
-use Rattle.sc_calm_law.specs.Totals.{Rows}
-use Rattle.sc_calm_orders_law.specs.Parts.{work_by, works}
-use Rattle.sc_calm_orders_law.specs.Scenes.{Turn, First, Lone, Next, Work, Opens, Answers, Records}
-use Rattle.sc_calm_orders_law.specs.Stages.{Party, Stage, Still, Ordered, Asks, SentOn, Weighs, Replied, Recorded, Closes, ClosesBoth}
-use Rattle.sc_calm_rows_law.specs.Groups.{view_at}
-use Rattle.sc_calm_scenes_law.specs.Fresh.{IsThere}
+use Rattle.sc_node_table.specs.Values.{Seat, Draw, Command, Noop, Call, Join, Leave, Split, Begin, Prepared, RecordVote, GiveUp, Finish, Watched, RecordWatch, Flight}
+use Rattle.sc_base.specs.Definitions.{Among, Each}
+use Rattle.sc_calm_orders_law.specs.Definitions.{IsBegun, work_by, works, Turn, First, Lone, Next, Work, Opens, Answers, Records, Party, Stage, Still, Ordered, Asks, SentOn, Weighs, Replied, Recorded, Closes, ClosesBoth}
+use Rattle.sc_machine_table.specs.Definitions.{state_after, applied}
+use Rattle.sc_node_table.specs.Definitions.{ReplicaState}
+use Rattle.sc_sound.specs.Definitions.{Player}
+use Rattle.sc_calm_law.specs.Definitions.{Rows}
+use Rattle.sc_calm_rows_law.specs.Definitions.{view_at}
+use Rattle.sc_calm_scenes_law.specs.Definitions.{IsThere}
 
 -- What a leader executed of an order: it opened a transaction, it heard its participant, it promised as a participant, or it voted.
 pub data Deed : Type 0 where

@@ -1,8 +1,7 @@
 -- What becomes of those that left a group: each takes for the leader the node of the ballot that it promised last, and that one leads still, or has promised a later round.
 use Rattle.std.specs.Prelude.{◌≡◌, ℕ, ◌<◌, true, false, List, Option, Some, ◌⊎◌}
-use Rattle.sc_base.specs.declared.names.Ballot.{Ballot}
-use Rattle.sc_following_law.specs.Following.{Mark, reached, pledged, Progress, Sets, IsOpen}
-use Rattle.sc_following_law.specs.Hints.{Tellers, hinted}
+use Rattle.sc_node_table.specs.Values.{Ballot}
+use Rattle.sc_following_law.specs.Definitions.{Mark, reached, pledged, Progress, Sets, IsOpen, Tellers, hinted}
 
 -- a ballot is that of the one that leads or led last, or its node has promised a later round, once it has taken its mail
 abbrev pub IsPassed : Progress → (ℕ → List Mark) → Ballot → Type 0

@@ -1,28 +1,16 @@
 -- That mail which is delivered in a journal in which its group is well led finds what the law of calm scenarios asks of it.
 use Rattle.std.specs.Prelude.{◌≡◌, ℕ, ◌+◌, false, List, ◌++◌, Some, None}
-use Rattle.sc_base.specs.declared.names.Draw.{Draw}
-use Rattle.sc_cmd.specs.declared.cores.Base.{Base}
-use Rattle.sc_mail.specs.declared.bodies.Mail.{Mail}
-use Rattle.sc_mail.specs.declared.bodies.MailBody.TheVariants.{Install}
-use Rattle.sc_mail.specs.declared.roles.Role.TheVariants.{Node}
-use Rattle.sc_actor.specs.declared.actors.Seat.{Seat}
-use Rattle.sc_actor.specs.declared.rows.Event.TheVariants.{Deliver}
-use Rattle.sc_actor.specs.Mail.{mails, numbered}
-use Rattle.sc_actor.specs.Replay.{value}
-use Rattle.sc_orderly_law.specs.Timely.{AreInTime}
+use Rattle.sc_node_table.specs.Values.{Draw, Base, Mail, Install, Node, Seat, Deliver}
+use Rattle.sc_actor.specs.Definitions.{mails, numbered, value}
+use Rattle.sc_orderly_law.specs.Definitions.{AreInTime}
 use Rattle.sc_scenario.specs.declared.scenarios.Scenario.{Scenario}
-use Rattle.sc_node_table.specs.Node.{NodeState, replica_of, group_of_mail}
-use Rattle.sc_sound.specs.Players.{Player, births, as_nodes, player_table}
-use Rattle.sc_calm_law.specs.Charts.{players, Chart}
-use Rattle.sc_calm_law.specs.Keeping.{IsCalmMailAt}
-use Rattle.sc_calm_law.specs.Owed.{Ways}
-use Rattle.sc_calm_law.specs.Parties.{Elsewhere, StandsOnce}
-use Rattle.sc_calm_law.specs.Totals.{Rows, led_elsewhere}
-use Rattle.sc_following_law.specs.Following.{Course}
-use Rattle.sc_following_law.specs.Hints.{Tellers}
-use Rattle.sc_calm_rows_law.specs.Turns.{IsSeat, with_event}
-use Rattle.sc_calm_logs_law.specs.Logged.{logged_sets, IsGroupOf}
-use Rattle.sc_calm_groups_law.specs.Through.{Delivers, IsSentSo}
+use Rattle.sc_node_table.specs.Definitions.{NodeState, replica_of, group_of_mail}
+use Rattle.sc_sound.specs.Definitions.{Player, births, as_nodes, player_table}
+use Rattle.sc_calm_law.specs.Definitions.{players, Chart, IsCalmMailAt, Ways, Elsewhere, StandsOnce, Rows, led_elsewhere}
+use Rattle.sc_following_law.specs.Definitions.{Course, Tellers}
+use Rattle.sc_calm_rows_law.specs.Definitions.{IsSeat, with_event}
+use Rattle.sc_calm_logs_law.specs.Definitions.{logged_sets, IsGroupOf}
+use Rattle.sc_calm_groups_law.specs.Definitions.{Delivers, IsSentSo}
 use Rattle.sc_calm_answers_law.specs.Led.{over_at}
 use Rattle.sc_calm_answers_law.specs.Tellers.{AreFew}
 use Rattle.sc_calm_answers_law.specs.Meeting.{MeetsMail, NeedsAt}

@@ -1,22 +1,16 @@
 -- That charts follow one another while an order is under way.
 use Rattle.std.specs.Prelude.{◌≡◌, ℕ, true}
-use Rattle.sc_base.specs.Among.{Each}
-use Rattle.sc_actor.specs.declared.actors.Seat.{Seat}
-use Rattle.sc_actor.specs.declared.rows.Event.{Event}
-use Rattle.sc_actor.specs.Walk.{is_quiet}
-use Rattle.sc_actor.specs.Replay.{value}
-use Rattle.sc_cmd.specs.declared.orders.OrderLine.{OrderLine}
-use Rattle.sc_orderly_law.specs.Timely.{AreInTime}
+use Rattle.sc_base.specs.Definitions.{Each}
+use Rattle.sc_node_table.specs.Values.{Seat, Event, OrderLine}
+use Rattle.sc_actor.specs.Definitions.{is_quiet, value}
+use Rattle.sc_orderly_law.specs.Definitions.{AreInTime}
 use Rattle.sc_scenario.specs.declared.scenarios.Scenario.{Scenario}
-use Rattle.sc_sound.specs.Players.{Player, player_table, births, as_nodes}
-use Rattle.sc_calm_law.specs.Charts.{players, MayFollow}
-use Rattle.sc_calm_law.specs.Totals.{Rows}
-use Rattle.sc_calm_rows_law.specs.Turns.{with_event}
-use Rattle.sc_calm_charts_law.specs.Charting.{chart_at}
-use Rattle.sc_calm_charts_law.specs.Following.{WaitsForNone}
-use Rattle.sc_calm_orders_law.specs.Stages.{Stage, IsAt}
-use Rattle.sc_calm_scenes_law.specs.Kept.{StageAfter}
-use Rattle.sc_calm_scenes_law.specs.Scenes.{scene_at}
+use Rattle.sc_sound.specs.Definitions.{Player, player_table, births, as_nodes}
+use Rattle.sc_calm_law.specs.Definitions.{players, MayFollow, Rows}
+use Rattle.sc_calm_rows_law.specs.Definitions.{with_event}
+use Rattle.sc_calm_charts_law.specs.Definitions.{chart_at, WaitsForNone}
+use Rattle.sc_calm_orders_law.specs.Definitions.{Stage, IsAt}
+use Rattle.sc_calm_scenes_law.specs.Definitions.{StageAfter, scene_at}
 use Rattle.sc_calm_answers_law.specs.KeptAsking.{AllLeadAlone}
 
 -- The chart after a row of an order follows that before it, where the stage after the row is that before it or one to which the row leads, each replica that runs leads alone, before it and after it, and no client waits once it is quiet.

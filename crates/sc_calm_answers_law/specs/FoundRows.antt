@@ -1,44 +1,23 @@
 -- What is known of a row of a calm journal, so that it finds what an order needs.
 use Rattle.std.specs.Prelude.{List, None, Some, [], false, true, ℕ, ◌≡◌, ◌≤◌}
-use Rattle.sc_actor.specs.Mail.{mails, numbered}
-use Rattle.sc_actor.specs.Replay.{value}
-use Rattle.sc_actor.specs.Walk.{is_quiet}
-use Rattle.sc_actor.specs.declared.actors.Seat.{Seat}
-use Rattle.sc_actor.specs.declared.rows.Event.{Event}
-use Rattle.sc_actor.specs.declared.rows.Event.TheVariants.{Deliver, Told}
-use Rattle.sc_base.specs.Among.{Each}
-use Rattle.sc_base.specs.declared.names.Ballot.{Ballot}
-use Rattle.sc_base.specs.declared.names.Draw.{Draw}
-use Rattle.sc_base.specs.declared.ops.Op.{Op}
+use Rattle.sc_actor.specs.Definitions.{mails, numbered, value, is_quiet}
+use Rattle.sc_node_table.specs.Values.{Seat, Event, Deliver, Ballot, Draw, Op, Base, OrderLine, Mail, Accepted, Install, Request, Client}
+use Rattle.sc_actor.specs.declared.rows.Event.TheVariants.{Told}
+use Rattle.sc_base.specs.Definitions.{Each}
 use Rattle.sc_calm_answers_law.specs.Beside.{IsUnsettled}
 use Rattle.sc_calm_answers_law.specs.Guided.{IsNamedGuide, WaitsForFlights}
 use Rattle.sc_calm_answers_law.specs.Missed.{IsYoung}
 use Rattle.sc_calm_answers_law.specs.Votes.{IsOrdersAlone, IsTrueEntry}
-use Rattle.sc_calm_law.specs.Charts.{players}
-use Rattle.sc_calm_law.specs.Totals.{Rows}
-use Rattle.sc_calm_orders_law.specs.Stages.{IsUnderWay}
-use Rattle.sc_calm_rows_law.specs.Groups.{marks_at, view_at}
-use Rattle.sc_calm_rows_law.specs.Turns.{IsSeat, with_event}
-use Rattle.sc_calm_scenes_law.specs.Found.{FindsOrder, FindsReplica, NodeFinds}
-use Rattle.sc_calm_scenes_law.specs.Fresh.{IsThere}
-use Rattle.sc_calm_scenes_law.specs.Quiet.{GoesToActor}
-use Rattle.sc_calm_scenes_law.specs.Scenes.{errand_taken, scene_at}
-use Rattle.sc_calm_scenes_law.specs.Taken.{IsTaking}
-use Rattle.sc_cmd.specs.declared.cores.Base.{Base}
-use Rattle.sc_cmd.specs.declared.orders.OrderLine.{OrderLine}
-use Rattle.sc_mail.specs.declared.bodies.Mail.{Mail}
-use Rattle.sc_mail.specs.declared.bodies.MailBody.TheVariants.{Accepted, Install, Request}
-use Rattle.sc_node_table.specs.Node.{NodeState, replica_of}
-use Rattle.sc_node_table.specs.Replica.{ReplicaState, last_slot, next}
-use Rattle.sc_node_table.specs.Rows.{mailed}
-use Rattle.sc_orderly_law.specs.Orderly.{is_born}
-use Rattle.sc_orderly_law.specs.Timely.{AreInTime}
-use Rattle.sc_scenario.specs.Valid.{IsBounded}
+use Rattle.sc_calm_law.specs.Definitions.{players, Rows}
+use Rattle.sc_calm_orders_law.specs.Definitions.{IsUnderWay}
+use Rattle.sc_calm_rows_law.specs.Definitions.{marks_at, view_at, IsSeat, with_event}
+use Rattle.sc_calm_scenes_law.specs.Definitions.{FindsOrder, FindsReplica, NodeFinds, IsThere, GoesToActor, errand_taken, scene_at, IsTaking}
+use Rattle.sc_node_table.specs.Definitions.{NodeState, replica_of, ReplicaState, last_slot, next, mailed}
+use Rattle.sc_orderly_law.specs.Definitions.{is_born, AreInTime}
+use Rattle.sc_scenario.specs.Definitions.{IsBounded}
 use Rattle.sc_scenario.specs.declared.scenarios.Scenario.{Scenario}
-use Rattle.sc_sound.specs.Players.{Player, as_nodes, player_table}
-use Rattle.sc_sound.specs.Players.{births}
-use Rattle.sc_mail.specs.declared.roles.Role.TheVariants.{Client}
-use Rattle.sc_client_table.specs.Client.{Client as ClientState}
+use Rattle.sc_sound.specs.Definitions.{Player, as_nodes, player_table, births}
+use Rattle.sc_client_table.specs.Definitions.{Client as ClientState}
 
 -- What is known where an order is told: the journal is quiet, errands and the mail of groups go to actors, and each leader has slots left and has nothing waiting but what waits for its flights.
 pub record IsToldCalmly (words : ℕ → ℕ → ℕ × ℕ) (births : List (Seat Player)) (rows : Rows) : Type 0 where

@@ -1,8 +1,8 @@
 -- That a calm journal rests before its first row.
 use Rattle.std.specs.Prelude.{◌≡◌, ℕ, List, [], ◌∷◌}
-use Rattle.sc_cmd.specs.declared.cores.Base.{Base}
+use Rattle.sc_node_table.specs.Values.{Base}
 use Rattle.sc_scenario.specs.declared.scenarios.Scenario.{Scenario}
-use Rattle.sc_calm_law.specs.Totals.{Rows}
+use Rattle.sc_calm_law.specs.Definitions.{Rows}
 use Rattle.sc_calm_answers_law.specs.Journal.{IsCalmJournal}
 use Rattle.sc_calm_answers_law.specs.Resting.{RestsAt}
 

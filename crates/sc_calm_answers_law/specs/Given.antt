@@ -1,15 +1,12 @@
 -- What orders a calm scenario gives.
 use Rattle.std.specs.Prelude.{ℕ, ◌^◌, ◌&&◌, nat_le, nat_lt, Bool, true, List}
-use Rattle.sc_cmd.specs.declared.orders.Order.{Order}
-use Rattle.sc_cmd.specs.declared.orders.Order.TheVariants.{Join, Leave, Split, Merge, Repart, Migrate}
-use Rattle.sc_cmd.specs.declared.orders.OrderLine.{OrderLine}
-use Rattle.sc_mail.specs.declared.bodies.Mail.{Mail}
-use Rattle.sc_actor.specs.declared.rows.Row.{Row}
-use Rattle.sc_orderly_law.specs.Timely.{AreToldSo}
+use Rattle.sc_node_table.specs.Values.{Order, Merge, Repart, Migrate, OrderLine, Mail, Row}
+use Rattle.sc_cmd.specs.declared.orders.Order.TheVariants.{Join, Leave, Split}
+use Rattle.sc_orderly_law.specs.Definitions.{AreToldSo}
 use Rattle.sc_scenario.specs.declared.scenarios.Scenario.{Scenario}
-use Rattle.sc_scenario.specs.Valid.{IsValid}
-use Rattle.sc_sound.specs.Players.{as_nodes, Lawful}
-use Rattle.sc_budget_law.specs.Calm.{IsCalmAtBudget}
+use Rattle.sc_scenario.specs.Definitions.{IsValid}
+use Rattle.sc_sound.specs.Definitions.{as_nodes, Lawful}
+use Rattle.sc_budget_law.specs.Definitions.{IsCalmAtBudget}
 
 -- an order for a node of a scenario's that names nodes and positions that there are, with a number from 1 on
 abbrev pub names_nodes : ℕ → Order → Bool

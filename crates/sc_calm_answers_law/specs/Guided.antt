@@ -1,32 +1,17 @@
 -- What is known of each group at a row of a calm journal: who leads it, and how its newest replicas are bound.
 use Rattle.std.specs.Prelude.{List, Some, [], false, true, ℕ, ◌≡◌, ◌≤◌, ◌⊎◌}
-use Rattle.sc_actor.specs.Walk.{is_quiet}
-use Rattle.sc_actor.specs.declared.actors.Seat.{Seat}
-use Rattle.sc_actor.specs.declared.rows.Event.{Event}
-use Rattle.sc_base.specs.declared.names.Draw.{Draw}
-use Rattle.sc_calm_groups_law.specs.Kept.{AreKeptBorn}
-use Rattle.sc_calm_groups_law.specs.Kinds.{IsLedStep}
-use Rattle.sc_calm_groups_law.specs.Led.{Ends, IsWellLed}
-use Rattle.sc_calm_groups_law.specs.Through.{HasOneLog, IsSentSo}
-use Rattle.sc_calm_law.specs.Charts.{players}
-use Rattle.sc_calm_law.specs.Totals.{Rows}
-use Rattle.sc_calm_orders_law.specs.Parts.{bond_of, works_in}
-use Rattle.sc_calm_orders_law.specs.Scenes.{Bond}
-use Rattle.sc_calm_orders_law.specs.Tables.{IsUnbound}
-use Rattle.sc_calm_rows_law.specs.Groups.{marks_at, view_at}
-use Rattle.sc_calm_rows_law.specs.Turns.{with_event}
-use Rattle.sc_calm_scenes_law.specs.Fresh.{IsThere}
-use Rattle.sc_calm_scenes_law.specs.Quiet.{HasNothing}
-use Rattle.sc_calm_scenes_law.specs.Turns.{LeadsAlone, NewestAreBound, NoneRuns}
-use Rattle.sc_cmd.specs.declared.cores.Base.{Base}
-use Rattle.sc_cmd.specs.declared.orders.OrderLine.{OrderLine}
-use Rattle.sc_following_law.specs.Following.{Course, Sets}
-use Rattle.sc_following_law.specs.Hints.{Tellers}
-use Rattle.sc_base.specs.Roster.{IsRoster}
-use Rattle.sc_node_table.specs.Replica.{ReplicaState, last_slot, next}
-use Rattle.sc_orderly_law.specs.Orderly.{is_born}
-use Rattle.sc_orderly_law.specs.Timely.{AreInTime}
-use Rattle.sc_sound.specs.Players.{Player}
+use Rattle.sc_actor.specs.Definitions.{is_quiet}
+use Rattle.sc_node_table.specs.Values.{Seat, Event, Draw, Base, OrderLine}
+use Rattle.sc_calm_groups_law.specs.Definitions.{AreKeptBorn, IsLedStep, Ends, IsWellLed, HasOneLog, IsSentSo}
+use Rattle.sc_calm_law.specs.Definitions.{players, Rows}
+use Rattle.sc_calm_orders_law.specs.Definitions.{bond_of, works_in, Bond, IsUnbound}
+use Rattle.sc_calm_rows_law.specs.Definitions.{marks_at, view_at, with_event}
+use Rattle.sc_calm_scenes_law.specs.Definitions.{IsThere, HasNothing, LeadsAlone, NewestAreBound, NoneRuns}
+use Rattle.sc_following_law.specs.Definitions.{Course, Sets, Tellers}
+use Rattle.sc_base.specs.Definitions.{IsRoster}
+use Rattle.sc_node_table.specs.Definitions.{ReplicaState, last_slot, next}
+use Rattle.sc_orderly_law.specs.Definitions.{is_born, AreInTime}
+use Rattle.sc_sound.specs.Definitions.{Player}
 
 -- How replicas of a group are bound after some rows, by how much they have executed.
 abbrev pub AreBoundBy : (ℕ → Bond) → List (Seat Player) → Rows → Draw → Type 0

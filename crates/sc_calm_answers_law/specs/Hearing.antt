@@ -1,40 +1,19 @@
 -- What clients find in answers, and where they go, while they ask, between two orders of a calm journal.
 use Rattle.std.specs.Prelude.{◌≡◌, ℕ, ◌-◌, ◌≤◌, false, Bool, List, [], ◌∷◌, ◌++◌, slice_get, Some, ◌⊎◌}
-use Rattle.sc_base.specs.Among.{Among}
-use Rattle.sc_base.specs.Limits.{client_actor}
-use Rattle.sc_base.specs.declared.names.Draw.{Draw}
-use Rattle.sc_base.specs.declared.ops.Op.{Op}
-use Rattle.sc_cmd.specs.declared.cores.Base.{Base}
-use Rattle.sc_cmd.specs.declared.orders.OrderLine.{OrderLine}
-use Rattle.sc_lookup.specs.Known.{target_in}
+use Rattle.sc_base.specs.Definitions.{Among, client_actor}
+use Rattle.sc_node_table.specs.Values.{Draw, Op, Base, OrderLine, AnswerBody, Mail, Answer, Client, Got, Row}
+use Rattle.sc_lookup.specs.Definitions.{target_in}
 use Rattle.sc_lookup.specs.declared.ways.Way.{Way}
-use Rattle.sc_mail.specs.declared.bodies.AnswerBody.{AnswerBody}
-use Rattle.sc_mail.specs.declared.bodies.Mail.{Mail}
-use Rattle.sc_mail.specs.declared.bodies.MailBody.TheVariants.{Answer}
-use Rattle.sc_mail.specs.declared.roles.Role.TheVariants.{Client}
-use Rattle.sc_actor.specs.declared.rows.Input.TheVariants.{Got, Go}
-use Rattle.sc_actor.specs.declared.rows.Row.{Row}
-use Rattle.sc_actor.specs.Mail.{mails, numbered}
-use Rattle.sc_actor.specs.Replay.{value}
-use Rattle.sc_actor.specs.System.{waiting, kth, has_gone}
-use Rattle.sc_client_table.specs.Client.{Client as ClientState}
-use Rattle.sc_client_table.specs.Table.{table}
+use Rattle.sc_actor.specs.declared.rows.Input.TheVariants.{Go}
+use Rattle.sc_actor.specs.Definitions.{mails, numbered, value, waiting, kth, has_gone}
+use Rattle.sc_client_table.specs.Definitions.{Client as ClientState, table}
 use Rattle.sc_scenario.specs.declared.scenarios.Asks.{Asks}
 use Rattle.sc_scenario.specs.declared.scenarios.Scenario.{Scenario}
-use Rattle.sc_scenario.specs.Valid.{IsValid}
-use Rattle.sc_sound.specs.Players.{player_table, client_seat, route_of, system_of, as_nodes}
-use Rattle.sc_orderly_law.specs.Orderly.{IsTidy}
-use Rattle.sc_orderly_law.specs.Owing.{owed}
-use Rattle.sc_calm_law.specs.Charts.{Chart}
-use Rattle.sc_calm_law.specs.Keeping.{IsCalmFor, MayGoNow}
-use Rattle.sc_calm_law.specs.Parties.{Elsewhere}
-use Rattle.sc_calm_law.specs.Reach.{sent_on}
-use Rattle.sc_budget_law.specs.Asking.{IsAsking}
-use Rattle.sc_budget_law.specs.AskingLines.{AreRequests, AreSeated, NobodyWaits}
-use Rattle.sc_budget_law.specs.CalmAsking.{IsLinkedSetting, IsCalmClient}
-use Rattle.sc_budget_law.specs.CalmNode.{Setting, IsSetting, IsCalmMail}
-use Rattle.sc_budget_law.specs.Frames.{Frame}
-use Rattle.sc_budget_law.specs.PlainClient.{IsWaiting, IsBegun}
+use Rattle.sc_scenario.specs.Definitions.{IsValid}
+use Rattle.sc_sound.specs.Definitions.{player_table, client_seat, route_of, system_of, as_nodes}
+use Rattle.sc_orderly_law.specs.Definitions.{IsTidy, owed}
+use Rattle.sc_calm_law.specs.Definitions.{Chart, IsCalmFor, MayGoNow, Elsewhere, sent_on}
+use Rattle.sc_budget_law.specs.Definitions.{IsAsking, AreRequests, AreSeated, NobodyWaits, IsLinkedSetting, IsCalmClient, Setting, IsSetting, IsCalmMail, Frame, IsWaiting, IsBegun}
 use Rattle.sc_calm_answers_law.specs.RequestsFinding.{CountsAs}
 use Rattle.sc_calm_answers_law.specs.Tokens.{token_owing}
 

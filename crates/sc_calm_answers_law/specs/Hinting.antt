@@ -1,22 +1,15 @@
 -- That hints rise in quiet fronts of a calm journal: what is kept of each group row by row, and what follows of it in quiet.
 use Rattle.std.specs.Prelude.{◌≡◌, ℕ, false, [], Some, None}
-use Rattle.sc_cmd.specs.declared.cores.Base.{Base}
-use Rattle.sc_cmd.specs.declared.orders.OrderLine.{OrderLine}
-use Rattle.sc_actor.specs.declared.actors.Seat.{Seat}
-use Rattle.sc_actor.specs.declared.rows.Event.{Event}
-use Rattle.sc_orderly_law.specs.Timely.{AreInTime}
+use Rattle.sc_node_table.specs.Values.{Base, OrderLine, Seat, Event}
+use Rattle.sc_orderly_law.specs.Definitions.{AreInTime}
 use Rattle.sc_scenario.specs.declared.scenarios.Scenario.{Scenario}
-use Rattle.sc_node_table.specs.Replica.{ReplicaState}
-use Rattle.sc_sound.specs.Players.{Player, births, as_nodes}
-use Rattle.sc_calm_law.specs.Charts.{players}
-use Rattle.sc_calm_law.specs.Quiet.{RisesAt}
-use Rattle.sc_calm_law.specs.Totals.{Rows}
-use Rattle.sc_following_law.specs.Following.{Sets}
-use Rattle.sc_following_law.specs.Hints.{Tellers}
-use Rattle.sc_calm_rows_law.specs.Groups.{view_at, marks_at}
-use Rattle.sc_calm_rows_law.specs.Turns.{IsSeat, with_event}
-use Rattle.sc_calm_groups_law.specs.Led.{Ends}
-use Rattle.sc_calm_logs_law.specs.Logged.{logged_sets, IsGroupOf}
+use Rattle.sc_node_table.specs.Definitions.{ReplicaState}
+use Rattle.sc_sound.specs.Definitions.{Player, births, as_nodes}
+use Rattle.sc_calm_law.specs.Definitions.{players, RisesAt, Rows}
+use Rattle.sc_following_law.specs.Definitions.{Sets, Tellers}
+use Rattle.sc_calm_rows_law.specs.Definitions.{view_at, marks_at, IsSeat, with_event}
+use Rattle.sc_calm_groups_law.specs.Definitions.{Ends}
+use Rattle.sc_calm_logs_law.specs.Definitions.{logged_sets, IsGroupOf}
 use Rattle.sc_calm_answers_law.specs.Led.{over_at}
 use Rattle.sc_calm_answers_law.specs.Tellers.{tellers_at}
 use Rattle.sc_calm_answers_law.specs.SentJournals.{IsSentThrough, IsSentStep}

@@ -1,19 +1,14 @@
 -- A calm journal and its fronts, and that all its groups are well led.
 use Rattle.std.specs.Prelude.{◌≡◌, ℕ, ◌≤◌, ◌^◌, ◌++◌, length}
-use Rattle.sc_base.specs.Among.{Among}
-use Rattle.sc_base.specs.declared.names.Draw.{Draw}
-use Rattle.sc_cmd.specs.declared.cores.Base.{Base}
-use Rattle.sc_actor.specs.declared.actors.Seat.{Seat}
-use Rattle.sc_actor.specs.declared.rows.Event.TheVariants.{Deliver}
-use Rattle.sc_orderly_law.specs.Timely.{AreInTime, AreToldSo}
-use Rattle.sc_scenario.specs.Valid.{IsValid}
+use Rattle.sc_base.specs.Definitions.{Among}
+use Rattle.sc_node_table.specs.Values.{Draw, Base, Seat, Deliver}
+use Rattle.sc_orderly_law.specs.Definitions.{AreInTime, AreToldSo}
+use Rattle.sc_scenario.specs.Definitions.{IsValid}
 use Rattle.sc_scenario.specs.declared.scenarios.Scenario.{Scenario}
-use Rattle.sc_sound.specs.GroupsOf.{groups_at}
-use Rattle.sc_sound.specs.Players.{Player, births, as_nodes, Lawful}
-use Rattle.sc_calm_law.specs.Charts.{players}
-use Rattle.sc_calm_law.specs.Totals.{Rows}
-use Rattle.sc_calm_rows_law.specs.Turns.{IsSeat, with_event}
-use Rattle.sc_calm_logs_law.specs.Logged.{logged_sets}
+use Rattle.sc_sound.specs.Definitions.{groups_at, Player, births, as_nodes, Lawful}
+use Rattle.sc_calm_law.specs.Definitions.{players, Rows}
+use Rattle.sc_calm_rows_law.specs.Definitions.{IsSeat, with_event}
+use Rattle.sc_calm_logs_law.specs.Definitions.{logged_sets}
 use Rattle.sc_calm_answers_law.specs.Led.{over_at}
 use Rattle.sc_calm_answers_law.specs.Tellers.{tellers_at}
 use Rattle.sc_calm_answers_law.specs.SentJournals.{IsSentThrough}

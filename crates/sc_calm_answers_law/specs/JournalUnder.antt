@@ -1,20 +1,15 @@
 -- What holds while an order is under way since a quiet front of a calm journal.
 use Rattle.std.specs.Prelude.{◌≡◌, ℕ, true, List, Some, None, ◌⊎◌}
-use Rattle.sc_base.specs.Among.{Among, Each}
-use Rattle.sc_cmd.specs.declared.cores.Base.{Base}
-use Rattle.sc_actor.specs.declared.actors.Seat.{Seat}
-use Rattle.sc_orderly_law.specs.Orderly.{is_born, rest}
+use Rattle.sc_base.specs.Definitions.{Among, Each}
+use Rattle.sc_node_table.specs.Values.{Base, Seat}
+use Rattle.sc_orderly_law.specs.Definitions.{is_born, rest}
 use Rattle.sc_scenario.specs.declared.scenarios.Scenario.{Scenario}
-use Rattle.sc_node_table.specs.Node.{group_of_mail}
-use Rattle.sc_node_table.specs.Replica.{born_replica}
-use Rattle.sc_node_table.specs.Slots.{slots_ahead}
-use Rattle.sc_sound.specs.GroupsOf.{groups_at}
-use Rattle.sc_sound.specs.Players.{Player, births, as_nodes}
-use Rattle.sc_calm_law.specs.Charts.{players}
-use Rattle.sc_calm_law.specs.Totals.{Rows}
-use Rattle.sc_calm_rows_law.specs.Groups.{view_at}
-use Rattle.sc_calm_orders_law.specs.Stages.{Stage}
-use Rattle.sc_calm_scenes_law.specs.Fresh.{IsNowhere, AreUntouched}
+use Rattle.sc_node_table.specs.Definitions.{group_of_mail, born_replica, slots_ahead}
+use Rattle.sc_sound.specs.Definitions.{groups_at, Player, births, as_nodes}
+use Rattle.sc_calm_law.specs.Definitions.{players, Rows}
+use Rattle.sc_calm_rows_law.specs.Definitions.{view_at}
+use Rattle.sc_calm_orders_law.specs.Definitions.{Stage}
+use Rattle.sc_calm_scenes_law.specs.Definitions.{IsNowhere, AreUntouched}
 use Rattle.sc_calm_answers_law.specs.Guided.{IsReachedSo}
 use Rattle.sc_calm_answers_law.specs.Journal.{IsFront, AreSent}
 use Rattle.sc_calm_answers_law.specs.Resting.{RestsAt}

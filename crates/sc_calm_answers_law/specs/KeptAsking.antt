@@ -1,16 +1,13 @@
 -- That the chart of a calm journal says what the coordinator of an order that is under way asks.
 use Rattle.std.specs.Prelude.{◌≡◌, ℕ, true, List, Some}
-use Rattle.sc_base.specs.Among.{Among}
-use Rattle.sc_base.specs.declared.names.Draw.{Draw}
-use Rattle.sc_actor.specs.declared.actors.Seat.{Seat}
-use Rattle.sc_node_table.specs.Replica.{ReplicaState, name_of}
-use Rattle.sc_sound.specs.Players.{Player}
-use Rattle.sc_calm_law.specs.Totals.{Rows}
-use Rattle.sc_calm_charts_law.specs.Charting.{all_replicas, asked_in}
-use Rattle.sc_calm_orders_law.specs.Scenes.{Turn, is_watch, Asking}
-use Rattle.sc_calm_orders_law.specs.Stages.{Stage, IsAt}
-use Rattle.sc_calm_scenes_law.specs.Scenes.{scene_at}
-use Rattle.sc_calm_scenes_law.specs.Turns.{LeadsAlone}
+use Rattle.sc_base.specs.Definitions.{Among}
+use Rattle.sc_node_table.specs.Values.{Draw, Seat}
+use Rattle.sc_node_table.specs.Definitions.{ReplicaState, name_of}
+use Rattle.sc_sound.specs.Definitions.{Player}
+use Rattle.sc_calm_law.specs.Definitions.{Rows}
+use Rattle.sc_calm_charts_law.specs.Definitions.{all_replicas, asked_in}
+use Rattle.sc_calm_orders_law.specs.Definitions.{Turn, is_watch, Asking, Stage, IsAt}
+use Rattle.sc_calm_scenes_law.specs.Definitions.{scene_at, LeadsAlone}
 
 -- each replica of a player that runs leads its group alone
 abbrev pub AllLeadAlone : List (Seat Player) → Rows → Type 0

@@ -1,28 +1,17 @@
 -- That each delivery finds what keeps a calm journal calm while an order is under way.
 use Rattle.std.specs.Prelude.{◌≡◌, ℕ, ◌≤◌, true, [], Some, length}
-use Rattle.sc_base.specs.Among.{Among, Each}
-use Rattle.sc_base.specs.declared.names.Draw.{Draw}
-use Rattle.sc_cmd.specs.declared.cores.Base.{Base}
-use Rattle.sc_mail.specs.declared.bodies.Mail.{Mail}
-use Rattle.sc_mail.specs.declared.roles.Role.TheVariants.{Node, Client}
-use Rattle.sc_actor.specs.declared.actors.Seat.{Seat}
-use Rattle.sc_actor.specs.declared.rows.Event.TheVariants.{Deliver}
-use Rattle.sc_actor.specs.Mail.{mails, numbered}
-use Rattle.sc_actor.specs.Replay.{value}
-use Rattle.sc_client_table.specs.Client.{Client as ClientState}
-use Rattle.sc_machine_table.specs.Machine.{applied}
-use Rattle.sc_node_table.specs.Node.{NodeState, replica_of, group_of_mail}
-use Rattle.sc_node_table.specs.Replica.{ReplicaState}
+use Rattle.sc_base.specs.Definitions.{Among, Each}
+use Rattle.sc_node_table.specs.Values.{Draw, Base, Mail, Node, Client, Seat, Deliver}
+use Rattle.sc_actor.specs.Definitions.{mails, numbered, value}
+use Rattle.sc_client_table.specs.Definitions.{Client as ClientState}
+use Rattle.sc_machine_table.specs.Definitions.{applied}
+use Rattle.sc_node_table.specs.Definitions.{NodeState, replica_of, group_of_mail, ReplicaState}
 use Rattle.sc_scenario.specs.declared.scenarios.Scenario.{Scenario}
-use Rattle.sc_sound.specs.GroupsOf.{groups_at}
-use Rattle.sc_sound.specs.Players.{Player, player_table, births, as_nodes}
-use Rattle.sc_calm_law.specs.Charts.{players}
-use Rattle.sc_calm_law.specs.Keeping.{FindsCalm}
-use Rattle.sc_calm_law.specs.Totals.{Rows}
-use Rattle.sc_calm_rows_law.specs.Turns.{with_event}
-use Rattle.sc_calm_charts_law.specs.Charting.{chart_at}
-use Rattle.sc_calm_charts_law.specs.Fronts.{quiet_front}
-use Rattle.sc_budget_law.specs.AskingQuiet.{replicas_after, DoHintsRise}
+use Rattle.sc_sound.specs.Definitions.{groups_at, Player, player_table, births, as_nodes}
+use Rattle.sc_calm_law.specs.Definitions.{players, FindsCalm, Rows}
+use Rattle.sc_calm_rows_law.specs.Definitions.{with_event}
+use Rattle.sc_calm_charts_law.specs.Definitions.{chart_at, quiet_front}
+use Rattle.sc_budget_law.specs.Definitions.{replicas_after, DoHintsRise}
 use Rattle.sc_calm_answers_law.specs.Settings.{AreAtNodes}
 use Rattle.sc_calm_entries_law.specs.Paid.{IsEntry}
 use Rattle.sc_calm_answers_law.specs.Meeting.{IsPlainAt, IsNoRequest}

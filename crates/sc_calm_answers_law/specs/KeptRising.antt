@@ -1,16 +1,13 @@
 -- That by the chart of a calm journal hints rise in the last quiet front.
 use Rattle.std.specs.Prelude.{◌≡◌, ℕ, ◌+◌, ◌≤◌, List, ◌∷◌}
-use Rattle.sc_cmd.specs.declared.cores.Base.{Base}
-use Rattle.sc_orderly_law.specs.Orderly.{orders}
-use Rattle.sc_scenario.specs.Valid.{IsValid}
+use Rattle.sc_node_table.specs.Values.{Base}
+use Rattle.sc_orderly_law.specs.Definitions.{orders}
+use Rattle.sc_scenario.specs.Definitions.{IsValid}
 use Rattle.sc_scenario.specs.declared.scenarios.Scenario.{Scenario}
-use Rattle.sc_sound.specs.Players.{births, as_nodes, Lawful}
-use Rattle.sc_calm_law.specs.Charts.{players}
-use Rattle.sc_calm_law.specs.Totals.{Rows}
-use Rattle.sc_calm_charts_law.specs.Charting.{chart_at}
-use Rattle.sc_calm_charts_law.specs.Fronts.{quiet_front}
-use Rattle.sc_budget_law.specs.AskingQuiet.{replicas_after, setting_at, DoHintsRise, AreFramesOf}
-use Rattle.sc_budget_law.specs.Frames.{Frame}
+use Rattle.sc_sound.specs.Definitions.{births, as_nodes, Lawful}
+use Rattle.sc_calm_law.specs.Definitions.{players, Rows}
+use Rattle.sc_calm_charts_law.specs.Definitions.{chart_at, quiet_front}
+use Rattle.sc_budget_law.specs.Definitions.{replicas_after, setting_at, DoHintsRise, AreFramesOf, Frame}
 use Rattle.sc_calm_answers_law.specs.Hearing.{AreReached}
 use Rattle.sc_calm_answers_law.specs.Settings.{AreAtNodes}
 use Rattle.sc_calm_answers_law.specs.Resting.{RestsAt}

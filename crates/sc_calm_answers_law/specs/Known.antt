@@ -1,23 +1,17 @@
 -- What is known of groups, links and routes in a quiet front of a calm journal.
 use Rattle.std.specs.Prelude.{◌≡◌, ℕ, ◌+◌, false, length, Some}
-use Rattle.sc_base.specs.Among.{Among}
-use Rattle.sc_cmd.specs.declared.cores.Base.{Base}
-use Rattle.sc_cmd.specs.declared.links.Route.{Route}
+use Rattle.sc_base.specs.Definitions.{Among}
+use Rattle.sc_node_table.specs.Values.{Base, Route}
 use Rattle.sc_scenario.specs.declared.scenarios.Scenario.{Scenario}
-use Rattle.sc_node_table.specs.Replica.{ReplicaState}
-use Rattle.sc_sound.specs.GroupsOf.{groups_at}
-use Rattle.sc_sound.specs.Logs.{decided_log}
-use Rattle.sc_sound.specs.Players.{births, as_nodes}
-use Rattle.sc_calm_law.specs.Quiet.{IsLinked}
-use Rattle.sc_calm_law.specs.Totals.{Rows}
-use Rattle.sc_following_law.specs.Following.{Course}
-use Rattle.sc_following_law.specs.Hints.{Tellers}
-use Rattle.sc_calm_orders_law.specs.Stages.{Still, IsAt}
+use Rattle.sc_node_table.specs.Definitions.{ReplicaState}
+use Rattle.sc_sound.specs.Definitions.{groups_at, decided_log, births, as_nodes}
+use Rattle.sc_calm_law.specs.Definitions.{IsLinked, Rows}
+use Rattle.sc_following_law.specs.Definitions.{Course, Tellers}
+use Rattle.sc_calm_orders_law.specs.Definitions.{Still, IsAt}
 use Rattle.sc_calm_answers_law.specs.States.{state_at}
-use Rattle.sc_calm_scenes_law.specs.Fresh.{IsThere}
-use Rattle.sc_calm_scenes_law.specs.Scenes.{scene_at}
+use Rattle.sc_calm_scenes_law.specs.Definitions.{IsThere, scene_at}
 use Rattle.sc_calm_answers_law.specs.Rests.{replicas_at, IsQuietGroup, IsTakenIn}
-use Rattle.sc_budget_law.specs.AskingQuiet.{replicas_after}
+use Rattle.sc_budget_law.specs.Definitions.{replicas_after}
 use Rattle.sc_calm_answers_law.specs.Cuts.{AreKnown}
 use Rattle.sc_calm_answers_law.specs.SettingCounting.{GoneAgree}
 use Rattle.sc_calm_answers_law.specs.Settings.{AreReachable}

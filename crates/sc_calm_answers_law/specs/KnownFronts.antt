@@ -1,26 +1,19 @@
 -- A quiet front of a calm journal, and what is known of its groups.
 use Rattle.std.specs.Prelude.{◌≡◌, ℕ, ◌+◌, true, length, Some}
-use Rattle.sc_base.specs.Among.{Among}
-use Rattle.sc_base.specs.declared.names.Draw.{Draw}
-use Rattle.sc_cmd.specs.declared.cores.Base.{Base}
-use Rattle.sc_actor.specs.Mail.{mails}
-use Rattle.sc_actor.specs.Walk.{is_quiet}
-use Rattle.sc_paxos_law.specs.Chosen.{IsLog}
+use Rattle.sc_base.specs.Definitions.{Among}
+use Rattle.sc_node_table.specs.Values.{Draw, Base}
+use Rattle.sc_actor.specs.Definitions.{mails, is_quiet}
+use Rattle.sc_paxos_law.specs.Definitions.{IsLog}
 use Rattle.sc_scenario.specs.declared.scenarios.Scenario.{Scenario}
-use Rattle.sc_node_table.specs.Replica.{ReplicaState}
-use Rattle.sc_sound.specs.GroupsOf.{groups_at}
-use Rattle.sc_sound.specs.Accepts.{accepts}
-use Rattle.sc_sound.specs.Logs.{rule_of, decided_log}
-use Rattle.sc_sound.specs.Players.{Lawful, births, as_nodes}
-use Rattle.sc_sound.specs.Soundness.{Continues, HasRun}
-use Rattle.sc_calm_law.specs.Charts.{players}
-use Rattle.sc_calm_law.specs.Totals.{Rows}
-use Rattle.sc_following_law.specs.Following.{Course}
-use Rattle.sc_calm_rows_law.specs.Groups.{view_at}
+use Rattle.sc_node_table.specs.Definitions.{ReplicaState}
+use Rattle.sc_sound.specs.Definitions.{groups_at, accepts, rule_of, decided_log, Lawful, births, as_nodes, Continues, HasRun}
+use Rattle.sc_calm_law.specs.Definitions.{players, Rows}
+use Rattle.sc_following_law.specs.Definitions.{Course}
+use Rattle.sc_calm_rows_law.specs.Definitions.{view_at}
 use Rattle.sc_calm_answers_law.specs.Tellers.{tellers_at}
-use Rattle.sc_calm_scenes_law.specs.Fresh.{IsThere}
+use Rattle.sc_calm_scenes_law.specs.Definitions.{IsThere}
 use Rattle.sc_calm_answers_law.specs.Rests.{IsQuietGroup}
-use Rattle.sc_budget_law.specs.AskingQuiet.{replicas_after}
+use Rattle.sc_budget_law.specs.Definitions.{replicas_after}
 use Rattle.sc_calm_answers_law.specs.Settings.{AreAtNodes}
 use Rattle.sc_calm_answers_law.specs.Journal.{IsCalmJournal, IsFront, AreSent}
 use Rattle.sc_calm_answers_law.specs.Offered.{AreAskedBelow}

@@ -1,11 +1,11 @@
 -- That members of groups are nodes of their scenario.
 use Rattle.std.specs.Prelude.{◌≡◌, ℕ, ◌≤◌, true}
-use Rattle.sc_cmd.specs.declared.cores.Base.{Base}
-use Rattle.sc_base.specs.Roster.{is_member}
+use Rattle.sc_node_table.specs.Values.{Base}
+use Rattle.sc_base.specs.Definitions.{is_member}
 use Rattle.sc_scenario.specs.declared.scenarios.Scenario.{Scenario}
-use Rattle.sc_sound.specs.Players.{Ahead}
-use Rattle.sc_log_law.specs.Descent.{Rows}
-use Rattle.sc_calm_logs_law.specs.Logged.{logged_sets, IsGroupOf}
+use Rattle.sc_sound.specs.Definitions.{Ahead}
+use Rattle.sc_log_law.specs.Definitions.{Rows}
+use Rattle.sc_calm_logs_law.specs.Definitions.{logged_sets, IsGroupOf}
 
 -- The first members of each group of a lawful journal of a valid scenario are nodes of the scenario, and so are those of each slot of its log.
 pub record MembersAreHome : Type 0 where

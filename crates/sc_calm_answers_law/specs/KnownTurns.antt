@@ -1,15 +1,13 @@
 -- That groups go one after another, where at most one more is gone.
 use Rattle.std.specs.Prelude.{◌≡◌, ℕ, List, ◌++◌, None, Some}
-use Rattle.sc_base.specs.Among.{Among}
-use Rattle.sc_base.specs.declared.names.Draw.{Draw}
-use Rattle.sc_cmd.specs.declared.links.Route.{Route}
+use Rattle.sc_base.specs.Definitions.{Among}
+use Rattle.sc_node_table.specs.Values.{Draw, Route}
 use Rattle.sc_scenario.specs.declared.scenarios.Scenario.{Scenario}
-use Rattle.sc_node_table.specs.Replica.{ReplicaState}
-use Rattle.sc_sound.specs.Players.{births, as_nodes}
-use Rattle.sc_calm_law.specs.Totals.{Rows}
-use Rattle.sc_budget_law.specs.AskingQuiet.{replicas_after}
-use Rattle.sc_calm_charts_law.specs.Charting.{all_replicas, names_at, went_in}
-use Rattle.sc_calm_charts_law.specs.Ends.{GoInTurn}
+use Rattle.sc_node_table.specs.Definitions.{ReplicaState}
+use Rattle.sc_sound.specs.Definitions.{births, as_nodes}
+use Rattle.sc_calm_law.specs.Definitions.{Rows}
+use Rattle.sc_budget_law.specs.Definitions.{replicas_after}
+use Rattle.sc_calm_charts_law.specs.Definitions.{all_replicas, names_at, went_in, GoInTurn}
 use Rattle.sc_calm_answers_law.specs.KnownFronts.{IsQuietFront}
 use Rattle.sc_calm_answers_law.specs.Links.{AreAllFree}
 

@@ -1,22 +1,12 @@
 -- What a mail finds at the leader.
 use Rattle.std.specs.Prelude.{List, Option, true, ℕ, ◌≡◌}
-use Rattle.sc_actor.specs.declared.actors.Seat.{Seat}
-use Rattle.sc_base.specs.declared.names.Ballot.{Ballot}
-use Rattle.sc_base.specs.declared.names.Draw.{Draw}
-use Rattle.sc_base.specs.declared.ops.Op.{Op}
+use Rattle.sc_node_table.specs.Values.{Seat, Ballot, Draw, Op, Base, Mail, Accepted, Request}
 use Rattle.sc_calm_answers_law.specs.Beside.{IsHere, IsUnsettled}
-use Rattle.sc_calm_law.specs.Totals.{Rows}
-use Rattle.sc_calm_orders_law.specs.Scenes.{Scene, Work}
-use Rattle.sc_calm_orders_law.specs.Stages.{IsUnderWay}
-use Rattle.sc_calm_scenes_law.specs.Found.{FindsFlight, LeaderFinds}
-use Rattle.sc_calm_scenes_law.specs.Scenes.{scene_at}
-use Rattle.sc_calm_scenes_law.specs.Turns.{LeadsAlone}
-use Rattle.sc_cmd.specs.declared.cores.Base.{Base}
-use Rattle.sc_mail.specs.declared.bodies.Mail.{Mail}
-use Rattle.sc_mail.specs.declared.bodies.MailBody.TheVariants.{Accepted, Request}
-use Rattle.sc_node_table.specs.Node.{NodeState}
-use Rattle.sc_node_table.specs.Replica.{ReplicaState, listed}
-use Rattle.sc_sound.specs.Players.{Player}
+use Rattle.sc_calm_law.specs.Definitions.{Rows}
+use Rattle.sc_calm_orders_law.specs.Definitions.{Scene, Work, IsUnderWay}
+use Rattle.sc_calm_scenes_law.specs.Definitions.{FindsFlight, LeaderFinds, scene_at, LeadsAlone}
+use Rattle.sc_node_table.specs.Definitions.{NodeState, ReplicaState, listed}
+use Rattle.sc_sound.specs.Definitions.{Player}
 
 -- The stages leave each leader one work, or none.
 abbrev pub StagesLeaveOneWork : Type 0

@@ -1,36 +1,17 @@
 -- That a group's log in a lawful journal of a valid scenario is one, where it has leaders.
 use Rattle.std.specs.Prelude.{◌≡◌, ℕ, ◌+◌, ◌-◌, ◌≤◌, true, false, List, [], ◌++◌, take, is_some, Some, None, ◌⊎◌}
-use Rattle.sc_base.specs.declared.names.Ballot.{Ballot}
-use Rattle.sc_base.specs.declared.names.Draw.{Draw}
-use Rattle.sc_cmd.specs.declared.commands.Command.{Command}
-use Rattle.sc_cmd.specs.declared.cores.Base.{Base}
-use Rattle.sc_cmd.specs.declared.orders.OrderLine.{OrderLine}
-use Rattle.sc_mail.specs.declared.bodies.Mail.{Mail}
-use Rattle.sc_mail.specs.declared.bodies.MailBody.TheVariants.{Accepted, Learn, Install}
-use Rattle.sc_mail.specs.declared.roles.Role.TheVariants.{Node}
-use Rattle.sc_base.specs.Roster.{is_member}
-use Rattle.sc_actor.specs.declared.actors.Seat.{Seat}
-use Rattle.sc_actor.specs.declared.rows.Event.{Event}
-use Rattle.sc_actor.specs.Mail.{mails, numbered}
-use Rattle.sc_actor.specs.Replay.{value}
-use Rattle.sc_machine_table.specs.Group.{group_of}
-use Rattle.sc_machine_table.specs.Logs.{state_after}
+use Rattle.sc_node_table.specs.Values.{Ballot, Draw, Command, Base, OrderLine, Mail, Accepted, Learn, Install, Node, Seat, Event}
+use Rattle.sc_base.specs.Definitions.{is_member}
+use Rattle.sc_actor.specs.Definitions.{mails, numbered, value}
+use Rattle.sc_machine_table.specs.Definitions.{group_of, state_after}
 use Rattle.sc_scenario.specs.declared.scenarios.Scenario.{Scenario}
-use Rattle.sc_node_table.specs.Execute.{entered}
-use Rattle.sc_node_table.specs.Node.{NodeState, replica_of, group_of_mail}
-use Rattle.sc_node_table.specs.Replica.{ReplicaState, next, last_slot}
-use Rattle.sc_node_table.specs.Rows.{mailed}
-use Rattle.sc_sound.specs.Logs.{decided_log}
-use Rattle.sc_sound.specs.Players.{Ahead, Player, births, player_table}
-use Rattle.sc_log_law.specs.Descent.{Rows}
-use Rattle.sc_following_law.specs.Following.{members_at}
-use Rattle.sc_following_law.specs.Hints.{Tellers}
-use Rattle.sc_calm_rows_law.specs.Groups.{view_at}
-use Rattle.sc_calm_rows_law.specs.Turns.{IsSeat, with_event, made_children, AreAsBegun}
-use Rattle.sc_calm_logs_law.specs.Logged.{logged_sets, IsGroupOf, HasReplica}
-use Rattle.sc_calm_groups_law.specs.Led.{Ends}
-use Rattle.sc_calm_groups_law.specs.Logged.{HasRounds, RestsBy, CountsAsMember}
-use Rattle.sc_calm_groups_law.specs.Through.{IsRowOf, Delivers, HasOneLog}
+use Rattle.sc_node_table.specs.Definitions.{entered, NodeState, replica_of, group_of_mail, ReplicaState, next, last_slot, mailed}
+use Rattle.sc_sound.specs.Definitions.{decided_log, Ahead, Player, births, player_table}
+use Rattle.sc_log_law.specs.Definitions.{Rows}
+use Rattle.sc_following_law.specs.Definitions.{members_at, Tellers}
+use Rattle.sc_calm_rows_law.specs.Definitions.{view_at, IsSeat, with_event, made_children, AreAsBegun}
+use Rattle.sc_calm_logs_law.specs.Definitions.{logged_sets, IsGroupOf, HasReplica}
+use Rattle.sc_calm_groups_law.specs.Definitions.{Ends, HasRounds, RestsBy, CountsAsMember, IsRowOf, Delivers, HasOneLog}
 
 -- whether the group is gone in the state in which a slot is the next one, by its log in a journal; behind the log's end, in the last state
 abbrev pub over_at : Ahead → Base → Rows → Ends

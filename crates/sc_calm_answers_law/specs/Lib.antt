@@ -91,3 +91,4 @@ pub mod Viewing
 pub mod Votes
 pub mod Works
 pub mod Young
+pub mod Definitions

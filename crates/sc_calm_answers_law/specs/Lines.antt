@@ -1,17 +1,12 @@
 -- That the lines of a calm scenario at its budget end quiet, where its journals keep what they need.
 use Rattle.std.specs.Prelude.{◌≡◌, ℕ, ◌+◌, ◌*◌, false, List, []}
-use Rattle.sc_cmd.specs.declared.orders.OrderLine.{OrderLine}
-use Rattle.sc_mail.specs.declared.bodies.Mail.{Mail}
-use Rattle.sc_actor.specs.declared.rows.Row.{Row}
-use Rattle.sc_actor.specs.Walk.{unsettled}
+use Rattle.sc_node_table.specs.Values.{OrderLine, Mail, Row}
+use Rattle.sc_actor.specs.Definitions.{unsettled}
 use Rattle.sc_scenario.specs.declared.scenarios.Scenario.{Scenario}
-use Rattle.sc_scenario.specs.Valid.{IsValid}
-use Rattle.sc_sound.specs.Players.{births, schedule, as_nodes, system_of, Lawful}
-use Rattle.sc_calm_law.specs.Charts.{Chart, players}
-use Rattle.sc_calm_law.specs.Keeping.{KeepCalm}
-use Rattle.sc_calm_law.specs.Resting.{RestCalm}
-use Rattle.sc_calm_law.specs.Totals.{Rows}
-use Rattle.sc_budget_law.specs.Calm.{orders_of, calm_budget_of, IsCalmAtBudget}
+use Rattle.sc_scenario.specs.Definitions.{IsValid}
+use Rattle.sc_sound.specs.Definitions.{births, schedule, as_nodes, system_of, Lawful}
+use Rattle.sc_calm_law.specs.Definitions.{Chart, players, KeepCalm, RestCalm, Rows}
+use Rattle.sc_budget_law.specs.Definitions.{orders_of, calm_budget_of, IsCalmAtBudget}
 use Rattle.sc_calm_answers_law.specs.Covered.{IsFirstChart}
 
 -- how many deliveries a calm scenario at its budget makes at most: its budget, and for each order what one raises

@@ -1,27 +1,16 @@
 -- What a mail finds at a node without replica, and what children find that a row makes.
 use Rattle.std.specs.Prelude.{List, None, Some, ℕ, ◌≡◌}
-use Rattle.sc_actor.specs.declared.actors.Seat.{Seat}
-use Rattle.sc_actor.specs.declared.rows.Event.TheVariants.{Deliver}
-use Rattle.sc_base.specs.declared.names.Draw.{Draw}
+use Rattle.sc_node_table.specs.Values.{Seat, Deliver, Draw, Base, Free, Mail, Install}
 use Rattle.sc_calm_answers_law.specs.Guided.{IsNamedGuide}
-use Rattle.sc_calm_groups_law.specs.Led.{Ends, IsWellLed}
-use Rattle.sc_calm_law.specs.Totals.{Rows}
-use Rattle.sc_calm_mail_law.specs.Posted.{IsPosted}
-use Rattle.sc_calm_orders_law.specs.Parts.{bond_of}
-use Rattle.sc_calm_orders_law.specs.Scenes.{Unbound}
-use Rattle.sc_calm_rows_law.specs.Groups.{view_at}
-use Rattle.sc_calm_scenes_law.specs.Found.{NodeFinds}
-use Rattle.sc_calm_scenes_law.specs.Fresh.{IsThere}
-use Rattle.sc_calm_scenes_law.specs.Taken.{IsTaking, MayBear}
-use Rattle.sc_cmd.specs.declared.cores.Base.{Base}
-use Rattle.sc_cmd.specs.declared.cores.Lock.TheVariants.{Free}
-use Rattle.sc_following_law.specs.Following.{Course, Sets}
-use Rattle.sc_following_law.specs.Hints.{Tellers}
-use Rattle.sc_mail.specs.declared.bodies.Mail.{Mail}
-use Rattle.sc_mail.specs.declared.bodies.MailBody.TheVariants.{Install}
-use Rattle.sc_node_table.specs.Node.{NodeState}
-use Rattle.sc_node_table.specs.Replica.{ReplicaState}
-use Rattle.sc_sound.specs.Players.{Player}
+use Rattle.sc_calm_groups_law.specs.Definitions.{Ends, IsWellLed}
+use Rattle.sc_calm_law.specs.Definitions.{Rows}
+use Rattle.sc_calm_mail_law.specs.Definitions.{IsPosted}
+use Rattle.sc_calm_orders_law.specs.Definitions.{bond_of, Unbound}
+use Rattle.sc_calm_rows_law.specs.Definitions.{view_at}
+use Rattle.sc_calm_scenes_law.specs.Definitions.{NodeFinds, IsThere, IsTaking, MayBear}
+use Rattle.sc_following_law.specs.Definitions.{Course, Sets, Tellers}
+use Rattle.sc_node_table.specs.Definitions.{NodeState, ReplicaState}
+use Rattle.sc_sound.specs.Definitions.{Player}
 
 -- A mail to a node without replica of its group finds what an order needs: a question is its sender's; and a state is whole, of a member, and of a group that is guided at this row and has a replica.
 abbrev pub MissedAreFound : Type 0

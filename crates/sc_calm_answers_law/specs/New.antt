@@ -1,14 +1,13 @@
 -- That an order's transaction has a name that was nowhere in the quiet before it.
 use Rattle.std.specs.Prelude.{Option, Some, None}
-use Rattle.sc_base.specs.Among.{Each}
-use Rattle.sc_base.specs.declared.names.Draw.{Draw}
-use Rattle.sc_node_table.specs.Replica.{listed}
-use Rattle.sc_names_law.specs.Fresh.{IsUsed}
+use Rattle.sc_base.specs.Definitions.{Each}
+use Rattle.sc_node_table.specs.Values.{Draw}
+use Rattle.sc_node_table.specs.Definitions.{listed}
+use Rattle.sc_names_law.specs.Definitions.{IsUsed}
 use Rattle.sc_scenario.specs.declared.scenarios.Scenario.{Scenario}
-use Rattle.sc_sound.specs.Players.{as_nodes}
-use Rattle.sc_calm_law.specs.Totals.{Rows}
-use Rattle.sc_calm_orders_law.specs.Scenes.{Work, Changes, Opens, Answers, Records, GivesUp, Ends}
-use Rattle.sc_calm_orders_law.specs.Stages.{Stage, Still, Ordered, Asks, SentOn, Weighs, Replied, Recorded, Closes, ClosesBoth}
+use Rattle.sc_sound.specs.Definitions.{as_nodes}
+use Rattle.sc_calm_law.specs.Definitions.{Rows}
+use Rattle.sc_calm_orders_law.specs.Definitions.{Work, Changes, Opens, Answers, Records, GivesUp, Ends, Stage, Still, Ordered, Asks, SentOn, Weighs, Replied, Recorded, Closes, ClosesBoth}
 
 -- the transaction that an order may begin
 abbrev pub opened_by : Work → Option Draw

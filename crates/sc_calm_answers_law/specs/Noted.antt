@@ -1,22 +1,15 @@
 -- That the requests which groups note in a quiet front of a calm journal were begun.
 use Rattle.std.specs.Prelude.{◌≡◌, ℕ, ◌≤◌, List, ◌∷◌, Some}
-use Rattle.sc_base.specs.Among.{Among}
-use Rattle.sc_base.specs.declared.names.Draw.{Draw}
-use Rattle.sc_cmd.specs.declared.cores.Base.{Base}
-use Rattle.sc_actor.specs.Replay.{value}
-use Rattle.sc_orderly_law.specs.Timely.{AreInTime}
-use Rattle.sc_scenario.specs.Valid.{IsValid}
+use Rattle.sc_base.specs.Definitions.{Among}
+use Rattle.sc_node_table.specs.Values.{Draw, Base}
+use Rattle.sc_actor.specs.Definitions.{value}
+use Rattle.sc_orderly_law.specs.Definitions.{AreInTime}
+use Rattle.sc_scenario.specs.Definitions.{IsValid}
 use Rattle.sc_scenario.specs.declared.scenarios.Asks.{Asks}
 use Rattle.sc_scenario.specs.declared.scenarios.Scenario.{Scenario}
-use Rattle.sc_sound.specs.Players.{births, as_nodes, player_table, client_seat, route_of}
-use Rattle.sc_sound.specs.Requests.{issue_row}
-use Rattle.sc_calm_law.specs.Charts.{players}
-use Rattle.sc_calm_law.specs.Quiet.{StandsQuiet}
-use Rattle.sc_calm_law.specs.Totals.{Rows}
-use Rattle.sc_budget_law.specs.AskingQuiet.{replicas_after}
-use Rattle.sc_budget_law.specs.AtRest.{frame_at_rest}
-use Rattle.sc_budget_law.specs.PlainClient.{IsBegun, begun_of}
-use Rattle.sc_budget_law.specs.PlainNode.{IsPlainGroup}
+use Rattle.sc_sound.specs.Definitions.{births, as_nodes, player_table, client_seat, route_of, issue_row}
+use Rattle.sc_calm_law.specs.Definitions.{players, StandsQuiet, Rows}
+use Rattle.sc_budget_law.specs.Definitions.{replicas_after, frame_at_rest, IsBegun, begun_of, IsPlainGroup}
 use Rattle.sc_calm_answers_law.specs.KnownFronts.{IsQuietFront}
 use Rattle.sc_calm_answers_law.specs.Links.{AreAllFree}
 

@@ -1,22 +1,13 @@
 -- That nothing was asked for at a slot beyond what a group's leader offered.
 use Rattle.std.specs.Prelude.{◌≡◌, ℕ, ◌<◌, List, []}
-use Rattle.sc_base.specs.Among.{Each}
-use Rattle.sc_base.specs.declared.names.Draw.{Draw}
-use Rattle.sc_cmd.specs.declared.cores.Base.{Base}
-use Rattle.sc_mail.specs.declared.bodies.Mail.{Mail}
-use Rattle.sc_mail.specs.declared.bodies.MailBody.{MailBody}
-use Rattle.sc_mail.specs.declared.bodies.MailBody.TheVariants.{Request, Answer, Prepare, Promise, Accept, Accepted, Nack, Learn, Ask, Install, TxPrepare, TxVote, TxOutcome, TxElsewhere, TxWatch, TxWatched, Told}
-use Rattle.sc_actor.specs.declared.actors.Seat.{Seat}
-use Rattle.sc_actor.specs.Mail.{mails}
-use Rattle.sc_orderly_law.specs.Timely.{AreInTime}
-use Rattle.sc_sound.specs.Players.{Player}
-use Rattle.sc_calm_law.specs.Charts.{players}
-use Rattle.sc_calm_law.specs.Totals.{Rows}
-use Rattle.sc_following_law.specs.Following.{Course, Sets}
-use Rattle.sc_following_law.specs.Hints.{Tellers}
-use Rattle.sc_calm_groups_law.specs.Led.{Ends, IsWellLed}
-use Rattle.sc_calm_groups_law.specs.Taught.{AreTaughtAt, IsTaughtOn}
-use Rattle.sc_calm_groups_law.specs.Through.{AreWellBorn, HasOneLog, IsSentSo}
+use Rattle.sc_base.specs.Definitions.{Each}
+use Rattle.sc_node_table.specs.Values.{Draw, Base, Mail, MailBody, Request, Answer, Prepare, Promise, Accept, Accepted, Nack, Learn, Ask, Install, TxPrepare, TxVote, TxOutcome, TxElsewhere, TxWatch, TxWatched, Told, Seat}
+use Rattle.sc_actor.specs.Definitions.{mails}
+use Rattle.sc_orderly_law.specs.Definitions.{AreInTime}
+use Rattle.sc_sound.specs.Definitions.{Player}
+use Rattle.sc_calm_law.specs.Definitions.{players, Rows}
+use Rattle.sc_following_law.specs.Definitions.{Course, Sets, Tellers}
+use Rattle.sc_calm_groups_law.specs.Definitions.{Ends, IsWellLed, AreTaughtAt, IsTaughtOn, AreWellBorn, HasOneLog, IsSentSo}
 
 -- what a mail asks to accept of the group with this name is below a slot
 abbrev pub AsksBelow : Draw → ℕ → MailBody → Type 0

@@ -1,22 +1,13 @@
 -- Replicas of one group that executed as much are in one state.
 use Rattle.std.specs.Prelude.{◌≡◌, ℕ, ◌≤◌, true, List, [], ◌∷◌, ◌++◌, Some}
-use Rattle.sc_base.specs.declared.names.Draw.{Draw}
-use Rattle.sc_cmd.specs.declared.cores.Base.{Base}
-use Rattle.sc_cmd.specs.declared.orders.OrderLine.{OrderLine}
-use Rattle.sc_mail.specs.declared.bodies.Mail.{Mail}
-use Rattle.sc_actor.specs.declared.rows.Row.{Row}
-use Rattle.sc_node_table.specs.Replica.{ReplicaState}
+use Rattle.sc_node_table.specs.Values.{Draw, Base, OrderLine, Mail, Row}
+use Rattle.sc_node_table.specs.Definitions.{ReplicaState}
 use Rattle.sc_scenario.specs.declared.scenarios.Scenario.{Scenario}
-use Rattle.sc_scenario.specs.Valid.{IsValid}
-use Rattle.sc_sound.specs.Players.{Lawful, system_of, as_nodes}
-use Rattle.sc_orderly_law.specs.Orderly.{rest, is_born}
-use Rattle.sc_calm_law.specs.Laws.{MayPump}
-use Rattle.sc_calm_law.specs.Owed.{Ways}
-use Rattle.sc_calm_law.specs.Quiet.{View as Replicas, HasReplica}
-use Rattle.sc_budget_law.specs.AskingLines.{AreRequests, AreSeated}
-use Rattle.sc_budget_law.specs.AskingQuiet.{replicas_after, setting_at, AreFramesOf, DoHintsRise, IsQuietJournal}
-use Rattle.sc_budget_law.specs.CalmAsking.{IsLinkedSetting}
-use Rattle.sc_budget_law.specs.Frames.{Frame}
+use Rattle.sc_scenario.specs.Definitions.{IsValid}
+use Rattle.sc_sound.specs.Definitions.{Lawful, system_of, as_nodes}
+use Rattle.sc_orderly_law.specs.Definitions.{rest, is_born}
+use Rattle.sc_calm_law.specs.Definitions.{MayPump, Ways, View as Replicas, HasReplica}
+use Rattle.sc_budget_law.specs.Definitions.{AreRequests, AreSeated, replicas_after, setting_at, AreFramesOf, DoHintsRise, IsQuietJournal, IsLinkedSetting, Frame}
 use Rattle.sc_calm_answers_law.specs.QuietLines.{HaveOneLog}
 
 -- all replicas may pump

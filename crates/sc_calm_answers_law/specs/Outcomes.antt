@@ -1,22 +1,15 @@
 -- That what a journal tells a transaction to have come to can be carried out by its participant.
 use Rattle.std.specs.Prelude.{◌≡◌, ℕ, false, List, Some, None}
 use Rattle.std.specs.FinMap.{get}
-use Rattle.sc_base.specs.declared.names.Draw.{Draw}
-use Rattle.sc_cmd.specs.declared.bodies.Offer.{Offer}
-use Rattle.sc_cmd.specs.declared.commands.Command.TheVariants.{Finish, Prepared, RecordVote}
-use Rattle.sc_cmd.specs.declared.cores.Base.{Base}
-use Rattle.sc_cmd.specs.declared.votes.Frozen.{Frozen}
-use Rattle.sc_cmd.specs.declared.votes.Outcome.{Outcome}
+use Rattle.sc_node_table.specs.Values.{Draw, Offer, Finish, Prepared, RecordVote, Base, Frozen, Outcome}
 use Rattle.sc_cmd.specs.declared.votes.Vote.TheVariants as Vows
-use Rattle.sc_ideal.specs.IdealStore.{holds_key}
-use Rattle.sc_machine_table.specs.Finishes.{participant_after}
-use Rattle.sc_machine_table.specs.Group.{Group}
-use Rattle.sc_machine_table.specs.Plans.{frozen_of}
-use Rattle.sc_ring_law.specs.Stories.{unsigned}
+use Rattle.sc_ideal.specs.Definitions.{holds_key}
+use Rattle.sc_machine_table.specs.Definitions.{participant_after, Group, frozen_of}
+use Rattle.sc_ring_law.specs.Definitions.{unsigned}
 use Rattle.sc_scenario.specs.declared.scenarios.Scenario.{Scenario}
-use Rattle.sc_sound.specs.Players.{as_nodes}
-use Rattle.sc_calm_law.specs.Totals.{Rows}
-use Rattle.sc_calm_logs_law.specs.Logged.{IsGroupOf}
+use Rattle.sc_sound.specs.Definitions.{as_nodes}
+use Rattle.sc_calm_law.specs.Definitions.{Rows}
+use Rattle.sc_calm_logs_law.specs.Definitions.{IsGroupOf}
 use Rattle.sc_calm_answers_law.specs.Told.{IsAllowedBy}
 
 -- what a group has lies on its arc

@@ -1,11 +1,10 @@
 -- That a calm journal rests again once an order is over.
 use Rattle.std.specs.Prelude.{◌≡◌, ℕ, true, List, ◌∷◌}
-use Rattle.sc_cmd.specs.declared.cores.Base.{Base}
-use Rattle.sc_actor.specs.Walk.{is_quiet}
+use Rattle.sc_node_table.specs.Values.{Base}
+use Rattle.sc_actor.specs.Definitions.{is_quiet}
 use Rattle.sc_scenario.specs.declared.scenarios.Scenario.{Scenario}
-use Rattle.sc_sound.specs.Players.{births, as_nodes}
-use Rattle.sc_calm_law.specs.Charts.{players}
-use Rattle.sc_calm_law.specs.Totals.{Rows}
+use Rattle.sc_sound.specs.Definitions.{births, as_nodes}
+use Rattle.sc_calm_law.specs.Definitions.{players, Rows}
 use Rattle.sc_calm_answers_law.specs.Journal.{IsCalmJournal}
 use Rattle.sc_calm_answers_law.specs.Resting.{RestsAt}
 use Rattle.sc_calm_answers_law.specs.Ordered.{IsOrderedSince}

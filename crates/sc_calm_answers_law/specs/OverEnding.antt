@@ -1,30 +1,22 @@
 -- That a quiet front of a calm journal rests, by what is known of its replicas, its clients and its notes.
 use Rattle.std.specs.Prelude.{◌≡◌, ℕ, ◌+◌, ◌≤◌, Bool, true, List, [], Some}
-use Rattle.sc_base.specs.Among.{Among, Each}
-use Rattle.sc_base.specs.Limits.{client_actor}
-use Rattle.sc_base.specs.declared.names.Draw.{Draw}
-use Rattle.sc_cmd.specs.declared.cores.Base.{Base}
-use Rattle.sc_mail.specs.declared.roles.Role.TheVariants.{Client}
-use Rattle.sc_base.specs.Roster.{least_of}
-use Rattle.sc_actor.specs.Replay.{value}
-use Rattle.sc_actor.specs.System.{has_gone}
-use Rattle.sc_orderly_law.specs.Orderly.{orders}
-use Rattle.sc_client_table.specs.Client.{Client as ClientState}
+use Rattle.sc_base.specs.Definitions.{Among, Each, client_actor, least_of}
+use Rattle.sc_node_table.specs.Values.{Draw, Base, Client}
+use Rattle.sc_actor.specs.Definitions.{value, has_gone}
+use Rattle.sc_orderly_law.specs.Definitions.{orders}
+use Rattle.sc_client_table.specs.Definitions.{Client as ClientState}
 use Rattle.sc_scenario.specs.declared.scenarios.Asks.{Asks}
 use Rattle.sc_scenario.specs.declared.scenarios.Scenario.{Scenario}
-use Rattle.sc_node_table.specs.Replica.{ReplicaState}
-use Rattle.sc_sound.specs.Players.{player_table, births, client_seat, route_of, as_nodes}
-use Rattle.sc_calm_law.specs.Quiet.{HasReplica, IsAnswered}
-use Rattle.sc_calm_law.specs.Totals.{Rows}
-use Rattle.sc_calm_rows_law.specs.Groups.{view_at}
-use Rattle.sc_calm_orders_law.specs.Stages.{Still, IsAt}
-use Rattle.sc_calm_scenes_law.specs.Scenes.{scene_at}
-use Rattle.sc_calm_charts_law.specs.Charting.{names_at, all_replicas}
-use Rattle.sc_calm_charts_law.specs.Ends.{GoInTurn}
-use Rattle.sc_budget_law.specs.AskingQuiet.{replicas_after}
+use Rattle.sc_node_table.specs.Definitions.{ReplicaState}
+use Rattle.sc_sound.specs.Definitions.{player_table, births, client_seat, route_of, as_nodes, groups_at}
+use Rattle.sc_calm_law.specs.Definitions.{HasReplica, IsAnswered, Rows}
+use Rattle.sc_calm_rows_law.specs.Definitions.{view_at}
+use Rattle.sc_calm_orders_law.specs.Definitions.{Still, IsAt}
+use Rattle.sc_calm_scenes_law.specs.Definitions.{scene_at}
+use Rattle.sc_calm_charts_law.specs.Definitions.{names_at, all_replicas, GoInTurn}
+use Rattle.sc_budget_law.specs.Definitions.{replicas_after}
 use Rattle.sc_calm_answers_law.specs.KnownFronts.{IsQuietFront}
-use Rattle.sc_sound.specs.GroupsOf.{groups_at}
-use Rattle.sc_calm_logs_law.specs.Logged.{logged_sets}
+use Rattle.sc_calm_logs_law.specs.Definitions.{logged_sets}
 use Rattle.sc_calm_answers_law.specs.Tellers.{tellers_at}
 use Rattle.sc_calm_answers_law.specs.RiseRising.{IsRisingOn}
 use Rattle.sc_calm_answers_law.specs.Journal.{AreSent}

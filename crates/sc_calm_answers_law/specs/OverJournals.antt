@@ -1,23 +1,19 @@
 -- That a quiet front of a calm journal rests, where its players are as a quiet journal asks it.
 use Rattle.std.specs.Prelude.{◌≡◌, ℕ, ◌+◌, ◌≤◌, List, ◌∷◌, ◌++◌, Some}
-use Rattle.sc_base.specs.Among.{Each}
-use Rattle.sc_base.specs.declared.names.Draw.{Draw}
-use Rattle.sc_cmd.specs.declared.cores.Base.{Base}
-use Rattle.sc_actor.specs.Mail.{mails}
-use Rattle.sc_orderly_law.specs.Orderly.{orders}
+use Rattle.sc_base.specs.Definitions.{Each, Among}
+use Rattle.sc_node_table.specs.Values.{Draw, Base}
+use Rattle.sc_actor.specs.Definitions.{mails}
+use Rattle.sc_orderly_law.specs.Definitions.{orders}
 use Rattle.sc_scenario.specs.declared.scenarios.Scenario.{Scenario}
-use Rattle.sc_node_table.specs.Replica.{ReplicaState}
-use Rattle.sc_sound.specs.Players.{births, as_nodes}
-use Rattle.sc_calm_law.specs.Totals.{Rows}
-use Rattle.sc_calm_rows_law.specs.Groups.{view_at}
-use Rattle.sc_calm_scenes_law.specs.Quiet.{GoesToActor}
-use Rattle.sc_calm_charts_law.specs.Charting.{names_at, all_replicas}
-use Rattle.sc_calm_charts_law.specs.Ends.{GoInTurn}
-use Rattle.sc_budget_law.specs.AskingQuiet.{IsQuietJournal}
+use Rattle.sc_node_table.specs.Definitions.{ReplicaState}
+use Rattle.sc_sound.specs.Definitions.{births, as_nodes, groups_at}
+use Rattle.sc_calm_law.specs.Definitions.{Rows}
+use Rattle.sc_calm_rows_law.specs.Definitions.{view_at}
+use Rattle.sc_calm_scenes_law.specs.Definitions.{GoesToActor}
+use Rattle.sc_calm_charts_law.specs.Definitions.{names_at, all_replicas, GoInTurn}
+use Rattle.sc_budget_law.specs.Definitions.{IsQuietJournal}
 use Rattle.sc_calm_answers_law.specs.KnownFronts.{IsQuietFront}
-use Rattle.sc_base.specs.Among.{Among}
-use Rattle.sc_sound.specs.GroupsOf.{groups_at}
-use Rattle.sc_calm_logs_law.specs.Logged.{logged_sets}
+use Rattle.sc_calm_logs_law.specs.Definitions.{logged_sets}
 use Rattle.sc_calm_answers_law.specs.Tellers.{tellers_at}
 use Rattle.sc_calm_answers_law.specs.RiseRising.{IsRisingOn}
 use Rattle.sc_calm_answers_law.specs.Journal.{AreSent}

@@ -1,13 +1,11 @@
 -- That the groups of a scenario have replicas at their first members in each front of a calm journal.
 use Rattle.std.specs.Prelude.{◌≡◌, ℕ, true, List, ◌∷◌}
-use Rattle.sc_base.specs.Among.{Among}
-use Rattle.sc_cmd.specs.declared.cores.Base.{Base}
-use Rattle.sc_base.specs.Roster.{is_member, least_of}
+use Rattle.sc_base.specs.Definitions.{Among, is_member, least_of}
+use Rattle.sc_node_table.specs.Values.{Base}
 use Rattle.sc_scenario.specs.declared.scenarios.Scenario.{Scenario}
-use Rattle.sc_sound.specs.Players.{route_of}
-use Rattle.sc_calm_law.specs.Quiet.{HasReplica}
-use Rattle.sc_calm_law.specs.Totals.{Rows}
-use Rattle.sc_budget_law.specs.AskingQuiet.{replicas_after}
+use Rattle.sc_sound.specs.Definitions.{route_of}
+use Rattle.sc_calm_law.specs.Definitions.{HasReplica, Rows}
+use Rattle.sc_budget_law.specs.Definitions.{replicas_after}
 use Rattle.sc_calm_answers_law.specs.Journal.{IsCalmJournal, IsFront}
 
 -- Each first member of a group of the scenario has a replica of it; so has the one whom clients ask first.

@@ -1,29 +1,17 @@
 -- What holds while clients ask alone since a quiet front of a calm journal.
 use Rattle.std.specs.Prelude.{◌≡◌, ℕ, ◌+◌, ◌≤◌, List, [], ◌∷◌, ◌++◌, true}
-use Rattle.sc_base.specs.Among.{Among}
-use Rattle.sc_cmd.specs.declared.cores.Base.{Base}
-use Rattle.sc_cmd.specs.declared.orders.OrderLine.{OrderLine}
-use Rattle.sc_base.specs.Roster.{is_member}
-use Rattle.sc_actor.specs.declared.actors.Seat.{Seat}
-use Rattle.sc_actor.specs.declared.rows.Event.{Event}
-use Rattle.sc_actor.specs.System.{row_of}
-use Rattle.sc_orderly_law.specs.Orderly.{IsInOrder, is_born, orders}
-use Rattle.sc_log_law.specs.Findings.{AreItsLogs}
-use Rattle.sc_sound.specs.Soundness.{IsOneMap}
+use Rattle.sc_base.specs.Definitions.{Among, is_member}
+use Rattle.sc_node_table.specs.Values.{Base, OrderLine, Seat, Event}
+use Rattle.sc_actor.specs.Definitions.{row_of}
+use Rattle.sc_orderly_law.specs.Definitions.{IsInOrder, is_born, orders}
+use Rattle.sc_log_law.specs.Definitions.{AreItsLogs}
+use Rattle.sc_sound.specs.Definitions.{IsOneMap, groups_at, world_at, Player, player_table, births, as_nodes}
 use Rattle.sc_scenario.specs.declared.scenarios.Scenario.{Scenario}
-use Rattle.sc_sound.specs.GroupsOf.{groups_at, world_at}
-use Rattle.sc_sound.specs.Players.{Player, player_table, births, as_nodes}
-use Rattle.sc_calm_law.specs.Charts.{players}
-use Rattle.sc_calm_law.specs.Keeping.{FindsCalm}
-use Rattle.sc_calm_law.specs.Totals.{Rows}
-use Rattle.sc_calm_rows_law.specs.Turns.{IsSeat}
+use Rattle.sc_calm_law.specs.Definitions.{players, FindsCalm, Rows}
+use Rattle.sc_calm_rows_law.specs.Definitions.{IsSeat}
 use Rattle.sc_calm_answers_law.specs.SentJournals.{IsQuietWhileYoung}
-use Rattle.sc_calm_charts_law.specs.Charting.{chart_at}
-use Rattle.sc_calm_charts_law.specs.Fronts.{quiet_front}
-use Rattle.sc_budget_law.specs.Asking.{IsAsking}
-use Rattle.sc_budget_law.specs.AskingLines.{AreRequests, NobodyWaits}
-use Rattle.sc_budget_law.specs.AskingQuiet.{replicas_after, setting_at}
-use Rattle.sc_budget_law.specs.CalmNode.{Setting}
+use Rattle.sc_calm_charts_law.specs.Definitions.{chart_at, quiet_front}
+use Rattle.sc_budget_law.specs.Definitions.{IsAsking, AreRequests, NobodyWaits, replicas_after, setting_at, Setting}
 use Rattle.sc_calm_answers_law.specs.Rows.{NodesMayPump, AreNear}
 use Rattle.sc_calm_answers_law.specs.SettingCounting.{GoneAgree}
 use Rattle.sc_calm_answers_law.specs.Settings.{frames_after, AreAtNodes}

@@ -1,24 +1,11 @@
 -- That mail finds what it needs while clients ask, between two orders of a calm journal.
 use Rattle.std.specs.Prelude.{◌≡◌, ℕ, ◌+◌, ◌≤◌, List}
-use Rattle.sc_base.specs.Among.{Among, Each}
-use Rattle.sc_base.specs.Limits.{client_actor}
-use Rattle.sc_base.specs.declared.names.Draw.{Draw}
-use Rattle.sc_base.specs.declared.ops.Op.{Op}
-use Rattle.sc_cmd.specs.declared.links.Route.{Route}
-use Rattle.sc_cmd.specs.declared.orders.OrderLine.{OrderLine}
-use Rattle.sc_mail.specs.declared.bodies.Mail.{Mail}
-use Rattle.sc_mail.specs.declared.roles.Role.TheVariants.{Node}
-use Rattle.sc_actor.specs.declared.rows.Row.{Row}
-use Rattle.sc_node_table.specs.Node.{NodeState}
+use Rattle.sc_base.specs.Definitions.{Among, Each, client_actor}
+use Rattle.sc_node_table.specs.Values.{Draw, Op, Route, OrderLine, Mail, Node, Row}
+use Rattle.sc_node_table.specs.Definitions.{NodeState}
 use Rattle.sc_scenario.specs.declared.scenarios.Scenario.{Scenario}
-use Rattle.sc_calm_law.specs.Charts.{Chart}
-use Rattle.sc_calm_law.specs.Executing.{AreBounded}
-use Rattle.sc_calm_law.specs.Keeping.{IsCalmFor}
-use Rattle.sc_calm_law.specs.Laws.{MayPump}
-use Rattle.sc_calm_law.specs.Parties.{Elsewhere, StandsOnce}
-use Rattle.sc_budget_law.specs.CalmNode.{Setting, IsHome, HasGoneTo, IsSetting, IsCalmNode, IsCalmMail, ComesInTime}
-use Rattle.sc_budget_law.specs.Frames.{Frame}
-use Rattle.sc_budget_law.specs.PlainClient.{IsBegun}
+use Rattle.sc_calm_law.specs.Definitions.{Chart, AreBounded, IsCalmFor, MayPump, Elsewhere, StandsOnce}
+use Rattle.sc_budget_law.specs.Definitions.{Setting, IsHome, HasGoneTo, IsSetting, IsCalmNode, IsCalmMail, ComesInTime, Frame, IsBegun}
 
 -- A chart counts as requests find it: ways as the setting has them, each group of which there is a replica once, those that stand reached and all others away from one that stands by as many ends as lead there.
 pub record CountsAs (set : Setting) (chart : Chart) : Type 0 where

@@ -1,29 +1,22 @@
 -- What holds of a quiet front of a calm journal.
 use Rattle.std.specs.Prelude.{◌≡◌, ℕ, ◌+◌, ◌≤◌, true, Some}
-use Rattle.sc_base.specs.Among.{Among}
-use Rattle.sc_base.specs.declared.names.Draw.{Draw}
-use Rattle.sc_cmd.specs.declared.cores.Base.{Base}
-use Rattle.sc_base.specs.Roster.{is_member}
-use Rattle.sc_actor.specs.Walk.{is_quiet}
-use Rattle.sc_orderly_law.specs.Orderly.{orders}
+use Rattle.sc_base.specs.Definitions.{Among, is_member}
+use Rattle.sc_node_table.specs.Values.{Draw, Base}
+use Rattle.sc_actor.specs.Definitions.{is_quiet}
+use Rattle.sc_orderly_law.specs.Definitions.{orders}
 use Rattle.sc_scenario.specs.declared.scenarios.Scenario.{Scenario}
-use Rattle.sc_node_table.specs.Replica.{ReplicaState}
-use Rattle.sc_sound.specs.GroupsOf.{groups_at}
-use Rattle.sc_sound.specs.Players.{births, as_nodes}
-use Rattle.sc_calm_law.specs.Charts.{players}
-use Rattle.sc_calm_law.specs.Quiet.{HasReplica}
-use Rattle.sc_calm_law.specs.Totals.{Rows}
-use Rattle.sc_calm_rows_law.specs.Groups.{view_at}
-use Rattle.sc_calm_orders_law.specs.Stages.{Still, IsAt}
-use Rattle.sc_calm_scenes_law.specs.Scenes.{scene_at}
-use Rattle.sc_calm_scenes_law.specs.Fresh.{IsThere}
-use Rattle.sc_calm_charts_law.specs.Charting.{names_at, all_replicas}
-use Rattle.sc_calm_charts_law.specs.Ends.{GoInTurn}
-use Rattle.sc_budget_law.specs.AskingQuiet.{IsQuietJournal, replicas_after}
+use Rattle.sc_node_table.specs.Definitions.{ReplicaState}
+use Rattle.sc_sound.specs.Definitions.{groups_at, births, as_nodes}
+use Rattle.sc_calm_law.specs.Definitions.{players, HasReplica, Rows}
+use Rattle.sc_calm_rows_law.specs.Definitions.{view_at}
+use Rattle.sc_calm_orders_law.specs.Definitions.{Still, IsAt}
+use Rattle.sc_calm_scenes_law.specs.Definitions.{scene_at, IsThere}
+use Rattle.sc_calm_charts_law.specs.Definitions.{names_at, all_replicas, GoInTurn}
+use Rattle.sc_budget_law.specs.Definitions.{IsQuietJournal, replicas_after}
 use Rattle.sc_calm_answers_law.specs.Cuts.{AreKnown}
 use Rattle.sc_calm_answers_law.specs.OneLog.{AllMayPump}
 use Rattle.sc_calm_answers_law.specs.Settings.{AreReachable}
-use Rattle.sc_calm_logs_law.specs.Logged.{logged_sets}
+use Rattle.sc_calm_logs_law.specs.Definitions.{logged_sets}
 use Rattle.sc_calm_answers_law.specs.Tellers.{tellers_at}
 use Rattle.sc_calm_answers_law.specs.RiseRising.{IsRisingOn}
 use Rattle.sc_calm_answers_law.specs.Journal.{IsFront, AreSent}

@@ -1,29 +1,20 @@
 -- What a group that is well led is in a quiet journal, as the definition of a quiet journal asks it.
 use Rattle.std.specs.Prelude.{◌≡◌, ℕ, ◌^◌, ◌<◌, ◌≤◌, true, false, [], ◌++◌, length, Some}
-use Rattle.sc_base.specs.Among.{Each}
-use Rattle.sc_cmd.specs.declared.cores.Base.{Base}
-use Rattle.sc_cmd.specs.declared.cores.Lock.TheVariants.{Free}
-use Rattle.sc_cmd.specs.declared.links.Route.{Route}
-use Rattle.sc_base.specs.Roster.{is_member}
-use Rattle.sc_actor.specs.Walk.{is_quiet}
-use Rattle.sc_orderly_law.specs.Orderly.{is_born}
-use Rattle.sc_orderly_law.specs.Timely.{AreInTime}
-use Rattle.sc_paxos_words.specs.Ballots.{IsAtLeast}
+use Rattle.sc_base.specs.Definitions.{Each, is_member}
+use Rattle.sc_node_table.specs.Values.{Base, Free, Route}
+use Rattle.sc_actor.specs.Definitions.{is_quiet}
+use Rattle.sc_orderly_law.specs.Definitions.{is_born, AreInTime}
+use Rattle.sc_paxos_words.specs.Definitions.{IsAtLeast}
 use Rattle.sc_scenario.specs.declared.scenarios.Scenario.{Scenario}
-use Rattle.sc_node_table.specs.Replica.{ReplicaState}
-use Rattle.sc_sound.specs.Players.{births, as_nodes}
-use Rattle.sc_calm_law.specs.Charts.{players}
-use Rattle.sc_calm_law.specs.Laws.{MayPump}
-use Rattle.sc_calm_law.specs.Quiet.{View, HasReplica, IsAtRest, IsLinked, StandsQuiet, IsGoneQuiet}
-use Rattle.sc_budget_law.specs.AtRest.{IsKept}
-use Rattle.sc_log_law.specs.Descent.{Rows}
-use Rattle.sc_following_law.specs.Following.{members_at, Course}
-use Rattle.sc_following_law.specs.Hints.{Tellers}
-use Rattle.sc_calm_rows_law.specs.Groups.{view_at, marks_at}
-use Rattle.sc_calm_logs_law.specs.Logged.{logged_sets, IsGroupOf}
-use Rattle.sc_calm_groups_law.specs.Led.{IsWellLed}
-use Rattle.sc_calm_groups_law.specs.Taught.{AreTaughtAt}
-use Rattle.sc_calm_groups_law.specs.Through.{HasOneLog}
+use Rattle.sc_node_table.specs.Definitions.{ReplicaState}
+use Rattle.sc_sound.specs.Definitions.{births, as_nodes}
+use Rattle.sc_calm_law.specs.Definitions.{players, MayPump, View, HasReplica, IsAtRest, IsLinked, StandsQuiet, IsGoneQuiet}
+use Rattle.sc_budget_law.specs.Definitions.{IsKept}
+use Rattle.sc_log_law.specs.Definitions.{Rows}
+use Rattle.sc_following_law.specs.Definitions.{members_at, Course, Tellers}
+use Rattle.sc_calm_rows_law.specs.Definitions.{view_at, marks_at}
+use Rattle.sc_calm_logs_law.specs.Definitions.{logged_sets, IsGroupOf}
+use Rattle.sc_calm_groups_law.specs.Definitions.{IsWellLed, AreTaughtAt, HasOneLog}
 use Rattle.sc_calm_answers_law.specs.Led.{over_at}
 use Rattle.sc_calm_answers_law.specs.States.{state_at}
 

@@ -1,19 +1,14 @@
 -- Each ballot that a node of a group has promised, is asked to promise, or is named in a refusal was seen by its own node, to which such refusals go.
 use Rattle.std.specs.Prelude.{◌≡◌, ℕ, List, Option, Some, None}
-use Rattle.sc_base.specs.Among.{Each}
-use Rattle.sc_base.specs.declared.names.Ballot.{Ballot}
-use Rattle.sc_cmd.specs.declared.cores.Base.{Base}
-use Rattle.sc_mail.specs.declared.bodies.Mail.{Mail}
-use Rattle.sc_mail.specs.declared.bodies.MailBody.TheVariants.{Nack}
-use Rattle.sc_actor.specs.declared.actors.Seat.{Seat}
-use Rattle.sc_actor.specs.Mail.{mails}
-use Rattle.sc_paxos_words.specs.Ballots.{IsAtLeast}
-use Rattle.sc_node_table.specs.Replica.{ReplicaState, first_ballot}
-use Rattle.sc_sound.specs.Players.{Player}
-use Rattle.sc_calm_law.specs.Charts.{players}
-use Rattle.sc_calm_law.specs.Totals.{Rows}
-use Rattle.sc_following_law.specs.Following.{Mark, Asks, Votes, Tells, Installs, Prepares, Promises}
-use Rattle.sc_calm_rows_law.specs.Groups.{view_at, marks_at, promise_in}
+use Rattle.sc_base.specs.Definitions.{Each}
+use Rattle.sc_node_table.specs.Values.{Ballot, Base, Mail, Nack, Seat}
+use Rattle.sc_actor.specs.Definitions.{mails}
+use Rattle.sc_paxos_words.specs.Definitions.{IsAtLeast}
+use Rattle.sc_node_table.specs.Definitions.{ReplicaState, first_ballot}
+use Rattle.sc_sound.specs.Definitions.{Player}
+use Rattle.sc_calm_law.specs.Definitions.{players, Rows}
+use Rattle.sc_following_law.specs.Definitions.{Mark, Asks, Votes, Tells, Installs, Prepares, Promises}
+use Rattle.sc_calm_rows_law.specs.Definitions.{view_at, marks_at, promise_in}
 
 -- the greatest ballot that a replica saw, the group's first where there is none
 abbrev pub top_in : Base → Option ReplicaState → Ballot

@@ -1,16 +1,13 @@
 -- That hints rise after some rows of a calm journal: what is kept of a group in its course, row by row.
 use Rattle.std.specs.Prelude.{◌≡◌, ℕ, List, Some}
-use Rattle.sc_cmd.specs.declared.cores.Base.{Base}
-use Rattle.sc_actor.specs.declared.actors.Seat.{Seat}
-use Rattle.sc_paxos_words.specs.Ballots.{IsAtLeast}
-use Rattle.sc_node_table.specs.Replica.{ReplicaState}
-use Rattle.sc_sound.specs.Players.{Player}
-use Rattle.sc_calm_law.specs.Charts.{players}
-use Rattle.sc_calm_law.specs.Totals.{Rows}
-use Rattle.sc_following_law.specs.Following.{pledged, Course, Sets}
-use Rattle.sc_following_law.specs.Hints.{Tellers}
-use Rattle.sc_calm_rows_law.specs.Groups.{view_at, marks_at, progress_at}
-use Rattle.sc_calm_groups_law.specs.Led.{hints_at}
+use Rattle.sc_node_table.specs.Values.{Base, Seat}
+use Rattle.sc_paxos_words.specs.Definitions.{IsAtLeast}
+use Rattle.sc_node_table.specs.Definitions.{ReplicaState}
+use Rattle.sc_sound.specs.Definitions.{Player}
+use Rattle.sc_calm_law.specs.Definitions.{players, Rows}
+use Rattle.sc_following_law.specs.Definitions.{pledged, Course, Sets, Tellers}
+use Rattle.sc_calm_rows_law.specs.Definitions.{view_at, marks_at, progress_at}
+use Rattle.sc_calm_groups_law.specs.Definitions.{hints_at}
 use Rattle.sc_calm_answers_law.specs.Fates.{AreFated}
 use Rattle.sc_calm_answers_law.specs.RiseHomes.{AreSeen}
 

@@ -1,13 +1,9 @@
 -- That the groups that stand, of which each has a cut of the ring and is as it stands in the world, stand round the ring from any one of them on.
 use Rattle.std.specs.Prelude.{◌≡◌, ◌∷◌, List}
-use Rattle.sc_base.specs.Among.{Among}
-use Rattle.sc_log_entries.specs.Parts.{IsPlaced}
-use Rattle.sc_log_entries.specs.Rings.{Covers}
+use Rattle.sc_base.specs.Definitions.{Among}
+use Rattle.sc_log_entries.specs.Definitions.{IsPlaced, Covers, StoreWorld}
 use Rattle.sc_log_entries.specs.declared.Cut.{Cut}
-use Rattle.sc_log_entries.specs.Worlds.{StoreWorld}
-use Rattle.sc_budget_law.specs.CalmAsking.{IsRingOf}
-use Rattle.sc_budget_law.specs.CalmNode.{Setting}
-use Rattle.sc_budget_law.specs.Frames.{Frame, AreNamedApart}
+use Rattle.sc_budget_law.specs.Definitions.{IsRingOf, Setting, Frame, AreNamedApart}
 
 -- A group that stands, by its frame, is that of a cut: the record is the one that the world has of it.
 pub record IsOfCut (world : StoreWorld) (frame : Frame) (cut : Cut) : Type 0 where

@@ -1,32 +1,17 @@
 -- That each row of a line of requests finds what it needs.
 use Rattle.std.specs.Prelude.{◌≡◌, ℕ, ◌≤◌, ◌==◌, ◌++◌, false, List, ◌∷◌, find, Some}
-use Rattle.sc_base.specs.Among.{Among, Each}
-use Rattle.sc_base.specs.Limits.{client_actor}
-use Rattle.sc_cmd.specs.declared.cores.Base.{Base}
-use Rattle.sc_cmd.specs.declared.orders.OrderLine.{OrderLine}
-use Rattle.sc_mail.specs.declared.bodies.Mail.{Mail}
-use Rattle.sc_mail.specs.declared.roles.Role.TheVariants.{Node, Client}
-use Rattle.sc_actor.specs.declared.actors.Seat.{Seat}
-use Rattle.sc_actor.specs.declared.rows.Event.{Event}
-use Rattle.sc_actor.specs.declared.rows.Row.{Row}
-use Rattle.sc_actor.specs.Replay.{value}
-use Rattle.sc_actor.specs.System.{has_gone}
-use Rattle.sc_client_table.specs.Client.{Client as ClientState}
-use Rattle.sc_node_table.specs.Node.{NodeState}
+use Rattle.sc_base.specs.Definitions.{Among, Each, client_actor}
+use Rattle.sc_node_table.specs.Values.{Base, OrderLine, Mail, Node, Client, Seat, Event, Row}
+use Rattle.sc_actor.specs.Definitions.{value, has_gone}
+use Rattle.sc_client_table.specs.Definitions.{Client as ClientState}
+use Rattle.sc_node_table.specs.Definitions.{NodeState}
 use Rattle.sc_scenario.specs.declared.scenarios.Asks.{Asks}
 use Rattle.sc_scenario.specs.declared.scenarios.Scenario.{Scenario}
-use Rattle.sc_scenario.specs.Valid.{IsValid}
-use Rattle.sc_orderly_law.specs.Orderly.{IsTidy, IsInOrder}
-use Rattle.sc_orderly_law.specs.Owing.{owed}
-use Rattle.sc_sound.specs.Players.{Player, player_table, births, node_seat, client_seat, route_of, system_of, as_nodes}
-use Rattle.sc_calm_law.specs.Charts.{Chart}
-use Rattle.sc_calm_law.specs.Keeping.{FindsCalm}
-use Rattle.sc_calm_law.specs.Laws.{MayPump}
-use Rattle.sc_calm_law.specs.Reach.{sent_on}
-use Rattle.sc_budget_law.specs.Asking.{IsAsking, AreFarFromLast}
-use Rattle.sc_budget_law.specs.AskingLines.{AreRequests, NobodyWaits, AreSeated}
-use Rattle.sc_budget_law.specs.CalmAsking.{IsLinkedSetting}
-use Rattle.sc_budget_law.specs.CalmNode.{Setting, IsSetting}
+use Rattle.sc_scenario.specs.Definitions.{IsValid}
+use Rattle.sc_orderly_law.specs.Definitions.{IsTidy, IsInOrder, owed}
+use Rattle.sc_sound.specs.Definitions.{Player, player_table, births, node_seat, client_seat, route_of, system_of, as_nodes}
+use Rattle.sc_calm_law.specs.Definitions.{Chart, FindsCalm, MayPump, sent_on}
+use Rattle.sc_budget_law.specs.Definitions.{IsAsking, AreFarFromLast, AreRequests, NobodyWaits, AreSeated, IsLinkedSetting, Setting, IsSetting}
 use Rattle.sc_calm_answers_law.specs.RequestsFinding.{CountsAs}
 use Rattle.sc_calm_answers_law.specs.Hearing.{AreReached, KnowOne}
 use Rattle.sc_calm_answers_law.specs.Tokens.{token_owing}

@@ -1,12 +1,8 @@
 -- What mail of a group says: none asks for entries, a Nack names no later ballot than the group's, and a Promise has no reports.
 use Rattle.std.specs.Prelude.{◌≡◌, List, []}
-use Rattle.sc_base.specs.Among.{Each}
-use Rattle.sc_base.specs.declared.names.Ballot.{Ballot}
-use Rattle.sc_base.specs.declared.names.Draw.{Draw}
-use Rattle.sc_mail.specs.declared.bodies.Mail.{Mail}
-use Rattle.sc_mail.specs.declared.bodies.MailBody.{MailBody}
-use Rattle.sc_mail.specs.declared.bodies.MailBody.TheVariants.{Request, Answer, Prepare, Promise, Accept, Accepted, Nack, Learn, Ask, Install, TxPrepare, TxVote, TxOutcome, TxElsewhere, TxWatch, TxWatched, Told}
-use Rattle.sc_paxos_words.specs.Ballots.{IsAtLeast}
+use Rattle.sc_base.specs.Definitions.{Each}
+use Rattle.sc_node_table.specs.Values.{Ballot, Draw, Mail, MailBody, Request, Answer, Prepare, Promise, Accept, Accepted, Nack, Learn, Ask, Install, TxPrepare, TxVote, TxOutcome, TxElsewhere, TxWatch, TxWatched, Told}
+use Rattle.sc_paxos_words.specs.Definitions.{IsAtLeast}
 
 -- a mail says so of the group with this name, whose ballot is this
 abbrev pub SaysWell : Draw → Ballot → MailBody → Type 0

@@ -1,10 +1,8 @@
 -- That mail of a group finds a replica where it needs one: said of marks, and kept by each kind of row.
 use Rattle.std.specs.Prelude.{◌≡◌, ℕ, ◌≤◌, false, List, [], Option}
-use Rattle.sc_base.specs.Among.{Each}
-use Rattle.sc_base.specs.declared.names.Ballot.{Ballot}
-use Rattle.sc_base.specs.Roster.{is_member}
-use Rattle.sc_following_law.specs.Following.{Mark, Asks, Votes, Tells, Installs, Prepares, Promises, Progress, Sets, IsFollowing}
-use Rattle.sc_following_law.specs.Rows.{IsRow, IsIdle, Takes, Leads, Elects}
+use Rattle.sc_base.specs.Definitions.{Each, is_member}
+use Rattle.sc_node_table.specs.Values.{Ballot}
+use Rattle.sc_following_law.specs.Definitions.{Mark, Asks, Votes, Tells, Installs, Prepares, Promises, Progress, Sets, IsFollowing, IsRow, IsIdle, Takes, Leads, Elects}
 
 -- the node of a ballot has a replica
 abbrev pub IsHeld : Progress → Ballot → Type 0

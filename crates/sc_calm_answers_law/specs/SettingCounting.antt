@@ -1,22 +1,13 @@
 -- That the chart of some rows counts as the setting does that the last quiet journal before them gives.
 use Rattle.std.specs.Prelude.{◌≡◌, ℕ, List, ◌∷◌, Some}
-use Rattle.sc_base.specs.declared.names.Draw.{Draw}
-use Rattle.sc_cmd.specs.declared.cores.Base.{Base}
-use Rattle.sc_cmd.specs.declared.links.Route.{Route}
-use Rattle.sc_cmd.specs.declared.orders.OrderLine.{OrderLine}
-use Rattle.sc_mail.specs.declared.bodies.Mail.{Mail}
-use Rattle.sc_actor.specs.declared.rows.Row.{Row}
-use Rattle.sc_node_table.specs.Replica.{ReplicaState}
+use Rattle.sc_node_table.specs.Values.{Draw, Base, Route, OrderLine, Mail, Row}
+use Rattle.sc_node_table.specs.Definitions.{ReplicaState}
 use Rattle.sc_scenario.specs.declared.scenarios.Scenario.{Scenario}
-use Rattle.sc_scenario.specs.Valid.{IsValid}
-use Rattle.sc_sound.specs.Players.{as_nodes, births, Lawful}
-use Rattle.sc_calm_law.specs.Charts.{players}
-use Rattle.sc_calm_law.specs.Quiet.{View as Replicas}
-use Rattle.sc_calm_charts_law.specs.Charting.{all_replicas, names_at, chart_at}
-use Rattle.sc_calm_charts_law.specs.Ends.{GoInTurn}
-use Rattle.sc_calm_charts_law.specs.Fronts.{quiet_front}
-use Rattle.sc_budget_law.specs.AskingQuiet.{replicas_after, setting_at, AreFramesOf, IsQuietJournal}
-use Rattle.sc_budget_law.specs.Frames.{Frame}
+use Rattle.sc_scenario.specs.Definitions.{IsValid}
+use Rattle.sc_sound.specs.Definitions.{as_nodes, births, Lawful}
+use Rattle.sc_calm_law.specs.Definitions.{players, View as Replicas}
+use Rattle.sc_calm_charts_law.specs.Definitions.{all_replicas, names_at, chart_at, GoInTurn, quiet_front}
+use Rattle.sc_budget_law.specs.Definitions.{replicas_after, setting_at, AreFramesOf, IsQuietJournal, Frame}
 use Rattle.sc_calm_answers_law.specs.RequestsFinding.{CountsAs}
 use Rattle.sc_calm_answers_law.specs.Settings.{AreAtNodes, AreReachable}
 

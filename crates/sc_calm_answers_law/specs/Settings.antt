@@ -1,26 +1,14 @@
 -- The setting that a quiet journal gives to the requests behind it: the frames of the groups that stand, and that links and routes name nodes that have a replica.
 use Rattle.std.specs.Prelude.{◌≡◌, ℕ, ◌≤◌, true, List, ◌∷◌, Some, None, length, map, filter, flat_map}
-use Rattle.sc_base.specs.Among.{Among}
-use Rattle.sc_base.specs.declared.names.Draw.{Draw}
-use Rattle.sc_cmd.specs.declared.cores.Base.{Base}
-use Rattle.sc_cmd.specs.declared.links.Route.{Route}
-use Rattle.sc_cmd.specs.declared.orders.OrderLine.{OrderLine}
-use Rattle.sc_mail.specs.declared.bodies.Mail.{Mail}
-use Rattle.sc_actor.specs.declared.rows.Row.{Row}
-use Rattle.sc_actor.specs.Replay.{value}
-use Rattle.sc_base.specs.Roster.{is_member}
-use Rattle.sc_node_table.specs.Replica.{ReplicaState}
-use Rattle.sc_node_table.specs.Slots.{numbers_from}
+use Rattle.sc_base.specs.Definitions.{Among, is_member}
+use Rattle.sc_node_table.specs.Values.{Draw, Base, Route, OrderLine, Mail, Row}
+use Rattle.sc_actor.specs.Definitions.{value}
+use Rattle.sc_node_table.specs.Definitions.{ReplicaState, numbers_from}
 use Rattle.sc_scenario.specs.declared.scenarios.Scenario.{Scenario}
-use Rattle.sc_scenario.specs.Valid.{IsValid}
-use Rattle.sc_sound.specs.Players.{player_table, node_seat, as_nodes, Lawful}
-use Rattle.sc_calm_law.specs.Owed.{Ways}
-use Rattle.sc_calm_law.specs.Quiet.{View as Replicas, HasReplica, StandsQuiet}
-use Rattle.sc_budget_law.specs.AskingQuiet.{replicas_after, setting_at, AreFramesOf, IsQuietJournal}
-use Rattle.sc_budget_law.specs.AtRest.{frame_at_rest}
-use Rattle.sc_budget_law.specs.BetweenJournal.{replicas_of}
-use Rattle.sc_budget_law.specs.CalmAsking.{IsRingOf, IsLinkedSetting}
-use Rattle.sc_budget_law.specs.Frames.{Frame}
+use Rattle.sc_scenario.specs.Definitions.{IsValid}
+use Rattle.sc_sound.specs.Definitions.{player_table, node_seat, as_nodes, Lawful}
+use Rattle.sc_calm_law.specs.Definitions.{Ways, View as Replicas, HasReplica, StandsQuiet}
+use Rattle.sc_budget_law.specs.Definitions.{replicas_after, setting_at, AreFramesOf, IsQuietJournal, frame_at_rest, replicas_of, IsRingOf, IsLinkedSetting, Frame}
 
 -- the replicas of all nodes after some rows, node by node
 abbrev pub nodes_replicas : Scenario → List (Row Mail OrderLine) → List ReplicaState

@@ -1,27 +1,17 @@
 -- That the leader of a coordinator stays settled: nobody is asked to promise in its group since a quiet journal.
 use Rattle.std.specs.Prelude.{◌≡◌, ℕ, true, false, List, [], ◌∷◌, Option, Some, ◌⊎◌}
-use Rattle.sc_actor.specs.declared.actors.Seat.{Seat}
-use Rattle.sc_actor.specs.declared.rows.Event.TheVariants.{Deliver, Told}
-use Rattle.sc_base.specs.Among.{Each}
-use Rattle.sc_base.specs.declared.names.Draw.{Draw}
-use Rattle.sc_cmd.specs.declared.cores.Base.{Base}
-use Rattle.sc_cmd.specs.declared.orders.OrderLine.{OrderLine}
-use Rattle.sc_mail.specs.declared.bodies.Mail.{Mail}
-use Rattle.sc_mail.specs.declared.bodies.MailBody.TheVariants.{TxElsewhere}
-use Rattle.sc_node_table.specs.Node.{NodeState}
-use Rattle.sc_node_table.specs.Replica.{ReplicaState, settled}
-use Rattle.sc_orderly_law.specs.Orderly.{is_born}
+use Rattle.sc_node_table.specs.Values.{Seat, Deliver, Draw, Base, OrderLine, Mail, TxElsewhere}
+use Rattle.sc_actor.specs.declared.rows.Event.TheVariants.{Told}
+use Rattle.sc_base.specs.Definitions.{Each}
+use Rattle.sc_node_table.specs.Definitions.{NodeState, ReplicaState, settled}
+use Rattle.sc_orderly_law.specs.Definitions.{is_born}
 use Rattle.sc_scenario.specs.declared.scenarios.Scenario.{Scenario}
-use Rattle.sc_sound.specs.Players.{Player, as_nodes, births}
-use Rattle.sc_following_law.specs.Following.{Asks as AsksFor, Installs, Mark, Prepares, Promises, Tells, Votes}
-use Rattle.sc_calm_law.specs.Charts.{players}
-use Rattle.sc_calm_law.specs.Totals.{Rows}
-use Rattle.sc_calm_orders_law.specs.Stages.{Asks, Closes, ClosesBoth, IsAt, Ordered, Recorded, Replied, SentOn, Stage, Still, Weighs}
-use Rattle.sc_calm_rows_law.specs.Groups.{marks_at, view_at}
-use Rattle.sc_calm_rows_law.specs.Turns.{with_event}
-use Rattle.sc_calm_scenes_law.specs.Fresh.{IsToldInQuiet}
-use Rattle.sc_calm_scenes_law.specs.Kept.{GoesBy}
-use Rattle.sc_calm_scenes_law.specs.Scenes.{scene_at}
+use Rattle.sc_sound.specs.Definitions.{Player, as_nodes, births}
+use Rattle.sc_following_law.specs.Definitions.{Asks as AsksFor, Installs, Mark, Prepares, Promises, Tells, Votes}
+use Rattle.sc_calm_law.specs.Definitions.{players, Rows}
+use Rattle.sc_calm_orders_law.specs.Definitions.{Asks, Closes, ClosesBoth, IsAt, Ordered, Recorded, Replied, SentOn, Stage, Still, Weighs}
+use Rattle.sc_calm_rows_law.specs.Definitions.{marks_at, view_at, with_event}
+use Rattle.sc_calm_scenes_law.specs.Definitions.{IsToldInQuiet, GoesBy, scene_at}
 use Rattle.sc_calm_answers_law.specs.Votes.{IsOrdersAlone}
 use Rattle.sc_calm_answers_law.specs.Journal.{AreSent, IsCalmJournal, IsFront}
 use Rattle.sc_calm_answers_law.specs.Resting.{RestsAt}

@@ -1,15 +1,12 @@
 -- That the journals of a calm scenario at its budget have few rows, so that slots and rounds are left in each.
 use Rattle.std.specs.Prelude.{ℕ, ◌+◌, ◌^◌, ◌≤◌, List, length}
-use Rattle.sc_cmd.specs.declared.orders.OrderLine.{OrderLine}
-use Rattle.sc_mail.specs.declared.bodies.Mail.{Mail}
-use Rattle.sc_actor.specs.declared.rows.Row.{Row}
-use Rattle.sc_orderly_law.specs.Orderly.{deliveries}
-use Rattle.sc_orderly_law.specs.Timely.{AreInTime}
+use Rattle.sc_node_table.specs.Values.{OrderLine, Mail, Row}
+use Rattle.sc_orderly_law.specs.Definitions.{deliveries, AreInTime}
 use Rattle.sc_scenario.specs.declared.scenarios.Scenario.{Scenario}
-use Rattle.sc_scenario.specs.Valid.{IsValid}
-use Rattle.sc_sound.specs.Players.{births, as_nodes, Lawful}
-use Rattle.sc_calm_law.specs.Charts.{players}
-use Rattle.sc_budget_law.specs.Calm.{orders_of, IsCalmAtBudget}
+use Rattle.sc_scenario.specs.Definitions.{IsValid}
+use Rattle.sc_sound.specs.Definitions.{births, as_nodes, Lawful}
+use Rattle.sc_calm_law.specs.Definitions.{players}
+use Rattle.sc_budget_law.specs.Definitions.{orders_of, IsCalmAtBudget}
 use Rattle.sc_calm_answers_law.specs.Lines.{calm_deliveries_of}
 
 -- A lawful journal of a valid calm scenario at its budget that gives an order has few rows, where they come in time and deliver no more often than all its lines do, and once more.

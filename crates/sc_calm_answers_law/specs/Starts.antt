@@ -1,23 +1,14 @@
 -- What a line of requests may begin with in a quiet journal.
 use Rattle.std.specs.Prelude.{◌≡◌, ℕ, ◌≤◌, Bool, List, [], ◌∷◌, Option}
-use Rattle.sc_base.specs.Among.{Each}
-use Rattle.sc_base.specs.declared.names.Draw.{Draw}
-use Rattle.sc_cmd.specs.declared.cores.Base.{Base}
-use Rattle.sc_cmd.specs.declared.orders.OrderLine.{OrderLine}
-use Rattle.sc_mail.specs.declared.bodies.Mail.{Mail}
-use Rattle.sc_mail.specs.declared.roles.Role.TheVariants.{Node}
-use Rattle.sc_actor.specs.declared.rows.Row.{Row}
-use Rattle.sc_actor.specs.Replay.{value}
-use Rattle.sc_node_table.specs.Node.{NodeState}
-use Rattle.sc_node_table.specs.Replica.{ReplicaState, name_of}
+use Rattle.sc_base.specs.Definitions.{Each}
+use Rattle.sc_node_table.specs.Values.{Draw, Base, OrderLine, Mail, Node, Row}
+use Rattle.sc_actor.specs.Definitions.{value}
+use Rattle.sc_node_table.specs.Definitions.{NodeState, ReplicaState, name_of}
 use Rattle.sc_scenario.specs.declared.scenarios.Scenario.{Scenario}
-use Rattle.sc_scenario.specs.Valid.{IsValid}
-use Rattle.sc_sound.specs.Players.{Lawful, player_table, node_seat, system_of, as_nodes}
-use Rattle.sc_orderly_law.specs.Owing.{under_way, owed}
-use Rattle.sc_budget_law.specs.Asking.{IsAsking}
-use Rattle.sc_budget_law.specs.AskingQuiet.{replicas_after, setting_at, AreFramesOf, ways_at, IsQuietJournal}
-use Rattle.sc_budget_law.specs.CalmNode.{Setting}
-use Rattle.sc_budget_law.specs.Frames.{Frame}
+use Rattle.sc_scenario.specs.Definitions.{IsValid}
+use Rattle.sc_sound.specs.Definitions.{Lawful, player_table, node_seat, system_of, as_nodes}
+use Rattle.sc_orderly_law.specs.Definitions.{under_way, owed}
+use Rattle.sc_budget_law.specs.Definitions.{IsAsking, replicas_after, setting_at, AreFramesOf, ways_at, IsQuietJournal, Setting, Frame}
 use Rattle.sc_calm_answers_law.specs.Hearing.{AreReached, KnowOne}
 use Rattle.sc_calm_answers_law.specs.Tokens.{token_owing}
 

@@ -1,19 +1,14 @@
 -- The states of a group by its log: what each replica has, and that one by which a member goes is locked in no transaction.
 use Rattle.std.specs.Prelude.{◌≡◌, ℕ, suc, ◌-◌, ◌≤◌, true, false, take}
-use Rattle.sc_cmd.specs.declared.cores.Base.{Base}
-use Rattle.sc_cmd.specs.declared.cores.Lock.TheVariants.{Free}
-use Rattle.sc_base.specs.Roster.{is_member}
-use Rattle.sc_actor.specs.declared.actors.Seat.{Seat}
-use Rattle.sc_machine_table.specs.Group.{Group, group_of}
-use Rattle.sc_machine_table.specs.Logs.{state_after}
+use Rattle.sc_node_table.specs.Values.{Base, Free, Seat}
+use Rattle.sc_base.specs.Definitions.{is_member}
+use Rattle.sc_machine_table.specs.Definitions.{Group, group_of, state_after}
 use Rattle.sc_scenario.specs.declared.scenarios.Scenario.{Scenario}
-use Rattle.sc_node_table.specs.Node.{NodeState}
-use Rattle.sc_node_table.specs.Replica.{ReplicaState, next}
-use Rattle.sc_sound.specs.Logs.{decided_log}
-use Rattle.sc_sound.specs.Players.{Ahead, Player}
-use Rattle.sc_log_law.specs.Descent.{Rows}
-use Rattle.sc_following_law.specs.Following.{members_at}
-use Rattle.sc_calm_logs_law.specs.Logged.{logged_sets, IsGroupOf, HasReplica}
+use Rattle.sc_node_table.specs.Definitions.{NodeState, ReplicaState, next}
+use Rattle.sc_sound.specs.Definitions.{decided_log, Ahead, Player}
+use Rattle.sc_log_law.specs.Definitions.{Rows}
+use Rattle.sc_following_law.specs.Definitions.{members_at}
+use Rattle.sc_calm_logs_law.specs.Definitions.{logged_sets, IsGroupOf, HasReplica}
 
 -- the group after the entries before a slot, by its log in a journal
 abbrev pub state_at : Ahead → Base → Rows → ℕ → Group

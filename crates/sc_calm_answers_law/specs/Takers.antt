@@ -1,13 +1,11 @@
 -- That no client takes mail while an order is under way.
 use Rattle.std.specs.Prelude.{◌≡◌, ℕ}
-use Rattle.sc_cmd.specs.declared.cores.Base.{Base}
-use Rattle.sc_mail.specs.declared.roles.Role.TheVariants.{Client}
-use Rattle.sc_actor.specs.declared.actors.Seat.{Seat}
-use Rattle.sc_actor.specs.Replay.{value}
-use Rattle.sc_client_table.specs.Client.{Client as ClientState}
+use Rattle.sc_node_table.specs.Values.{Base, Client, Seat}
+use Rattle.sc_actor.specs.Definitions.{value}
+use Rattle.sc_client_table.specs.Definitions.{Client as ClientState}
 use Rattle.sc_scenario.specs.declared.scenarios.Scenario.{Scenario}
-use Rattle.sc_sound.specs.Players.{Player, player_table}
-use Rattle.sc_calm_law.specs.Totals.{Rows}
+use Rattle.sc_sound.specs.Definitions.{Player, player_table}
+use Rattle.sc_calm_law.specs.Definitions.{Rows}
 use Rattle.sc_calm_answers_law.specs.Journal.{IsCalmJournal, GoesOnBy}
 use Rattle.sc_calm_answers_law.specs.Ordered.{IsOrderedSince}
 

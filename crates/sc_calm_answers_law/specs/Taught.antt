@@ -1,15 +1,14 @@
 -- That members of groups learn all entries in journals whose rows come in time.
 use Rattle.std.specs.Prelude.{◌≡◌, ℕ, [], ◌++◌}
-use Rattle.sc_cmd.specs.declared.cores.Base.{Base}
-use Rattle.sc_orderly_law.specs.Timely.{AreInTime}
+use Rattle.sc_node_table.specs.Values.{Base}
+use Rattle.sc_orderly_law.specs.Definitions.{AreInTime}
 use Rattle.sc_scenario.specs.declared.scenarios.Scenario.{Scenario}
-use Rattle.sc_sound.specs.Players.{births, as_nodes}
-use Rattle.sc_calm_law.specs.Charts.{players}
-use Rattle.sc_log_law.specs.Descent.{Rows}
-use Rattle.sc_following_law.specs.Hints.{Tellers}
-use Rattle.sc_calm_logs_law.specs.Logged.{logged_sets, IsGroupOf}
-use Rattle.sc_calm_groups_law.specs.Taught.{IsTaughtOn}
-use Rattle.sc_calm_groups_law.specs.Through.{IsSentSo, HasOneLog}
+use Rattle.sc_sound.specs.Definitions.{births, as_nodes}
+use Rattle.sc_calm_law.specs.Definitions.{players}
+use Rattle.sc_log_law.specs.Definitions.{Rows}
+use Rattle.sc_following_law.specs.Definitions.{Tellers}
+use Rattle.sc_calm_logs_law.specs.Definitions.{logged_sets, IsGroupOf}
+use Rattle.sc_calm_groups_law.specs.Definitions.{IsTaughtOn, IsSentSo, HasOneLog}
 use Rattle.sc_calm_answers_law.specs.Led.{over_at}
 use Rattle.sc_calm_answers_law.specs.Tellers.{tellers_at, AreFew}
 

@@ -1,28 +1,18 @@
 -- Who leads a group at each slot, by a journal, and that groups of journals whose rows come in time have leaders.
 use Rattle.std.specs.Prelude.{◌≡◌, ℕ, ◌-◌, ◌^◌, ◌<◌, ◌≤◌, nat_lt, Bool, false, List, [], ◌∷◌, ◌++◌, if◌then◌else◌, Option, Some, None, ◌⊎◌}
-use Rattle.sc_base.specs.Among.{Among}
-use Rattle.sc_base.specs.declared.names.Draw.{Draw}
-use Rattle.sc_cmd.specs.declared.cores.Base.{Base}
-use Rattle.sc_base.specs.Roster.{is_member, least_of}
-use Rattle.sc_actor.specs.declared.actors.Seat.{Seat}
-use Rattle.sc_orderly_law.specs.Timely.{AreInTime}
+use Rattle.sc_base.specs.Definitions.{Among, is_member, least_of}
+use Rattle.sc_node_table.specs.Values.{Draw, Base, Seat, OrderLine, Event}
+use Rattle.sc_orderly_law.specs.Definitions.{AreInTime, IsCalmEvent}
 use Rattle.sc_scenario.specs.declared.scenarios.Scenario.{Scenario}
-use Rattle.sc_node_table.specs.Replica.{ReplicaState, next, last_slot}
-use Rattle.sc_sound.specs.Players.{Ahead, Player, births, as_nodes}
-use Rattle.sc_calm_law.specs.Charts.{players}
-use Rattle.sc_log_law.specs.Descent.{Rows}
-use Rattle.sc_following_law.specs.Following.{members_at, Course}
-use Rattle.sc_following_law.specs.Hints.{Tellers}
-use Rattle.sc_calm_rows_law.specs.Groups.{view_at}
-use Rattle.sc_calm_logs_law.specs.Logged.{logged_sets, IsGroupOf}
-use Rattle.sc_calm_groups_law.specs.Led.{IsLedOn, IsWellLed}
-use Rattle.sc_calm_groups_law.specs.Through.{IsSentSo, IsRowOf}
+use Rattle.sc_node_table.specs.Definitions.{ReplicaState, next, last_slot}
+use Rattle.sc_sound.specs.Definitions.{Ahead, Player, births, as_nodes}
+use Rattle.sc_calm_law.specs.Definitions.{players}
+use Rattle.sc_log_law.specs.Definitions.{Rows}
+use Rattle.sc_following_law.specs.Definitions.{members_at, Course, Tellers}
+use Rattle.sc_calm_rows_law.specs.Definitions.{view_at, IsSeat}
+use Rattle.sc_calm_logs_law.specs.Definitions.{logged_sets, IsGroupOf}
+use Rattle.sc_calm_groups_law.specs.Definitions.{IsLedOn, IsWellLed, IsSentSo, IsRowOf, IsLedStep}
 use Rattle.sc_calm_answers_law.specs.Led.{over_at, HasLeaders}
-use Rattle.sc_cmd.specs.declared.orders.OrderLine.{OrderLine}
-use Rattle.sc_actor.specs.declared.rows.Event.{Event}
-use Rattle.sc_orderly_law.specs.Orderly.{IsCalmEvent}
-use Rattle.sc_calm_rows_law.specs.Turns.{IsSeat}
-use Rattle.sc_calm_groups_law.specs.Kinds.{IsLedStep}
 
 -- whether a replica has executed a slot
 abbrev pub has_executed : ℕ → Option ReplicaState → Bool

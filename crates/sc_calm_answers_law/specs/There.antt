@@ -1,24 +1,17 @@
 -- That each group of a quiet front has replicas.
 use Rattle.std.specs.Prelude.{◌≡◌, ℕ, ◌<◌, ◌⊎◌, ◌++◌, true}
-use Rattle.sc_base.specs.Among.{Among}
-use Rattle.sc_cmd.specs.declared.cores.Base.{Base}
-use Rattle.sc_base.specs.Roster.{is_member}
-use Rattle.sc_orderly_law.specs.Timely.{AreInTime}
+use Rattle.sc_base.specs.Definitions.{Among, is_member}
+use Rattle.sc_node_table.specs.Values.{Base}
+use Rattle.sc_orderly_law.specs.Definitions.{AreInTime}
 use Rattle.sc_scenario.specs.declared.scenarios.Scenario.{Scenario}
-use Rattle.sc_sound.specs.GroupsOf.{groups_at}
-use Rattle.sc_sound.specs.Logs.{decided_log}
-use Rattle.sc_sound.specs.Players.{births, as_nodes}
-use Rattle.sc_calm_law.specs.Charts.{players}
-use Rattle.sc_calm_law.specs.Quiet.{HasReplica}
-use Rattle.sc_calm_law.specs.Totals.{Rows}
-use Rattle.sc_following_law.specs.Following.{Tells, Course}
-use Rattle.sc_following_law.specs.Hints.{Tellers}
-use Rattle.sc_calm_rows_law.specs.Groups.{view_at, marks_at}
-use Rattle.sc_calm_groups_law.specs.Led.{IsWellLed}
-use Rattle.sc_calm_groups_law.specs.Through.{HasOneLog, IsSentSo}
-use Rattle.sc_calm_logs_law.specs.Logged.{logged_sets, IsGroupOf}
+use Rattle.sc_sound.specs.Definitions.{groups_at, decided_log, births, as_nodes}
+use Rattle.sc_calm_law.specs.Definitions.{players, HasReplica, Rows}
+use Rattle.sc_following_law.specs.Definitions.{Tells, Course, Tellers}
+use Rattle.sc_calm_rows_law.specs.Definitions.{view_at, marks_at}
+use Rattle.sc_calm_groups_law.specs.Definitions.{IsWellLed, HasOneLog, IsSentSo}
+use Rattle.sc_calm_logs_law.specs.Definitions.{logged_sets, IsGroupOf}
 use Rattle.sc_calm_answers_law.specs.Led.{over_at}
-use Rattle.sc_calm_scenes_law.specs.Fresh.{IsThere}
+use Rattle.sc_calm_scenes_law.specs.Definitions.{IsThere}
 use Rattle.sc_calm_answers_law.specs.Bearing.{IsBirth}
 use Rattle.sc_calm_answers_law.specs.KnownFronts.{IsQuietFront}
 use Rattle.sc_calm_answers_law.specs.Known.{AreAllThere}

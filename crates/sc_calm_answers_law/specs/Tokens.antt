@@ -1,35 +1,15 @@
 -- How often a client's request is under way: as a request or an answer in mail, and as a call at replicas.
 use Rattle.std.specs.Prelude.{◌≡◌, ℕ, ◌+◌, ◌-◌, ◌≤◌, ◌==◌, List, [], ◌∷◌, ◌++◌, sum_by, if◌then◌else◌}
-use Rattle.sc_base.specs.Limits.{client_actor}
-use Rattle.sc_base.specs.declared.ops.Op.{Op}
-use Rattle.sc_cmd.specs.declared.commands.Command.{Command}
-use Rattle.sc_cmd.specs.declared.commands.Command.TheVariants.{Noop, Call, Join, Leave, Split, Begin, Prepared, RecordVote, GiveUp, Finish, Watched, RecordWatch}
-use Rattle.sc_cmd.specs.declared.cores.Base.{Base}
-use Rattle.sc_cmd.specs.declared.orders.OrderLine.{OrderLine}
-use Rattle.sc_mail.specs.declared.bodies.Mail.{Mail}
-use Rattle.sc_mail.specs.declared.roles.Role.TheVariants.{Node, Client}
-use Rattle.sc_actor.specs.declared.rows.Row.{Row}
-use Rattle.sc_actor.specs.Replay.{value}
+use Rattle.sc_base.specs.Definitions.{client_actor}
+use Rattle.sc_node_table.specs.Values.{Op, Command, Noop, Call, Join, Leave, Split, Begin, Prepared, RecordVote, GiveUp, Finish, Watched, RecordWatch, Base, OrderLine, Mail, Node, Client, Row, MailBody, Request, Answer, Prepare, Promise, Accept, Accepted, Nack, Learn, Ask, Install, TxPrepare, TxVote, TxOutcome, TxElsewhere, TxWatch, TxWatched, Told, Flight}
+use Rattle.sc_actor.specs.Definitions.{value}
 use Rattle.sc_scenario.specs.declared.scenarios.Scenario.{Scenario}
-use Rattle.sc_scenario.specs.Valid.{IsValid}
-use Rattle.sc_sound.specs.Players.{Player, player_table, node_seat, system_of, as_nodes}
-use Rattle.sc_orderly_law.specs.Orderly.{IsTidy, IsOrderly}
-use Rattle.sc_orderly_law.specs.Owing.{Owing, under_way, owed}
-use Rattle.sc_calm_law.specs.Clients.{waiting_one}
-use Rattle.sc_budget_law.specs.Asking.{IsAsking, AreFarFromLast}
-use Rattle.sc_budget_law.specs.CalmAsking.{IsLinkedSetting}
-use Rattle.sc_budget_law.specs.CalmNode.{Setting, IsSetting}
-use Rattle.sc_mail.specs.declared.bodies.MailBody.{MailBody}
-use Rattle.sc_mail.specs.declared.bodies.MailBody.TheVariants.{Request, Answer, Prepare, Promise, Accept, Accepted, Nack, Learn, Ask, Install, TxPrepare, TxVote, TxOutcome, TxElsewhere, TxWatch, TxWatched, Told}
-use Rattle.sc_paxos_words.specs.declared.flights.Flight.{Flight}
-use Rattle.sc_node_table.specs.Node.{NodeState}
-use Rattle.sc_node_table.specs.Replica.{ReplicaState, Place, next, last_slot}
-use Rattle.sc_node_table.specs.Rows.{mailed}
-use Rattle.sc_node_table.specs.Slots.{slots_ahead}
-use Rattle.sc_budget_law.specs.Frames.{Frame, IsFrame}
-use Rattle.sc_budget_law.specs.PlainClient.{IsBegun}
-use Rattle.sc_budget_law.specs.PlainMail.{IsPlainBody}
-use Rattle.sc_budget_law.specs.PlainNode.{IsPlainAt, IsDue}
+use Rattle.sc_scenario.specs.Definitions.{IsValid}
+use Rattle.sc_sound.specs.Definitions.{Player, player_table, node_seat, system_of, as_nodes}
+use Rattle.sc_orderly_law.specs.Definitions.{IsTidy, IsOrderly, Owing, under_way, owed}
+use Rattle.sc_calm_law.specs.Definitions.{waiting_one}
+use Rattle.sc_budget_law.specs.Definitions.{IsAsking, AreFarFromLast, IsLinkedSetting, Setting, IsSetting, Frame, IsFrame, IsBegun, IsPlainBody, IsPlainAt, IsDue}
+use Rattle.sc_node_table.specs.Definitions.{NodeState, ReplicaState, Place, next, last_slot, mailed, slots_ahead}
 
 -- a call of the client
 abbrev pub command_token : ℕ → Command → ℕ

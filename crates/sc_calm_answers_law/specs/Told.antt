@@ -1,36 +1,19 @@
 -- What is allowed in the logs of groups by all that a journal tells, and what of that the lock of a replica's group says.
 use Rattle.std.specs.Prelude.{◌≡◌, ℕ, ◌≤◌, true, ◌++◌, length, Option, Some}
-use Rattle.sc_base.specs.Among.{Among, Each}
-use Rattle.sc_base.specs.declared.names.Draw.{Draw}
-use Rattle.sc_actor.specs.declared.actors.Seat.{Seat}
-use Rattle.sc_cmd.specs.declared.bodies.Body.{Body}
+use Rattle.sc_base.specs.Definitions.{Among, Each, united}
+use Rattle.sc_node_table.specs.Values.{Draw, Seat, Body, Offer, Watch, Command, Prepared, RecordVote, Watched, Base, Coordinating, Promised, Watching, Frozen, Heard, Flight}
 use Rattle.sc_cmd.specs.declared.bodies.Body.TheVariants as At
-use Rattle.sc_cmd.specs.declared.bodies.Offer.{Offer}
-use Rattle.sc_cmd.specs.declared.bodies.Watch.{Watch}
-use Rattle.sc_cmd.specs.declared.commands.Command.{Command}
-use Rattle.sc_cmd.specs.declared.commands.Command.TheVariants.{Prepared, RecordVote, Watched}
-use Rattle.sc_cmd.specs.declared.cores.Base.{Base}
-use Rattle.sc_cmd.specs.declared.cores.Lock.TheVariants.{Coordinating, Promised, Watching}
-use Rattle.sc_cmd.specs.declared.votes.Frozen.{Frozen}
-use Rattle.sc_cmd.specs.declared.votes.Heard.{Heard}
 use Rattle.sc_cmd.specs.declared.votes.Vote.TheVariants as Vows
-use Rattle.sc_base.specs.Union.{united}
-use Rattle.sc_machine_table.specs.Group.{Group}
-use Rattle.sc_machine_table.specs.Plans.{can_split, frozen_of}
-use Rattle.sc_node_table.specs.Node.{NodeState}
-use Rattle.sc_node_table.specs.Replica.{ReplicaState}
-use Rattle.sc_paxos_words.specs.declared.flights.Flight.{Flight}
+use Rattle.sc_machine_table.specs.Definitions.{Group, can_split, frozen_of}
+use Rattle.sc_node_table.specs.Definitions.{NodeState, ReplicaState}
 use Rattle.sc_scenario.specs.declared.scenarios.Scenario.{Scenario}
-use Rattle.sc_scenario.specs.Valid.{IsValid}
-use Rattle.sc_sound.specs.GroupsOf.{groups_at}
-use Rattle.sc_sound.specs.Players.{Lawful, Player, as_nodes}
-use Rattle.sc_ring_law.specs.Allowed.{Sources, IsAllowed}
-use Rattle.sc_ring_law.specs.Stories.{offer_for, unsigned, unsigned_watch, watch_for}
-use Rattle.sc_names_law.specs.Owners.{owner_in}
-use Rattle.sc_whole_law.specs.Begins.{section_op}
-use Rattle.sc_whole_law.specs.Parameters.{stories_at}
-use Rattle.sc_calm_law.specs.Totals.{Rows}
-use Rattle.sc_calm_logs_law.specs.Logged.{HasReplica, IsGroupOf}
+use Rattle.sc_scenario.specs.Definitions.{IsValid}
+use Rattle.sc_sound.specs.Definitions.{groups_at, Lawful, Player, as_nodes}
+use Rattle.sc_ring_law.specs.Definitions.{Sources, IsAllowed, offer_for, unsigned, unsigned_watch, watch_for}
+use Rattle.sc_names_law.specs.Definitions.{owner_in}
+use Rattle.sc_whole_law.specs.Definitions.{section_op, stories_at}
+use Rattle.sc_calm_law.specs.Definitions.{Rows}
+use Rattle.sc_calm_logs_law.specs.Definitions.{HasReplica, IsGroupOf}
 
 -- whose each name of a journal is, and what clients ask
 abbrev pub sources_of : Scenario → Rows → Sources

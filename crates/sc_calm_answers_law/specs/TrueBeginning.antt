@@ -1,16 +1,13 @@
 -- That what is known of an order since a quiet journal is so from when it is told.
-use Rattle.sc_actor.specs.declared.actors.Seat.{Seat}
+use Rattle.sc_node_table.specs.Values.{Seat, Base, OrderLine}
 use Rattle.sc_actor.specs.declared.rows.Event.TheVariants.{Told}
-use Rattle.sc_cmd.specs.declared.cores.Base.{Base}
-use Rattle.sc_cmd.specs.declared.orders.OrderLine.{OrderLine}
 use Rattle.sc_scenario.specs.declared.scenarios.Scenario.{Scenario}
-use Rattle.sc_sound.specs.Players.{Player, as_nodes, births}
+use Rattle.sc_sound.specs.Definitions.{Player, as_nodes, births}
 use Rattle.std.specs.Prelude.{ℕ}
-use Rattle.sc_calm_law.specs.Totals.{Rows}
-use Rattle.sc_calm_orders_law.specs.Stages.{IsAt, Stage}
-use Rattle.sc_calm_rows_law.specs.Turns.{with_event}
-use Rattle.sc_calm_scenes_law.specs.Fresh.{IsToldInQuiet}
-use Rattle.sc_calm_scenes_law.specs.Scenes.{scene_at}
+use Rattle.sc_calm_law.specs.Definitions.{Rows}
+use Rattle.sc_calm_orders_law.specs.Definitions.{IsAt, Stage}
+use Rattle.sc_calm_rows_law.specs.Definitions.{with_event}
+use Rattle.sc_calm_scenes_law.specs.Definitions.{IsToldInQuiet, scene_at}
 use Rattle.sc_calm_answers_law.specs.Journal.{IsCalmJournal}
 use Rattle.sc_calm_answers_law.specs.Resting.{RestsAt}
 use Rattle.sc_calm_answers_law.specs.TrueUnder.{AreSeen, IsTrueSince}

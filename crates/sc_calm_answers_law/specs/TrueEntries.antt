@@ -1,18 +1,13 @@
 -- That what leaders have in flight of an order is true, since a quiet journal.
 use Rattle.std.specs.Prelude.{ℕ}
-use Rattle.sc_base.specs.Among.{Among}
-use Rattle.sc_base.specs.declared.names.Draw.{Draw}
-use Rattle.sc_cmd.specs.declared.commands.Command.{Command}
-use Rattle.sc_cmd.specs.declared.commands.Command.TheVariants.{Noop, Call, Join, Leave, Split, Begin, Prepared, RecordVote, GiveUp, Finish, Watched, RecordWatch}
-use Rattle.sc_cmd.specs.declared.cores.Base.{Base}
-use Rattle.sc_node_table.specs.Replica.{ReplicaState}
-use Rattle.sc_paxos_words.specs.declared.flights.Flight.{Flight}
+use Rattle.sc_base.specs.Definitions.{Among}
+use Rattle.sc_node_table.specs.Values.{Draw, Command, Noop, Call, Join, Leave, Split, Begin, Prepared, RecordVote, GiveUp, Finish, Watched, RecordWatch, Base, Flight}
+use Rattle.sc_node_table.specs.Definitions.{ReplicaState}
 use Rattle.sc_scenario.specs.declared.scenarios.Scenario.{Scenario}
-use Rattle.sc_sound.specs.Players.{as_nodes, births}
-use Rattle.sc_calm_law.specs.Totals.{Rows}
-use Rattle.sc_calm_orders_law.specs.Stages.{Stage}
-use Rattle.sc_calm_scenes_law.specs.Fresh.{AreUntouched}
-use Rattle.sc_calm_scenes_law.specs.Turns.{LeadsAlone}
+use Rattle.sc_sound.specs.Definitions.{as_nodes, births}
+use Rattle.sc_calm_law.specs.Definitions.{Rows}
+use Rattle.sc_calm_orders_law.specs.Definitions.{Stage}
+use Rattle.sc_calm_scenes_law.specs.Definitions.{AreUntouched, LeadsAlone}
 use Rattle.sc_calm_answers_law.specs.Votes.{IsOrdersAlone, IsTrueEntry}
 use Rattle.sc_calm_answers_law.specs.Journal.{AreSent, IsCalmJournal, IsFront}
 use Rattle.sc_calm_answers_law.specs.Resting.{RestsAt}

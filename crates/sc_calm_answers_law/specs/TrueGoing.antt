@@ -1,19 +1,13 @@
 -- That what is known of an order since a quiet journal is so after one more delivery, and whom it asks then.
 use Rattle.std.specs.Prelude.{◌≡◌, ℕ, ◌⊎◌}
-use Rattle.sc_actor.specs.declared.actors.Seat.{Seat}
-use Rattle.sc_actor.specs.declared.rows.Event.TheVariants.{Deliver}
-use Rattle.sc_cmd.specs.declared.cores.Base.{Base}
+use Rattle.sc_node_table.specs.Values.{Seat, Deliver, Base}
 use Rattle.sc_scenario.specs.declared.scenarios.Scenario.{Scenario}
-use Rattle.sc_sound.specs.Players.{Player, as_nodes, births}
-use Rattle.sc_calm_law.specs.Quiet.{StandsQuiet}
-use Rattle.sc_calm_law.specs.Totals.{Rows}
-use Rattle.sc_calm_orders_law.specs.Stages.{Asks, Deal, IsAt, Stage}
-use Rattle.sc_calm_rows_law.specs.Turns.{with_event}
-use Rattle.sc_calm_scenes_law.specs.Found.{FindsOrder}
-use Rattle.sc_calm_scenes_law.specs.Fresh.{AreUntouched, IsDelivered, IsThere}
-use Rattle.sc_calm_scenes_law.specs.Kept.{GoesBy}
-use Rattle.sc_calm_scenes_law.specs.Scenes.{scene_at}
-use Rattle.sc_budget_law.specs.AskingQuiet.{replicas_after}
+use Rattle.sc_sound.specs.Definitions.{Player, as_nodes, births}
+use Rattle.sc_calm_law.specs.Definitions.{StandsQuiet, Rows}
+use Rattle.sc_calm_orders_law.specs.Definitions.{Asks, Deal, IsAt, Stage}
+use Rattle.sc_calm_rows_law.specs.Definitions.{with_event}
+use Rattle.sc_calm_scenes_law.specs.Definitions.{FindsOrder, AreUntouched, IsDelivered, IsThere, GoesBy, scene_at}
+use Rattle.sc_budget_law.specs.Definitions.{replicas_after}
 use Rattle.sc_calm_answers_law.specs.Journal.{GoesOnBy, IsCalmJournal}
 use Rattle.sc_calm_answers_law.specs.Resting.{RestsAt}
 use Rattle.sc_calm_answers_law.specs.TrueUnder.{AreSeen, IsTrueSince}

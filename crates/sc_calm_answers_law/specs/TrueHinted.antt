@@ -1,29 +1,17 @@
 -- That a coordinator that is to ask elsewhere is told whom: each question goes to a node that has a replica of its group, and one that sends it on names such a node.
 use Rattle.std.specs.Prelude.{◌≡◌, ℕ, true, Option, Some, ◌⊎◌}
-use Rattle.sc_actor.specs.declared.actors.Seat.{Seat}
-use Rattle.sc_actor.specs.declared.rows.Event.TheVariants.{Deliver, Told}
-use Rattle.sc_base.specs.Among.{Among, Each}
-use Rattle.sc_base.specs.declared.names.Draw.{Draw}
-use Rattle.sc_cmd.specs.declared.commands.Command.{Command}
-use Rattle.sc_cmd.specs.declared.cores.Base.{Base}
-use Rattle.sc_cmd.specs.declared.orders.OrderLine.{OrderLine}
-use Rattle.sc_mail.specs.declared.bodies.Mail.{Mail}
-use Rattle.sc_mail.specs.declared.bodies.MailBody.TheVariants.{TxElsewhere}
-use Rattle.sc_node_table.specs.Node.{NodeState}
-use Rattle.sc_node_table.specs.Replica.{ReplicaState}
-use Rattle.sc_paxos_words.specs.declared.flights.Flight.{Flight}
+use Rattle.sc_node_table.specs.Values.{Seat, Deliver, Draw, Command, Base, OrderLine, Mail, TxElsewhere, Flight}
+use Rattle.sc_actor.specs.declared.rows.Event.TheVariants.{Told}
+use Rattle.sc_base.specs.Definitions.{Among, Each}
+use Rattle.sc_node_table.specs.Definitions.{NodeState, ReplicaState}
 use Rattle.sc_scenario.specs.declared.scenarios.Scenario.{Scenario}
-use Rattle.sc_sound.specs.Players.{Player, as_nodes, births}
-use Rattle.sc_budget_law.specs.AskingQuiet.{replicas_after}
-use Rattle.sc_calm_law.specs.Quiet.{HasReplica}
-use Rattle.sc_calm_law.specs.Totals.{Rows}
+use Rattle.sc_sound.specs.Definitions.{Player, as_nodes, births}
+use Rattle.sc_budget_law.specs.Definitions.{replicas_after}
+use Rattle.sc_calm_law.specs.Definitions.{HasReplica, Rows}
 use Rattle.sc_calm_answers_law.specs.Votes.{IsTrueEntry}
-use Rattle.sc_calm_orders_law.specs.Stages.{Asks, Closes, ClosesBoth, IsAt, Ordered, Recorded, Replied, SentOn, Stage, Still, Weighs}
-use Rattle.sc_calm_rows_law.specs.Groups.{view_at}
-use Rattle.sc_calm_rows_law.specs.Turns.{with_event}
-use Rattle.sc_calm_scenes_law.specs.Fresh.{IsToldInQuiet}
-use Rattle.sc_calm_scenes_law.specs.Kept.{GoesBy}
-use Rattle.sc_calm_scenes_law.specs.Scenes.{left_after, scene_at}
+use Rattle.sc_calm_orders_law.specs.Definitions.{Asks, Closes, ClosesBoth, IsAt, Ordered, Recorded, Replied, SentOn, Stage, Still, Weighs}
+use Rattle.sc_calm_rows_law.specs.Definitions.{view_at, with_event}
+use Rattle.sc_calm_scenes_law.specs.Definitions.{IsToldInQuiet, GoesBy, left_after, scene_at}
 use Rattle.sc_calm_answers_law.specs.TrueGoing.{GoesOnSince}
 use Rattle.sc_calm_answers_law.specs.TrueUnder.{IsTrueSince}
 use Rattle.sc_calm_answers_law.specs.Unsettled.{TakesSince}

@@ -1,14 +1,13 @@
 -- What holds of an order's transaction and of its parties, since the quiet before it.
 use Rattle.std.specs.Prelude.{◌≡◌, ℕ, List, [], ◌∷◌}
-use Rattle.sc_base.specs.Among.{Each}
-use Rattle.sc_base.specs.declared.names.Draw.{Draw}
+use Rattle.sc_base.specs.Definitions.{Each}
+use Rattle.sc_node_table.specs.Values.{Draw}
 use Rattle.sc_scenario.specs.declared.scenarios.Scenario.{Scenario}
-use Rattle.sc_sound.specs.Players.{as_nodes, births}
-use Rattle.sc_calm_law.specs.Quiet.{StandsQuiet}
-use Rattle.sc_calm_law.specs.Totals.{Rows}
-use Rattle.sc_calm_orders_law.specs.Stages.{Stage, Still, Ordered, Asks, SentOn, Weighs, Replied, Recorded, Closes, ClosesBoth}
-use Rattle.sc_calm_rows_law.specs.Groups.{view_at}
-use Rattle.sc_budget_law.specs.AskingQuiet.{replicas_after}
+use Rattle.sc_sound.specs.Definitions.{as_nodes, births}
+use Rattle.sc_calm_law.specs.Definitions.{StandsQuiet, Rows}
+use Rattle.sc_calm_orders_law.specs.Definitions.{Stage, Still, Ordered, Asks, SentOn, Weighs, Replied, Recorded, Closes, ClosesBoth}
+use Rattle.sc_calm_rows_law.specs.Definitions.{view_at}
+use Rattle.sc_budget_law.specs.Definitions.{replicas_after}
 use Rattle.sc_calm_answers_law.specs.Deeds.{HasDone, doers_of}
 use Rattle.sc_calm_answers_law.specs.New.{IsOfNew}
 

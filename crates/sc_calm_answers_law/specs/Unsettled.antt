@@ -1,18 +1,12 @@
 -- That mail of a transaction which is under way since a quiet journal comes unsettled.
 use Rattle.std.specs.Prelude.{◌≡◌, ℕ, Option, Some}
-use Rattle.sc_actor.specs.declared.actors.Seat.{Seat}
-use Rattle.sc_base.specs.declared.names.Draw.{Draw}
-use Rattle.sc_cmd.specs.declared.cores.Base.{Base}
-use Rattle.sc_mail.specs.declared.bodies.Mail.{Mail}
-use Rattle.sc_mail.specs.declared.bodies.MailBody.TheVariants.{TxElsewhere}
-use Rattle.sc_node_table.specs.Node.{NodeState, replica_of}
-use Rattle.sc_node_table.specs.Replica.{ReplicaState}
+use Rattle.sc_node_table.specs.Values.{Seat, Draw, Base, Mail, TxElsewhere}
+use Rattle.sc_node_table.specs.Definitions.{NodeState, replica_of, ReplicaState}
 use Rattle.sc_scenario.specs.declared.scenarios.Scenario.{Scenario}
-use Rattle.sc_sound.specs.Players.{Player, as_nodes, births}
-use Rattle.sc_calm_law.specs.Totals.{Rows}
-use Rattle.sc_calm_orders_law.specs.Stages.{Stage}
-use Rattle.sc_calm_scenes_law.specs.Fresh.{AreUntouched}
-use Rattle.sc_calm_scenes_law.specs.Taken.{IsTaking}
+use Rattle.sc_sound.specs.Definitions.{Player, as_nodes, births}
+use Rattle.sc_calm_law.specs.Definitions.{Rows}
+use Rattle.sc_calm_orders_law.specs.Definitions.{Stage}
+use Rattle.sc_calm_scenes_law.specs.Definitions.{AreUntouched, IsTaking}
 use Rattle.sc_calm_answers_law.specs.Beside.{IsUnsettled}
 use Rattle.sc_calm_answers_law.specs.Journal.{IsCalmJournal}
 use Rattle.sc_calm_answers_law.specs.Resting.{RestsAt}

@@ -1,14 +1,14 @@
 -- That the replicas of players are those of the nodes.
 use Rattle.std.specs.Prelude.{◌≡◌, ℕ}
-use Rattle.sc_base.specs.declared.names.Draw.{Draw}
-use Rattle.sc_scenario.specs.Valid.{IsBounded}
+use Rattle.sc_node_table.specs.Values.{Draw}
+use Rattle.sc_scenario.specs.Definitions.{IsBounded}
 use Rattle.sc_scenario.specs.declared.scenarios.Scenario.{Scenario}
-use Rattle.sc_sound.specs.Players.{births, as_nodes}
-use Rattle.sc_calm_law.specs.Totals.{Rows}
-use Rattle.sc_calm_rows_law.specs.Groups.{view_at}
-use Rattle.sc_calm_charts_law.specs.Charting.{replica_at as chart_replica}
+use Rattle.sc_sound.specs.Definitions.{births, as_nodes}
+use Rattle.sc_calm_law.specs.Definitions.{Rows}
+use Rattle.sc_calm_rows_law.specs.Definitions.{view_at}
+use Rattle.sc_calm_charts_law.specs.Definitions.{replica_at as chart_replica}
 use Rattle.sc_calm_answers_law.specs.Settings.{AreAtNodes}
-use Rattle.sc_budget_law.specs.AskingQuiet.{replicas_after}
+use Rattle.sc_budget_law.specs.Definitions.{replicas_after}
 
 -- After any rows of a scenario the replica of a player is that of the node with its number, where all replicas are at nodes; and so says the chart.
 pub record ViewsAgree : Type 0 where

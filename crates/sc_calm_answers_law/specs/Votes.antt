@@ -1,35 +1,16 @@
 -- What a vote finds at the leader, by the one command that is in flight there.
 use Rattle.std.specs.Prelude.{List, None, Some, [], false, true, ℕ, ◌∷◌, ◌≡◌, ◌⊎◌}
-use Rattle.sc_actor.specs.declared.actors.Seat.{Seat}
-use Rattle.sc_base.specs.Among.{Each}
-use Rattle.sc_base.specs.declared.names.Ballot.{Ballot}
-use Rattle.sc_base.specs.declared.names.Draw.{Draw}
+use Rattle.sc_node_table.specs.Values.{Seat, Ballot, Draw, Command, Begin, Call, Finish, GiveUp, Join, Leave, Noop, Prepared, RecordVote, RecordWatch, Split, Watched, Base, Outcome, Mail, Accepted}
+use Rattle.sc_base.specs.Definitions.{Each}
 use Rattle.sc_calm_answers_law.specs.Beside.{IsHere}
-use Rattle.sc_calm_groups_law.specs.Slots.{IsSlotKept}
-use Rattle.sc_calm_law.specs.Totals.{Rows}
-use Rattle.sc_calm_orders_law.specs.Entries.{IsBegun}
-use Rattle.sc_calm_orders_law.specs.Parts.{bond_of}
-use Rattle.sc_calm_orders_law.specs.Scenes.{Answers, Asking, Bond, Bound, Changes, Ends, First, GivesUp, Lone, Next, Opens, Records, Scene, Turn, Unbound, Work, is_watch}
-use Rattle.sc_calm_orders_law.specs.Stages.{IsUnderWay, IsVote}
-use Rattle.sc_calm_scenes_law.specs.Counted.{StaysIn}
-use Rattle.sc_calm_scenes_law.specs.Found.{FindsFlight}
-use Rattle.sc_calm_scenes_law.specs.Quiet.{IsWork}
-use Rattle.sc_calm_scenes_law.specs.Scenes.{scene_at}
-use Rattle.sc_cmd.specs.Cores.{is_alone}
-use Rattle.sc_cmd.specs.Effects.{decided_in, is_changed}
-use Rattle.sc_cmd.specs.declared.commands.Command.{Command}
-use Rattle.sc_cmd.specs.declared.commands.Command.TheVariants.{Begin, Call, Finish, GiveUp, Join, Leave, Noop, Prepared, RecordVote, RecordWatch, Split, Watched}
-use Rattle.sc_cmd.specs.declared.cores.Base.{Base}
-use Rattle.sc_cmd.specs.declared.votes.Outcome.{Outcome}
-use Rattle.sc_machine_table.specs.Group.{Group}
-use Rattle.sc_machine_table.specs.Machine.{applied}
-use Rattle.sc_machine_table.specs.Votes.{has_voted, watch_vote_of}
-use Rattle.sc_mail.specs.declared.bodies.Mail.{Mail}
-use Rattle.sc_mail.specs.declared.bodies.MailBody.TheVariants.{Accepted}
-use Rattle.sc_node_table.specs.Node.{NodeState}
-use Rattle.sc_node_table.specs.Replica.{ReplicaState}
-use Rattle.sc_node_table.specs.Spoken.{before_of}
-use Rattle.sc_sound.specs.Players.{Player}
+use Rattle.sc_calm_groups_law.specs.Definitions.{IsSlotKept}
+use Rattle.sc_calm_law.specs.Definitions.{Rows}
+use Rattle.sc_calm_orders_law.specs.Definitions.{IsBegun, bond_of, Answers, Asking, Bond, Bound, Changes, Ends, First, GivesUp, Lone, Next, Opens, Records, Scene, Turn, Unbound, Work, is_watch, IsUnderWay, IsVote}
+use Rattle.sc_calm_scenes_law.specs.Definitions.{StaysIn, FindsFlight, IsWork, scene_at}
+use Rattle.sc_cmd.specs.Definitions.{is_alone, decided_in, is_changed}
+use Rattle.sc_machine_table.specs.Definitions.{Group, applied, has_voted, watch_vote_of}
+use Rattle.sc_node_table.specs.Definitions.{NodeState, ReplicaState, before_of}
+use Rattle.sc_sound.specs.Definitions.{Player}
 use Rattle.sc_cmd.specs.declared.votes.Vote.TheVariants as Says
 
 -- nothing but work is in flight or ready at a replica: neither calls nor fillers

@@ -1,33 +1,18 @@
 -- What stands at groups in each front while an order is under way, from the order on.
 use Rattle.std.specs.Prelude.{◌≡◌, ℕ, ◌≤◌, true, false, List, [], Some}
 use Rattle.std.specs.List.{list_any}
-use Rattle.sc_base.specs.Same.{same_draw}
-use Rattle.sc_base.specs.Among.{Each}
-use Rattle.sc_base.specs.declared.names.Draw.{Draw}
-use Rattle.sc_base.specs.declared.ops.Op.{Op}
-use Rattle.sc_cmd.specs.declared.orders.OrderLine.{OrderLine}
-use Rattle.sc_mail.specs.declared.bodies.AnswerBody.{AnswerBody}
-use Rattle.sc_mail.specs.declared.bodies.Mail.{Mail}
-use Rattle.sc_mail.specs.declared.bodies.MailBody.TheVariants.{Request, Answer}
-use Rattle.sc_actor.specs.Mail.{mails, numbered}
-use Rattle.sc_actor.specs.Walk.{is_quiet}
-use Rattle.sc_actor.specs.declared.actors.Seat.{Seat}
-use Rattle.sc_actor.specs.declared.rows.Event.TheVariants.{Deliver, Told}
-use Rattle.sc_orderly_law.specs.Orderly.{is_born, rest}
-use Rattle.sc_orderly_law.specs.Timely.{AreInTime}
-use Rattle.sc_scenario.specs.Valid.{IsValid}
+use Rattle.sc_base.specs.Definitions.{same_draw, Each}
+use Rattle.sc_node_table.specs.Values.{Draw, Op, OrderLine, AnswerBody, Mail, Request, Answer, Seat, Deliver}
+use Rattle.sc_actor.specs.Definitions.{mails, numbered, is_quiet}
+use Rattle.sc_actor.specs.declared.rows.Event.TheVariants.{Told}
+use Rattle.sc_orderly_law.specs.Definitions.{is_born, rest, AreInTime}
+use Rattle.sc_scenario.specs.Definitions.{IsValid}
 use Rattle.sc_scenario.specs.declared.scenarios.Scenario.{Scenario}
-use Rattle.sc_node_table.specs.Node.{NodeState, replica_of, group_of_order}
-use Rattle.sc_node_table.specs.Replica.{ReplicaState, next, last_slot}
-use Rattle.sc_node_table.specs.Rows.{mailed}
-use Rattle.sc_sound.specs.Players.{Player, births, as_nodes, Lawful}
-use Rattle.sc_calm_law.specs.Charts.{players}
-use Rattle.sc_calm_law.specs.Quiet.{IsAtRest}
-use Rattle.sc_calm_law.specs.Totals.{Rows}
-use Rattle.sc_calm_rows_law.specs.Groups.{view_at}
-use Rattle.sc_calm_rows_law.specs.Turns.{IsSeat, with_event}
-use Rattle.sc_calm_scenes_law.specs.Fresh.{IsThere, IsNowhere}
-use Rattle.sc_calm_scenes_law.specs.Taken.{IsTaking}
+use Rattle.sc_node_table.specs.Definitions.{NodeState, replica_of, group_of_order, ReplicaState, next, last_slot, mailed}
+use Rattle.sc_sound.specs.Definitions.{Player, births, as_nodes, Lawful}
+use Rattle.sc_calm_law.specs.Definitions.{players, IsAtRest, Rows}
+use Rattle.sc_calm_rows_law.specs.Definitions.{view_at, IsSeat, with_event}
+use Rattle.sc_calm_scenes_law.specs.Definitions.{IsThere, IsNowhere, IsTaking}
 use Rattle.sc_calm_answers_law.specs.Guided.{IsNamedGuide, WaitsForFlights}
 use Rattle.sc_calm_answers_law.specs.FoundRows.{MeetsOrder}
 use Rattle.sc_calm_answers_law.specs.Votes.{IsOrdersAlone}

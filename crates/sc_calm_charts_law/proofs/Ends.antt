@@ -1,11 +1,9 @@
 -- A group that is gone is farther by one end from one that stands than the one that it went into, since groups go one after another.
 use Rattle.std.proofs.Common.{◌≡◌, ℕ, zero, suc, ◌+◌, ◌-◌, ◌≤◌, true, length, List, Option, Some, None, refl, sym, ◌∙◌, ap, arith}
 use Rattle.std.specs.Prelude.{is_some}
-use Rattle.sc_base.specs.declared.names.Draw.{Draw}
-use Rattle.sc_cmd.specs.declared.links.Route.{Route}
-use Rattle.sc_node_table.specs.Replica.{ReplicaState}
-use Rattle.sc_calm_charts_law.specs.Charting.{went_in, ends_by}
-use Rattle.sc_calm_charts_law.specs.Ends.{GoInTurn, EndsFall}
+use Rattle.sc_node_table.specs.Values.{Draw, Route}
+use Rattle.sc_node_table.specs.Definitions.{ReplicaState}
+use Rattle.sc_calm_charts_law.specs.Definitions.{went_in, ends_by, GoInTurn, EndsFall}
 
 module _ (names : List Draw) (replicas : List ReplicaState) (turn : Draw → ℕ) (goes : GoInTurn names replicas turn) where
   -- one that stands is away by none
@@ -35,5 +33,6 @@ module _ (names : List Draw) (replicas : List ReplicaState) (turn : Draw → ℕ
       let same = enough n (suc n) into.group (went_in into.group replicas) refl (λ some. (let up = g.1 some in (omega (arith, up, is), omega (arith, up, is)))) in
       omega (arith, one, same)
 
+-- Where groups go one after another, each is farther by one end from one that stands than the one that it went into.
 pub ends_fall : EndsFall
 ends_fall names replicas turn goes group into went = falls names replicas turn goes group into (length names) refl went

@@ -1,30 +1,15 @@
 -- The chart after a row follows that before it.
 use Rattle.std.proofs.Common.{◌≡◌, ℕ, ◌+◌, ◌≤◌, Bool, true, false, List, [], ◌∷◌, ◌++◌, Option, Some, None, refl, sym, ◌∙◌, ap, subst, arith}
-use Rattle.sc_base.specs.Among.{Each}
-use Rattle.sc_base.specs.declared.names.Draw.{Draw}
-use Rattle.sc_cmd.specs.declared.orders.OrderLine.{OrderLine}
+use Rattle.sc_base.specs.Definitions.{Each}
+use Rattle.sc_node_table.specs.Values.{Draw, OrderLine, Mail, MailBody, Request, Answer, Prepare, Promise, Accept, Accepted, Nack, Learn, Ask, Install, TxPrepare, TxVote, TxOutcome, TxElsewhere, TxWatch, TxWatched, Told, Node, Client, Seat, Row}
 use Rattle.sc_mail.specs.declared.bodies.AnswerBody.TheVariants as Says
-use Rattle.sc_mail.specs.declared.bodies.Mail.{Mail}
-use Rattle.sc_mail.specs.declared.bodies.MailBody.{MailBody}
-use Rattle.sc_mail.specs.declared.bodies.MailBody.TheVariants.{Request, Answer, Prepare, Promise, Accept, Accepted, Nack, Learn, Ask, Install, TxPrepare, TxVote, TxOutcome, TxElsewhere, TxWatch, TxWatched, Told}
-use Rattle.sc_mail.specs.declared.roles.Role.TheVariants.{Node, Client}
-use Rattle.sc_actor.specs.declared.actors.Seat.{Seat}
-use Rattle.sc_actor.specs.declared.rows.Row.{Row}
-use Rattle.sc_actor.specs.Replay.{value}
-use Rattle.sc_actor.specs.System.{System}
-use Rattle.sc_actor.specs.Walk.{is_quiet}
-use Rattle.sc_orderly_law.specs.Owing.{under_way}
-use Rattle.sc_orderly_law.specs.Timely.{AreInTime}
-use Rattle.sc_orderly_law.proofs.InTime.{in_time_tidy}
-use Rattle.sc_sound.specs.Players.{Player, player_table}
-use Rattle.sc_calm_law.specs.Charts.{players, Chart, SeeksNoMore, MayFollow}
-use Rattle.sc_calm_law.specs.Owed.{Ways, asked_owes, elsewhere_owes, body_owes, mail_owes}
-use Rattle.sc_calm_law.specs.Reach.{client_owes, search_owes}
-use Rattle.sc_calm_law.proofs.OwedResting.{quiet_mail}
-use Rattle.sc_calm_law.specs.Totals.{Rows, is_led}
-use Rattle.sc_calm_charts_law.specs.Charting.{all_replicas, asked_in, names_at, far_at, reach_in, chart_at}
-use Rattle.sc_calm_charts_law.specs.Following.{WaitsForNone, AsksSame, ChartsFollow, QuietChartsRest}
-use Rattle.sc_calm_charts_law.specs.Fronts.{quiet_front}
+use Rattle.sc_actor.specs.Definitions.{value, System, is_quiet}
+use Rattle.sc_orderly_law.specs.Definitions.{under_way, AreInTime}
+use Rattle.sc_orderly_law.proofs.Lemmas.{in_time_tidy}
+use Rattle.sc_sound.specs.Definitions.{Player, player_table}
+use Rattle.sc_calm_law.specs.Definitions.{players, Chart, SeeksNoMore, MayFollow, Ways, asked_owes, elsewhere_owes, body_owes, mail_owes, client_owes, search_owes, Rows, is_led}
+use Rattle.sc_calm_law.proofs.Lemmas.{quiet_mail}
+use Rattle.sc_calm_charts_law.specs.Definitions.{all_replicas, asked_in, names_at, far_at, reach_in, chart_at, WaitsForNone, AsksSame, ChartsFollow, QuietChartsRest, quiet_front}
 use Rattle.sc_calm_charts_law.proofs.Fronts.{front_stays}
 use Rattle.sc_calm_charts_law.proofs.Names.{Extends, names_grow}
 
@@ -147,8 +132,10 @@ module _ (words : ℕ → ℕ → ℕ × ℕ) (births : List (Seat Player)) (far
         led = grown.2;
       }
 
+-- The chart after a row that comes in time follows that of the rows before it, where what is to be asked elsewhere is asked of the same group, and no client waits once it is quiet.
 pub charts_follow : ChartsFollow
 charts_follow words births far sent rows row timely same still = follows words births far sent rows row timely same still
 
+-- Where all players rest and each group that was ever led is led or gone, they rest by the chart.
 pub charts_rest : QuietChartsRest
 charts_rest words births far sent rows rest led = record { players = rest; led = led; most = refl; reach = refl }

@@ -3,25 +3,16 @@ use Rattle.std.proofs.Common.{◌≡◌, ℕ, zero, suc, ◌≤◌, Bool, true, 
 use Rattle.std.specs.List.{list_any}
 use Rattle.std.proofs.lemmas.Bool.{cases_Bool, cases_lt, or_left, or_parts, or_right}
 use Rattle.std.proofs.lemmas.List.{length_push, take-append-le, take_all}
-use Rattle.sc_base.specs.Among.{Among, Each}
-use Rattle.sc_base.specs.Same.{same_draw}
-use Rattle.sc_base.specs.declared.names.Draw.{Draw}
-use Rattle.sc_base.proofs.NameLemmas.{draw_is, same_name}
-use Rattle.sc_cmd.specs.declared.orders.OrderLine.{OrderLine}
-use Rattle.sc_mail.specs.declared.bodies.Mail.{Mail}
-use Rattle.sc_mail.specs.declared.roles.Role.TheVariants.{Node, Client}
-use Rattle.sc_actor.specs.declared.actors.Seat.{Seat}
-use Rattle.sc_actor.specs.declared.rows.Row.{Row}
-use Rattle.sc_actor.specs.Replay.{value}
-use Rattle.sc_paxos_words.proofs.ListLemmas.{Among-filter, Each-passes, find_found}
-use Rattle.sc_node_table.specs.Node.{replica_of}
-use Rattle.sc_node_table.specs.Replica.{ReplicaState, name_of}
-use Rattle.sc_orderly_law.proofs.Ordering.{Each-append}
-use Rattle.sc_sound.specs.Players.{Player, player_table}
-use Rattle.sc_calm_law.specs.Parties.{StandsOnce}
-use Rattle.sc_calm_law.specs.Totals.{Rows, is_leading, leads, is_led}
-use Rattle.sc_calm_charts_law.specs.Charting.{replicas_of, all_replicas, with_names, led_names, names_upto, names_at}
-use Rattle.sc_calm_charts_law.specs.Following.{LedStandOnce}
+use Rattle.sc_base.specs.Definitions.{Among, Each, same_draw}
+use Rattle.sc_node_table.specs.Values.{Draw, OrderLine, Mail, Node, Client, Seat, Row}
+use Rattle.sc_base.proofs.Lemmas.{draw_is, same_name}
+use Rattle.sc_actor.specs.Definitions.{value}
+use Rattle.sc_paxos_words.proofs.Lemmas.{Among-filter, Each-passes, find_found}
+use Rattle.sc_node_table.specs.Definitions.{replica_of, ReplicaState, name_of}
+use Rattle.sc_orderly_law.proofs.Lemmas.{Each-append}
+use Rattle.sc_sound.specs.Definitions.{Player, player_table}
+use Rattle.sc_calm_law.specs.Definitions.{StandsOnce, Rows, is_leading, leads, is_led}
+use Rattle.sc_calm_charts_law.specs.Definitions.{replicas_of, all_replicas, with_names, led_names, names_upto, names_at, LedStandOnce}
 
 -- whether a name stands among some
 abbrev is_seen : Draw → List Draw → Bool
@@ -207,5 +198,6 @@ module _ (births : List (Seat Player)) (rows : Rows) where
     | inr under ↦ once_stays group (names_upto births rows m) (led_names births (take (suc m) rows)) (once_after group n m (omega (arith, under)) led)
   ]
 
+-- Each group that is led after some of the rows stands once among the groups of the chart.
 pub led_stand_once : LedStandOnce
 led_stand_once births rows n group low led = once_after births rows group n (length rows) low led

@@ -1,25 +1,12 @@
 -- By what it is counted what is owed in a calm journal: ways by hints and how far clients reach as in the last quiet journal, and the groups and what a coordinator asks as they are.
 use Rattle.std.specs.Prelude.{ℕ, zero, suc, ◌+◌, ◌-◌, ◌==◌, ◌&&◌, ◌||◌, max, min, not, is_some, Bool, List, [], ◌∷◌, ◌++◌, length, map, filter, take, if◌then◌else◌, Option, Some, None}
 use Rattle.std.specs.List.{list_any}
-use Rattle.sc_base.specs.Same.{same_draw}
-use Rattle.sc_base.specs.declared.names.Draw.{Draw}
-use Rattle.sc_cmd.specs.declared.cores.Core.{Core}
-use Rattle.sc_cmd.specs.declared.cores.Lock.{Lock}
-use Rattle.sc_cmd.specs.declared.cores.Lock.TheVariants.{Free, Coordinating, Promised, Watching}
-use Rattle.sc_cmd.specs.declared.links.Route.{Route}
-use Rattle.sc_cmd.specs.declared.orders.OrderLine.{OrderLine}
-use Rattle.sc_mail.specs.declared.bodies.Mail.{Mail}
-use Rattle.sc_mail.specs.declared.roles.Role.TheVariants.{Node, Client}
-use Rattle.sc_actor.specs.declared.actors.Seat.{Seat}
-use Rattle.sc_actor.specs.Replay.{value}
-use Rattle.sc_actor.specs.System.{System}
-use Rattle.sc_node_table.specs.Node.{replica_of}
-use Rattle.sc_node_table.specs.Questions.{asked_link, watcher_link}
-use Rattle.sc_node_table.specs.Replica.{ReplicaState, name_of}
-use Rattle.sc_sound.specs.Players.{Player, player_table}
-use Rattle.sc_calm_law.specs.Charts.{Chart}
-use Rattle.sc_calm_law.specs.Reach.{Reach}
-use Rattle.sc_calm_law.specs.Totals.{Rows, is_led}
+use Rattle.sc_base.specs.Definitions.{same_draw}
+use Rattle.sc_node_table.specs.Values.{Draw, Core, Lock, Free, Coordinating, Promised, Watching, Route, OrderLine, Mail, Node, Client, Seat}
+use Rattle.sc_actor.specs.Definitions.{value, System}
+use Rattle.sc_node_table.specs.Definitions.{replica_of, asked_link, watcher_link, ReplicaState, name_of}
+use Rattle.sc_sound.specs.Definitions.{Player, player_table}
+use Rattle.sc_calm_law.specs.Definitions.{Chart, Reach, Rows, is_led}
 use Rattle.sc_calm_charts_law.specs.Fronts.{quiet_front}
 
 -- the replicas of a player: a client has none

@@ -1,8 +1,7 @@
 -- How far groups that are gone are away from those that stand.
 use Rattle.std.specs.Prelude.{◌≡◌, ℕ, ◌+◌, ◌<◌, ◌≤◌, length, List, Some, is_some, true}
-use Rattle.sc_base.specs.declared.names.Draw.{Draw}
-use Rattle.sc_cmd.specs.declared.links.Route.{Route}
-use Rattle.sc_node_table.specs.Replica.{ReplicaState}
+use Rattle.sc_node_table.specs.Values.{Draw, Route}
+use Rattle.sc_node_table.specs.Definitions.{ReplicaState}
 use Rattle.sc_calm_charts_law.specs.Charting.{went_in, ends_by}
 
 -- Groups go one after another: by these numbers, of which there are fewer than names, each goes into one that stands or goes later.

@@ -1,23 +1,11 @@
 -- That the charts of a calm journal follow one another, and what they give in quiet.
 use Rattle.std.specs.Prelude.{◌≡◌, ℕ, ◌≤◌, ◌++◌, true, List, [], ◌∷◌, length, take, Option, None}
-use Rattle.sc_base.specs.Among.{Each}
-use Rattle.sc_base.specs.declared.names.Draw.{Draw}
-use Rattle.sc_cmd.specs.declared.orders.OrderLine.{OrderLine}
-use Rattle.sc_mail.specs.declared.bodies.Mail.{Mail}
-use Rattle.sc_mail.specs.declared.bodies.MailBody.{MailBody}
-use Rattle.sc_mail.specs.declared.bodies.MailBody.TheVariants.{TxElsewhere}
-use Rattle.sc_mail.specs.declared.roles.Role.TheVariants.{Node, Client}
-use Rattle.sc_actor.specs.declared.actors.Seat.{Seat}
-use Rattle.sc_actor.specs.declared.rows.Row.{Row}
-use Rattle.sc_actor.specs.Replay.{value}
-use Rattle.sc_actor.specs.Walk.{is_quiet}
-use Rattle.sc_orderly_law.specs.Owing.{under_way}
-use Rattle.sc_orderly_law.specs.Timely.{AreInTime}
-use Rattle.sc_sound.specs.Players.{Player, player_table}
-use Rattle.sc_calm_law.specs.Charts.{players, MayFollow}
-use Rattle.sc_calm_law.specs.Parties.{StandsOnce}
-use Rattle.sc_calm_law.specs.Resting.{IsResting, RestsCalm}
-use Rattle.sc_calm_law.specs.Totals.{Rows, is_led}
+use Rattle.sc_base.specs.Definitions.{Each}
+use Rattle.sc_node_table.specs.Values.{Draw, OrderLine, Mail, MailBody, TxElsewhere, Node, Client, Seat, Row}
+use Rattle.sc_actor.specs.Definitions.{value, is_quiet}
+use Rattle.sc_orderly_law.specs.Definitions.{under_way, AreInTime}
+use Rattle.sc_sound.specs.Definitions.{Player, player_table}
+use Rattle.sc_calm_law.specs.Definitions.{players, MayFollow, StandsOnce, IsResting, RestsCalm, Rows, is_led}
 use Rattle.sc_calm_charts_law.specs.Charting.{all_replicas, asked_in, names_at, chart_at}
 
 -- a client for which no request waits

@@ -1,11 +1,9 @@
 -- The last quiet journal before some rows: where the requests, or the order, that are under way began.
 use Rattle.std.specs.Prelude.{ℕ, zero, suc, length, take, if◌then◌else◌}
-use Rattle.sc_cmd.specs.declared.orders.OrderLine.{OrderLine}
-use Rattle.sc_mail.specs.declared.bodies.Mail.{Mail}
-use Rattle.sc_actor.specs.System.{System}
-use Rattle.sc_actor.specs.Walk.{is_quiet}
-use Rattle.sc_sound.specs.Players.{Player}
-use Rattle.sc_calm_law.specs.Totals.{Rows}
+use Rattle.sc_node_table.specs.Values.{OrderLine, Mail}
+use Rattle.sc_actor.specs.Definitions.{System, is_quiet}
+use Rattle.sc_sound.specs.Definitions.{Player}
+use Rattle.sc_calm_law.specs.Definitions.{Rows}
 
 -- how many rows the longest quiet journal has that is no longer than this, and with which these rows begin
 abbrev pub quiet_upto : System Player Mail OrderLine → Rows → ℕ → ℕ

@@ -1,24 +1,14 @@
 -- A leader at which an entry of an order is in flight, alone, may count a vote.
 use Rattle.std.proofs.Common.{◌≡◌, ℕ, ◌≤◌, Bool, true, false, cond, [], ◌∷◌, length, Option, Some, None, ◌⊎◌, inl, inr, refl, sym, ◌∙◌, ap}
 use Rattle.std.proofs.lemmas.Bool.{eq-eqb}
-use Rattle.sc_base.specs.declared.names.Draw.{Draw}
-use Rattle.sc_cmd.specs.Cores.{is_alone}
-use Rattle.sc_cmd.specs.Effects.{is_changed}
-use Rattle.sc_cmd.specs.declared.commands.Command.{Command}
-use Rattle.sc_cmd.specs.declared.commands.Command.TheVariants.{Noop, Call, Join, Leave, Split, Begin, Prepared, RecordVote, GiveUp, Finish, Watched, RecordWatch}
-use Rattle.sc_cmd.specs.declared.links.Route.{Route}
-use Rattle.sc_cmd.specs.declared.votes.Outcome.{Outcome}
+use Rattle.sc_node_table.specs.Values.{Draw, Command, Noop, Call, Join, Leave, Split, Begin, Prepared, RecordVote, GiveUp, Finish, Watched, RecordWatch, Route, Outcome, Vote}
+use Rattle.sc_cmd.specs.Definitions.{is_alone, is_changed}
 use Rattle.sc_cmd.specs.declared.votes.Past.TheVariants as Cast
-use Rattle.sc_cmd.specs.declared.votes.Vote.{Vote}
-use Rattle.sc_machine_table.specs.Machine.{applied}
-use Rattle.sc_base.specs.Roster.{is_member}
-use Rattle.sc_node_table.specs.Execute.{entered}
-use Rattle.sc_node_table.specs.Replica.{ReplicaState, next, members, forgotten}
-use Rattle.sc_node_table.specs.Slots.{at_slot, with_slot, without_slot}
-use Rattle.sc_node_table.specs.Spoken.{before_of}
-use Rattle.sc_paxos_words.specs.Leaders.{without_flight}
-use Rattle.sc_calm_law.specs.Executing.{IsPaid, LeavesFew, EndsAfter}
-use Rattle.sc_calm_law.specs.Laws.{newcomers, IsCounting, LeadsOn, StopsAfter, readied_at}
+use Rattle.sc_machine_table.specs.Definitions.{applied}
+use Rattle.sc_base.specs.Definitions.{is_member}
+use Rattle.sc_node_table.specs.Definitions.{entered, ReplicaState, next, members, forgotten, at_slot, with_slot, without_slot, before_of}
+use Rattle.sc_paxos_words.specs.Definitions.{without_flight}
+use Rattle.sc_calm_law.specs.Definitions.{IsPaid, LeavesFew, EndsAfter, newcomers, IsCounting, LeadsOn, StopsAfter, readied_at}
 use Rattle.sc_calm_entries_law.specs.Paid.{IsEntry, OrderEntriesCount}
 use Rattle.sc_calm_entries_law.proofs.Members.{join-stands, join-keeps, leave-stands, split-stands, split-keeps, vote-waits, watch-stands, finish-keeps}
 use Rattle.sc_calm_entries_law.proofs.Paid.{leads_on}
@@ -95,6 +85,7 @@ few_ready : (slot : ℕ) (value : Command) (r : ReplicaState) → length (applie
 unfolding entered forgotten
 few_ready slot value r few = few
 
+-- So may one at which any entry of an order is in flight, alone, and no call waits: it is paid for, also where the leader leaves by it, or its group is gone.
 pub order-entries-count : OrderEntriesCount
 order-entries-count slot flight r lone calls may few after mine stands entry = inr (inr (
   flight,

@@ -2,38 +2,15 @@
 use Rattle.std.specs.Prelude.{nat_le}
 use Rattle.std.proofs.Common.{◌≡◌, ℕ, ◌&&◌, not, Bool, true, false, cond, List, [], ◌∷◌, length, Option, Some, None, refl}
 use Rattle.std.proofs.lemmas.Bool.{cond_both}
-use Rattle.sc_base.specs.Arc.{holds}
-use Rattle.sc_base.specs.Same.{same_draw}
-use Rattle.sc_base.specs.declared.names.Draw.{Draw}
-use Rattle.sc_cmd.specs.Cores.{is_alone}
-use Rattle.sc_cmd.specs.Effects.{is_changed}
-use Rattle.sc_cmd.specs.declared.bodies.Body.{Body}
+use Rattle.sc_base.specs.Definitions.{holds, same_draw, is_member, with_member, with_any, united}
+use Rattle.sc_node_table.specs.Values.{Draw, Body, Offer, Join, Leave, Split, Lock, Free, Coordinating, Promised, Watching, Effect, Route, OrderRefusal, Frozen, Heard, Outcome, Abort, Merged, Moved, Migrated, Divided, Vote}
+use Rattle.sc_cmd.specs.Definitions.{is_alone, is_changed}
 use Rattle.sc_cmd.specs.declared.bodies.Body.TheVariants as At
-use Rattle.sc_cmd.specs.declared.bodies.Offer.{Offer}
-use Rattle.sc_cmd.specs.declared.commands.Command.TheVariants.{Join, Leave, Split}
-use Rattle.sc_cmd.specs.declared.cores.Lock.{Lock}
-use Rattle.sc_cmd.specs.declared.cores.Lock.TheVariants.{Free, Coordinating, Promised, Watching}
-use Rattle.sc_cmd.specs.declared.effects.Effect.{Effect}
 use Rattle.sc_cmd.specs.declared.effects.Effect.TheVariants as Was
-use Rattle.sc_cmd.specs.declared.links.Route.{Route}
-use Rattle.sc_cmd.specs.declared.orders.OrderRefusal.{OrderRefusal}
-use Rattle.sc_cmd.specs.declared.votes.Frozen.{Frozen}
-use Rattle.sc_cmd.specs.declared.votes.Heard.{Heard}
-use Rattle.sc_cmd.specs.declared.votes.Outcome.{Outcome}
-use Rattle.sc_cmd.specs.declared.votes.Outcome.TheVariants.{Abort, Merged, Moved, Migrated, Divided}
 use Rattle.sc_cmd.specs.declared.votes.Past.TheVariants as Cast
-use Rattle.sc_cmd.specs.declared.votes.Vote.{Vote}
 use Rattle.sc_cmd.specs.declared.votes.Vote.TheVariants as Says
-use Rattle.sc_machine_table.specs.Finishes.{can_gain, gained_group, lost_group, welcomed_group, participant_after, settled_in, watch_ended, finished}
-use Rattle.sc_machine_table.specs.Group.{Group}
-use Rattle.sc_machine_table.specs.Machine.{applied}
-use Rattle.sc_machine_table.specs.Orders.{refusal_of, ordered, with_node, without_node}
-use Rattle.sc_machine_table.specs.Plans.{Plan, closing_plan, closing_group, repart_plan, giving_plan, taking_plan, giving_group, taking_group, can_repart, taken, part_gift, has_key_of, migrate_plan, migrated_group, can_migrate, merge_plan, merged_group, merged_route, may_merge, split_plan, can_split, can_cut}
-use Rattle.sc_machine_table.specs.Splits.{has_named, left_group}
-use Rattle.sc_machine_table.specs.Transactions.{begun_group, heard_group, asks_watcher, committed, participant_answered, granted, vote_recorded, watch_recorded, released}
-use Rattle.sc_base.specs.Roster.{is_member, with_member}
-use Rattle.sc_base.specs.Union.{with_any, united}
-use Rattle.sc_following_law.proofs.Polled.{with_kept}
+use Rattle.sc_machine_table.specs.Definitions.{can_gain, gained_group, lost_group, welcomed_group, participant_after, settled_in, watch_ended, finished, Group, applied, refusal_of, ordered, with_node, without_node, Plan, closing_plan, closing_group, repart_plan, giving_plan, taking_plan, giving_group, taking_group, can_repart, taken, part_gift, has_key_of, migrate_plan, migrated_group, can_migrate, merge_plan, merged_group, merged_route, may_merge, split_plan, can_split, can_cut, has_named, left_group, begun_group, heard_group, asks_watcher, committed, participant_answered, granted, vote_recorded, watch_recorded, released}
+use Rattle.sc_following_law.proofs.Lemmas.{with_kept}
 
 module _ (group : Group) where
   -- the group stands as it did

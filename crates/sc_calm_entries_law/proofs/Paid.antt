@@ -1,36 +1,14 @@
 -- A coordinator's question, and entries by which no member comes or goes.
 use Rattle.std.proofs.Common.{◌≡◌, ℕ, ◌≤◌, Bool, true, false, cond, length, Option, Some, None, inr, refl, sym, ◌∙◌, ap, arith}
 use Rattle.std.proofs.lemmas.Bool.{eq-eqb, cond_both}
-use Rattle.sc_base.specs.declared.names.Draw.{Draw}
-use Rattle.sc_cmd.specs.declared.bodies.Body.{Body}
+use Rattle.sc_node_table.specs.Values.{Draw, Body, Command, Noop, Call, Join, Leave, Split, Begin, Prepared, RecordVote, GiveUp, Finish, Watched, RecordWatch, Core, Lock, Promised, Watching, Effect, Route, OrderRefusal, Heard, No}
 use Rattle.sc_cmd.specs.declared.bodies.Body.TheVariants as At
-use Rattle.sc_cmd.specs.declared.commands.Command.{Command}
-use Rattle.sc_cmd.specs.declared.commands.Command.TheVariants.{Noop, Call, Join, Leave, Split, Begin, Prepared, RecordVote, GiveUp, Finish, Watched, RecordWatch}
-use Rattle.sc_cmd.specs.declared.cores.Core.{Core}
-use Rattle.sc_cmd.specs.declared.cores.Lock.{Lock}
-use Rattle.sc_cmd.specs.declared.cores.Lock.TheVariants.{Promised, Watching}
-use Rattle.sc_cmd.specs.declared.effects.Effect.{Effect}
 use Rattle.sc_cmd.specs.declared.effects.Effect.TheVariants as Was
-use Rattle.sc_cmd.specs.declared.links.Route.{Route}
-use Rattle.sc_cmd.specs.declared.orders.OrderRefusal.{OrderRefusal}
-use Rattle.sc_cmd.specs.declared.votes.Heard.{Heard}
-use Rattle.sc_cmd.specs.declared.votes.No.{No}
-use Rattle.sc_machine_table.specs.Group.{Group}
-use Rattle.sc_machine_table.specs.Machine.{applied}
-use Rattle.sc_machine_table.specs.Orders.{refusal_of, ordered}
-use Rattle.sc_machine_table.specs.Splits.{has_named}
-use Rattle.sc_machine_table.specs.Transactions.{begun_group}
-use Rattle.sc_machine_table.specs.Votes.{has_voted, vote_of, watch_vote_of, voted_on}
-use Rattle.sc_base.specs.Roster.{is_member}
-use Rattle.sc_node_table.specs.Execute.{entered}
-use Rattle.sc_node_table.specs.Questions.{question, asked_link}
-use Rattle.sc_node_table.specs.Replica.{ReplicaState, next, members, forgotten}
-use Rattle.sc_node_table.specs.Slots.{at_slot, with_slot}
-use Rattle.sc_calm_law.specs.Executing.{IsPaid, LeavesFew}
-use Rattle.sc_calm_law.specs.Laws.{IsCounting, LeadsOn, readied_at}
-use Rattle.sc_calm_law.specs.Owed.{Ways, asked_owes, body_owes}
-use Rattle.sc_calm_orders_law.specs.Scenes.{is_watch, Asking}
-use Rattle.sc_calm_orders_law.specs.Parts.{turn_of, bond_in}
+use Rattle.sc_machine_table.specs.Definitions.{Group, applied, refusal_of, ordered, has_named, begun_group, has_voted, vote_of, watch_vote_of, voted_on}
+use Rattle.sc_base.specs.Definitions.{is_member}
+use Rattle.sc_node_table.specs.Definitions.{entered, question, asked_link, ReplicaState, next, members, forgotten, at_slot, with_slot}
+use Rattle.sc_calm_law.specs.Definitions.{IsPaid, LeavesFew, IsCounting, LeadsOn, readied_at, Ways, asked_owes, body_owes}
+use Rattle.sc_calm_orders_law.specs.Definitions.{is_watch, Asking, turn_of, bond_in}
 use Rattle.sc_calm_entries_law.specs.Paid.{BondsAsk, KeepsMembers, LoneEntriesCount}
 
 -- ---- what a coordinator asks
@@ -45,6 +23,7 @@ question_owes ways me node core tx (At.Migrate at) None = refl
 question_owes ways me node core tx (At.Migrate at) (Some heard) = refl
 question_owes ways me node core tx (At.Split at child) heard = refl
 
+-- What a coordinator asks of a node is what the ways say that it asks, where they say what its bond says.
 pub bonds-ask : BondsAsk
 bonds-ask ways tx asked turn node r bond asks body heard order lock =
     (let b : Asking tx (asked_link r.group.core body heard).group (turn_of r.group.core body heard) ≡ Asking tx asked turn = sym (ap (λ (l : Lock). bond_in l r.group.core) lock) ∙ bond in
@@ -107,6 +86,7 @@ paid (GiveUp tx) r k l = absurd k
 paid (Finish tx outcome) r k l = absurd k
 paid (RecordWatch tx vote by) r k l = absurd k
 
+-- A leader at which the begin of a transaction or a vote in one is in flight, alone, may count a vote of its nodes: the entry is paid for.
 pub lone-entries-count : LoneEntriesCount
 lone-entries-count slot flight r lone may few mine stands k = inr (inr (
   flight,

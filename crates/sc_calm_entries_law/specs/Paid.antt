@@ -1,21 +1,12 @@
 -- What the stages of an order give of what rows of calm journals have to find.
 use Rattle.std.specs.Prelude.{◌≡◌, ℕ, ◌≤◌, true, [], length, Some, None, ◌⊎◌}
-use Rattle.sc_base.specs.declared.names.Draw.{Draw}
-use Rattle.sc_cmd.specs.declared.commands.Command.{Command}
-use Rattle.sc_cmd.specs.declared.commands.Command.TheVariants.{Noop, Call, Join, Leave, Split, Begin, Prepared, RecordVote, GiveUp, Finish, Watched, RecordWatch}
-use Rattle.sc_cmd.specs.declared.cores.Lock.TheVariants.{Free}
+use Rattle.sc_node_table.specs.Values.{Draw, Command, Noop, Call, Join, Leave, Split, Begin, Prepared, RecordVote, GiveUp, Finish, Watched, RecordWatch, Free, Flight}
 use Rattle.sc_cmd.specs.declared.votes.Past.TheVariants as Cast
-use Rattle.sc_machine_table.specs.Machine.{applied}
-use Rattle.sc_base.specs.Roster.{is_member}
-use Rattle.sc_node_table.specs.Replica.{ReplicaState, members}
-use Rattle.sc_node_table.specs.Spoken.{before_of}
-use Rattle.sc_paxos_words.specs.declared.flights.Flight.{Flight}
-use Rattle.sc_calm_law.specs.Keeping.{MayCount}
-use Rattle.sc_calm_law.specs.Laws.{newcomers, MayPump, AsksAs}
-use Rattle.sc_calm_law.specs.Owed.{Ways}
-use Rattle.sc_calm_orders_law.specs.Scenes.{Turn, is_watch, Asking}
-use Rattle.sc_calm_orders_law.specs.Parts.{bond_of}
-use Rattle.sc_calm_orders_law.specs.Running.{FliesLone}
+use Rattle.sc_machine_table.specs.Definitions.{applied}
+use Rattle.sc_base.specs.Definitions.{is_member}
+use Rattle.sc_node_table.specs.Definitions.{ReplicaState, members, before_of}
+use Rattle.sc_calm_law.specs.Definitions.{MayCount, newcomers, MayPump, AsksAs, Ways}
+use Rattle.sc_calm_orders_law.specs.Definitions.{Turn, is_watch, Asking, bond_of, FliesLone}
 
 -- a coordinator asks what its bond says, by ways that say so too
 abbrev pub BondsAsk : Type 0

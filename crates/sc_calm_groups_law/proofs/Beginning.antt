@@ -1,35 +1,19 @@
 -- Groups begin well led.
 use Rattle.std.proofs.Common.{◌≡◌, ℕ, zero, suc, ◌+◌, ◌<◌, ◌≤◌, true, true≢false, cond, List, [], Option, Some, None, inl, inr, refl, sym, ◌∙◌, ap, subst, arith}
 use Rattle.std.proofs.lemmas.Bool.{cases_Bool, cond-true, cond-false, cond_both, eqb-true, eq-eqb}
-use Rattle.sc_base.specs.Among.{Among}
-use Rattle.sc_base.specs.declared.names.Ballot.{Ballot}
-use Rattle.sc_cmd.specs.declared.cores.Base.{Base}
-use Rattle.sc_base.specs.Roster.{is_member}
-use Rattle.sc_actor.specs.declared.actors.Seat.{Seat}
-use Rattle.sc_orderly_law.specs.Orderly.{rest}
-use Rattle.sc_scenario.specs.Valid.{IsBounded}
+use Rattle.sc_base.specs.Definitions.{Among, is_member}
+use Rattle.sc_node_table.specs.Values.{Ballot, Base, Seat}
+use Rattle.sc_orderly_law.specs.Definitions.{rest}
+use Rattle.sc_scenario.specs.Definitions.{IsBounded}
 use Rattle.sc_scenario.specs.declared.scenarios.Scenario.{Scenario}
-use Rattle.sc_node_table.specs.Replica.{ReplicaState, first_ballot, born_replica}
-use Rattle.sc_node_table.specs.Slots.{slots_ahead}
-use Rattle.sc_sound.specs.Players.{Player, births, as_nodes}
-use Rattle.sc_calm_law.specs.Charts.{players}
-use Rattle.sc_calm_law.specs.Totals.{Rows}
-use Rattle.sc_following_law.specs.Dated.{AreLow}
-use Rattle.sc_following_law.specs.Following.{Mark, Progress, Sets, members_at, IsFollowing}
-use Rattle.sc_following_law.specs.Hints.{Tellers}
-use Rattle.sc_following_law.specs.Leading.{IsLeadOf}
-use Rattle.sc_following_law.specs.Orderly.{IsOrderly}
-use Rattle.sc_following_law.specs.Rows.{IsRow, IsIdle, begun}
-use Rattle.sc_following_law.proofs.Beginning.{leaders_begin}
-use Rattle.sc_following_law.proofs.Dated.{nothing}
-use Rattle.sc_following_law.proofs.Heeding.{hints_are_kept}
-use Rattle.sc_following_law.proofs.InQuiet.{begins}
-use Rattle.sc_following_law.proofs.Keeps.{idle-keeps}
-use Rattle.sc_following_law.proofs.Owning.{own_is_kept}
-use Rattle.sc_calm_rows_law.specs.Groups.{view_at, next_in, promise_in, progress_at, marks_at, begun_course, IsLedBy, IsCourseOf}
-use Rattle.sc_calm_rows_law.proofs.Beginning.{none_some, born_leads, born_facts, own_replica, view_born, next_born, promise_born}
-use Rattle.sc_calm_groups_law.specs.Begun.{BeginsSo, ScenariosBeginLed, ChildrenBeginLed}
-use Rattle.sc_calm_groups_law.specs.Led.{Ends, hint_in, hints_at, dated_at, IsWellLed}
+use Rattle.sc_node_table.specs.Definitions.{ReplicaState, first_ballot, born_replica, slots_ahead}
+use Rattle.sc_sound.specs.Definitions.{Player, births, as_nodes}
+use Rattle.sc_calm_law.specs.Definitions.{players, Rows}
+use Rattle.sc_following_law.specs.Definitions.{AreLow, Mark, Progress, Sets, members_at, IsFollowing, Tellers, IsLeadOf, IsOrderly, IsRow, IsIdle, begun}
+use Rattle.sc_following_law.proofs.Lemmas.{leaders_begin, nothing, hints_are_kept, begins, idle-keeps, own_is_kept}
+use Rattle.sc_calm_rows_law.specs.Definitions.{view_at, next_in, promise_in, progress_at, marks_at, begun_course, IsLedBy, IsCourseOf}
+use Rattle.sc_calm_rows_law.proofs.Lemmas.{none_some, born_leads, born_facts, own_replica, view_born, next_born, promise_born}
+use Rattle.sc_calm_groups_law.specs.Definitions.{BeginsSo, ScenariosBeginLed, ChildrenBeginLed, Ends, hint_in, hints_at, dated_at, IsWellLed}
 use Rattle.sc_calm_groups_law.proofs.Rows.{marks_all}
 
 -- a group whose nodes are all where they begin, and none of whose mail is under way
@@ -128,9 +112,11 @@ module _ (at : Sets) (over : Ends) (by : Tellers) (words : ℕ → ℕ → ℕ �
       })
       (λ node r e runs. subst IsOrderly (one_runs node r e runs).0 (leaders_begin at base.core.first base so.sets refl facts.1 facts.2 facts.0).1)
 
+-- Each group of a bounded scenario is well led at its birth, whatever log it then has that begins with its first members.
 pub scenarios_begin_led : ScenariosBeginLed
 scenarios_begin_led at over by words scenario base bounded a so = scenario_led at over by words scenario base bounded a so
 
+-- So is the child of a split, before any node has a replica of it.
 pub children_begin_led : ChildrenBeginLed
 children_begin_led at over by words seats rows base so first unborn none =
     well at over by words seats rows base so first (λ who. ap (next_in base who) (unborn who)) (λ who. ap (promise_in base) (unborn who)) none (λ who. ap (hint_in base) (unborn who))

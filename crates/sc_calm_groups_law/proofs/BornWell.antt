@@ -1,16 +1,14 @@
 -- The players of a scenario are born well.
 use Rattle.std.proofs.Common.{ℕ, eqb, List, [], ◌∷◌, map, refl}
-use Rattle.sc_base.specs.Among.{Each}
-use Rattle.sc_cmd.specs.declared.cores.Base.{Base}
-use Rattle.sc_actor.specs.declared.actors.Seat.{Seat}
-use Rattle.sc_paxos_words.proofs.ListLemmas.{Each-among, Each-append, find_found}
+use Rattle.sc_base.specs.Definitions.{Each}
+use Rattle.sc_node_table.specs.Values.{Base, Seat}
+use Rattle.sc_paxos_words.proofs.Lemmas.{Each-among, Each-append, find_found}
 use Rattle.sc_scenario.specs.declared.scenarios.Asks.{Asks as Requests}
 use Rattle.sc_scenario.specs.declared.scenarios.Scenario.{Scenario}
-use Rattle.sc_node_table.specs.Slots.{numbers_from}
-use Rattle.sc_sound.specs.Players.{Player, births, as_nodes, node_seat, client_seat, client_seats, route_of}
-use Rattle.sc_calm_rows_law.proofs.OwnJournal.{births_alone}
-use Rattle.sc_calm_rows_law.proofs.WellNodes.{nodes_born}
-use Rattle.sc_calm_groups_law.specs.Through.{IsWellPlayer, ScenariosAreWellBorn}
+use Rattle.sc_node_table.specs.Definitions.{numbers_from}
+use Rattle.sc_sound.specs.Definitions.{Player, births, as_nodes, node_seat, client_seat, client_seats, route_of}
+use Rattle.sc_calm_rows_law.proofs.Lemmas.{births_alone, nodes_born}
+use Rattle.sc_calm_groups_law.specs.Definitions.{IsWellPlayer, ScenariosAreWellBorn}
 
 -- a seat whose player is born well
 abbrev IsWellSeat : Seat Player → Type 0
@@ -32,6 +30,7 @@ all_well : (scenario : Scenario) → Each IsWellSeat (births as_nodes scenario)
 all_well scenario =
     Each-append IsWellSeat (map (node_seat as_nodes scenario.groups scenario.policy) (numbers_from 1 scenario.nodes)) (client_seats scenario.groups scenario.clients) (nodes_well scenario (numbers_from 1 scenario.nodes)) (clients_well scenario.groups scenario.clients)
 
+-- The players of a scenario are born with their numbers and with replicas that are well kept, and each that runs does so with a ballot of its own.
 pub scenarios_well_born : ScenariosAreWellBorn
 scenarios_well_born scenario = record {
   well = λ seat is. Each-among IsWellSeat (births as_nodes scenario) seat (all_well scenario) (find_found (λ other. eqb other.who seat.who) (births as_nodes scenario) seat is).0;

@@ -3,21 +3,14 @@ use Rattle.std.proofs.Common.{◌≡◌, ℕ, ◌≤◌, ◌+◌, ◌&&◌, ◌|
 use Rattle.std.specs.Prelude.{is_some}
 use Rattle.std.specs.Option.{option_map}
 use Rattle.std.proofs.lemmas.Bool.{eq-eqb, lt-ltb, le-ltb, cases_lt}
-use Rattle.sc_base.specs.Among.{Each}
-use Rattle.sc_cmd.specs.declared.commands.Command.{Command}
-use Rattle.sc_paxos_words.specs.declared.flights.Flight.{Flight}
-use Rattle.sc_paxos_words.specs.Leaders.{flight_at}
-use Rattle.sc_paxos_words.specs.Votes.{kept_voters}
-use Rattle.sc_node_table.specs.Execute.{has_room}
-use Rattle.sc_node_table.specs.Replica.{ReplicaState, next, last_slot, either, flying, taken_at}
-use Rattle.sc_node_table.specs.Slots.{at_slot}
-use Rattle.sc_following_law.specs.Following.{Progress, Sets}
-use Rattle.sc_following_law.specs.Leading.{IsLeadOf}
-use Rattle.sc_calm_rows_law.specs.Evens.{IsEvenAt}
-use Rattle.sc_calm_rows_law.specs.Groups.{progress_at}
-use Rattle.sc_calm_rows_law.proofs.Evens.{quiet_rests}
-use Rattle.sc_calm_groups_law.specs.Cleared.{IsCleared, QuietLeadersRest}
-use Rattle.sc_calm_groups_law.specs.Rests.{IsLedQuietly}
+use Rattle.sc_base.specs.Definitions.{Each}
+use Rattle.sc_node_table.specs.Values.{Command, Flight}
+use Rattle.sc_paxos_words.specs.Definitions.{flight_at, kept_voters}
+use Rattle.sc_node_table.specs.Definitions.{has_room, ReplicaState, next, last_slot, either, flying, taken_at, at_slot}
+use Rattle.sc_following_law.specs.Definitions.{Progress, Sets, IsLeadOf}
+use Rattle.sc_calm_rows_law.specs.Definitions.{IsEvenAt, progress_at}
+use Rattle.sc_calm_rows_law.proofs.Lemmas.{quiet_rests}
+use Rattle.sc_calm_groups_law.specs.Definitions.{IsCleared, QuietLeadersRest, IsLedQuietly}
 use Rattle.sc_calm_groups_law.proofs.Resting.{quiet_groups_led}
 
 -- what is asked of none of three is the other one
@@ -88,6 +81,7 @@ module _ (at : Sets) (now : Progress) (lead : ReplicaState) (leads : IsLeadOf at
   pub empty_ready : lead.ready ≡ []
   empty_ready = no_ready (next lead) lead.ready cleared.ready (λ slot from. none_second (flying lead slot) (at_slot lead.ready slot) (none slot from))
 
+-- In a quiet journal the one that leads a group that stands leads at rest, with nothing in flight or ready, where what it has in flight and ready is at slots that are not executed.
 pub quiet_leaders_rest : QuietLeadersRest
 quiet_leaders_rest at over by words births rows base course lead rosters timely quiet strangers was stands there room cleared tops =
     let now : Progress = progress_at births rows base course in

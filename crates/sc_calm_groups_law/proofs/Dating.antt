@@ -2,30 +2,18 @@
 use Rattle.std.proofs.Common.{◌≡◌, ℕ, ◌&&◌, cond, List, [], ◌∷◌, ◌++◌, Option, Some, None, drop, refl, sym, ◌∙◌, ap, subst, append_assoc}
 use Rattle.std.specs.Option.{option_map}
 use Rattle.std.proofs.lemmas.Bool.{ne_eqb, eq-eqb}
-use Rattle.sc_base.specs.declared.names.Draw.{Draw}
-use Rattle.sc_cmd.specs.declared.cores.Base.{Base}
-use Rattle.sc_cmd.specs.declared.orders.OrderLine.{OrderLine}
-use Rattle.sc_mail.specs.declared.bodies.Mail.{Mail}
-use Rattle.sc_actor.specs.declared.actors.Seat.{Seat}
-use Rattle.sc_actor.specs.declared.rows.Event.{Event}
-use Rattle.sc_actor.specs.declared.rows.Event.TheVariants.{Deliver, Tick, Go, Told, Crash, Drop, Again}
-use Rattle.sc_actor.specs.declared.rows.Row.{Row}
-use Rattle.sc_actor.specs.Mail.{mails, numbered, is_delivery}
-use Rattle.sc_actor.specs.System.{System, row_of}
-use Rattle.sc_orderly_law.specs.Orderly.{IsTidy, IsCalmRow, IsCalmEvent, rest, mail_for, taken}
-use Rattle.sc_orderly_law.specs.Timely.{AreInTime}
-use Rattle.sc_orderly_law.proofs.InTime.{in_time_before, in_time_tidy, last_in_time}
-use Rattle.sc_orderly_law.proofs.Resting.{takes_first, is_born-from, rest-calm}
-use Rattle.sc_node_table.specs.Replica.{listed}
-use Rattle.sc_sound.specs.Players.{Player, player_table}
-use Rattle.sc_calm_law.specs.Charts.{players}
-use Rattle.sc_calm_law.specs.Totals.{Rows}
-use Rattle.sc_following_law.specs.Dated.{Dated, from_slot_of, dated_of, dated_for, IsDatedRow}
-use Rattle.sc_following_law.specs.Following.{Mark, mark_of, Course}
-use Rattle.sc_calm_rows_law.specs.Groups.{next_in, progress_at, mark_in, taken_mark}
-use Rattle.sc_calm_rows_law.specs.Turns.{IsSeat}
-use Rattle.sc_calm_groups_law.specs.Led.{dated_at}
-use Rattle.sc_calm_rows_law.proofs.Viewing.{view_others}
+use Rattle.sc_node_table.specs.Values.{Draw, Base, OrderLine, Mail, Seat, Event, Deliver, Tick, Go, Crash, Drop, Again, Row}
+use Rattle.sc_actor.specs.declared.rows.Event.TheVariants.{Told}
+use Rattle.sc_actor.specs.Definitions.{mails, numbered, is_delivery, System, row_of}
+use Rattle.sc_orderly_law.specs.Definitions.{IsTidy, IsCalmRow, IsCalmEvent, rest, mail_for, taken, AreInTime}
+use Rattle.sc_orderly_law.proofs.Lemmas.{in_time_before, in_time_tidy, last_in_time, takes_first, is_born-from, rest-calm}
+use Rattle.sc_node_table.specs.Definitions.{listed}
+use Rattle.sc_sound.specs.Definitions.{Player, player_table}
+use Rattle.sc_calm_law.specs.Definitions.{players, Rows}
+use Rattle.sc_following_law.specs.Definitions.{Dated, from_slot_of, dated_of, dated_for, IsDatedRow, Mark, mark_of, Course}
+use Rattle.sc_calm_rows_law.specs.Definitions.{next_in, progress_at, mark_in, taken_mark, IsSeat}
+use Rattle.sc_calm_groups_law.specs.Definitions.{dated_at}
+use Rattle.sc_calm_rows_law.proofs.Lemmas.{view_others, at_zero}
 
 -- the mark of a mail with its slot, if there is one
 abbrev pub dated_in : Draw → Option Mail → Option Dated
@@ -72,10 +60,6 @@ with_none (Some d) e = cc
 pub dated-append : (name : Draw) (xs ys : List Mail) → dated_of name (xs ++ ys) ≡ dated_of name xs ++ dated_of name ys
 dated-append name [] ys = refl
 dated-append name (x ∷ xs) ys = ap (λ l. listed (dated_in name (Some x)) ++ l) (dated-append name xs ys) ∙ sym (append_assoc (listed (dated_in name (Some x))) (dated_of name xs) (dated_of name ys))
-
-at_zero : {X : Type 0} (xs : List X) → drop 0 xs ≡ xs
-at_zero [] = refl
-at_zero (x ∷ xs) = refl
 
 module _ (words : ℕ → ℕ → ℕ × ℕ) (births : List (Seat Player)) (rows : Rows) (base : Base) (now after : Course) (tidy : IsTidy rows) where
   abbrev name : Draw

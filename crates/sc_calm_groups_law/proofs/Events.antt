@@ -1,53 +1,22 @@
 -- Each event of a player in a journal whose log is one keeps a group well led.
 use Rattle.std.proofs.Common.{◌≡◌, ℕ, zero, suc, true, true≢false, List, [], ◌∷◌, ◌++◌, slice_get, Option, Some, None, inl, inr, refl, sym, ◌∙◌, ap, subst, append_assoc}
 use Rattle.std.proofs.lemmas.Bool.{cases_Bool}
-use Rattle.sc_base.specs.Among.{Among, Each}
-use Rattle.sc_base.specs.Same.{same_draw}
-use Rattle.sc_base.specs.declared.names.Draw.{Draw}
-use Rattle.sc_base.proofs.NameLemmas.{draw_is, same_name}
-use Rattle.sc_cmd.specs.declared.cores.Base.{Base}
-use Rattle.sc_cmd.specs.declared.orders.OrderLine.{OrderLine}
-use Rattle.sc_mail.specs.declared.bodies.Mail.{Mail}
-use Rattle.sc_mail.specs.declared.bodies.MailBody.{MailBody}
-use Rattle.sc_mail.specs.declared.bodies.MailBody.TheVariants.{Request, Answer, Prepare, Promise, Accept, Accepted, Nack, Learn, Ask, Install, TxPrepare, TxVote, TxOutcome, TxElsewhere, TxWatch, TxWatched, Told as ToldMail}
-use Rattle.sc_mail.specs.declared.roles.Role.TheVariants.{Node, Client}
-use Rattle.sc_actor.specs.declared.actors.Seat.{Seat}
-use Rattle.sc_actor.specs.declared.rows.Event.{Event}
-use Rattle.sc_actor.specs.declared.rows.Event.TheVariants.{Deliver, Tick, Go, Told, Crash, Drop, Again}
-use Rattle.sc_actor.specs.Mail.{mails, numbered}
-use Rattle.sc_actor.specs.Replay.{value}
-use Rattle.sc_actor.specs.System.{row_of}
-use Rattle.sc_orderly_law.specs.Orderly.{IsTidy, IsCalmEvent}
-use Rattle.sc_orderly_law.specs.Timely.{AreInTime}
-use Rattle.sc_orderly_law.proofs.InTime.{in_time_before, in_time_tidy}
-use Rattle.sc_orderly_law.proofs.Resting.{takes_first, is_born-from}
-use Rattle.sc_paxos_words.proofs.ListLemmas.{Each-among}
-use Rattle.sc_node_table.specs.Node.{NodeState, replica_of, group_of_mail, may_come, group_of_order}
-use Rattle.sc_node_table.specs.Ordering.{ordered_row}
-use Rattle.sc_node_table.specs.Replica.{ReplicaState}
-use Rattle.sc_node_table.specs.Rows.{mailed}
-use Rattle.sc_sound.specs.Players.{Player, player_table}
-use Rattle.sc_calm_law.specs.Charts.{players}
-use Rattle.sc_calm_law.specs.Totals.{Rows}
-use Rattle.sc_following_law.specs.Following.{Tells, mark_of, Course, Sets}
-use Rattle.sc_following_law.specs.Hints.{Tellers}
-use Rattle.sc_following_law.specs.Leading.{IsAside}
-use Rattle.sc_following_law.proofs.Nodes.{same_mark}
-use Rattle.sc_calm_rows_law.specs.Groups.{view_at, mark_in}
-use Rattle.sc_calm_rows_law.specs.Mailed.{TakesMail, HoldsReplica}
-use Rattle.sc_calm_rows_law.specs.Senders.{IsOwnMail, IsOwnAsking}
-use Rattle.sc_calm_rows_law.specs.Turns.{IsSeat, with_event, LeavesAlone, IsReplicasRow}
-use Rattle.sc_calm_rows_law.specs.WellKept.{IsWellKept}
-use Rattle.sc_calm_rows_law.proofs.OwnJournal.{ballots_own}
-use Rattle.sc_calm_rows_law.proofs.Scenes.{fit}
-use Rattle.sc_calm_rows_law.proofs.Turning.{others_idle, rows_replicas}
-use Rattle.sc_calm_rows_law.proofs.Viewing.{view_was}
-use Rattle.sc_calm_rows_law.proofs.WellNodes.{Plays, Found, found_well, replay_well}
-use Rattle.sc_calm_groups_law.specs.Kinds.{IsLedStep}
-use Rattle.sc_calm_groups_law.specs.Led.{Ends, IsWellLed}
-use Rattle.sc_calm_groups_law.specs.Logged.{IsOfLog, CountsAsMember}
-use Rattle.sc_calm_groups_law.specs.Mailed.{IsLedScene}
-use Rattle.sc_calm_groups_law.specs.Through.{IsWellPlayer, AreWellBorn, IsRowOf, Delivers, HasOneLog, IsSentSo, EventsGoOn, EventsKeepLed}
+use Rattle.sc_base.specs.Definitions.{Among, Each, same_draw}
+use Rattle.sc_node_table.specs.Values.{Draw, Base, OrderLine, Mail, MailBody, Request, Answer, Prepare, Promise, Accept, Accepted, Nack, Learn, Ask, Install, TxPrepare, TxVote, TxOutcome, TxElsewhere, TxWatch, TxWatched, Told as ToldMail, Node, Client, Seat, Event, Deliver, Tick, Go, Crash, Drop, Again}
+use Rattle.sc_base.proofs.Lemmas.{draw_is, same_name}
+use Rattle.sc_actor.specs.declared.rows.Event.TheVariants.{Told}
+use Rattle.sc_actor.specs.Definitions.{mails, numbered, value, row_of}
+use Rattle.sc_orderly_law.specs.Definitions.{IsTidy, IsCalmEvent, AreInTime}
+use Rattle.sc_orderly_law.proofs.Lemmas.{in_time_before, in_time_tidy, takes_first, is_born-from}
+use Rattle.sc_paxos_words.proofs.Lemmas.{Each-among}
+use Rattle.sc_node_table.specs.Definitions.{NodeState, replica_of, group_of_mail, may_come, group_of_order, ordered_row, ReplicaState, mailed}
+use Rattle.sc_sound.specs.Definitions.{Player, player_table}
+use Rattle.sc_calm_law.specs.Definitions.{players, Rows}
+use Rattle.sc_following_law.specs.Definitions.{Tells, mark_of, Course, Sets, Tellers, IsAside}
+use Rattle.sc_following_law.proofs.Lemmas.{same_mark}
+use Rattle.sc_calm_rows_law.specs.Definitions.{view_at, mark_in, TakesMail, HoldsReplica, IsOwnMail, IsOwnAsking, IsSeat, with_event, LeavesAlone, IsReplicasRow, IsWellKept}
+use Rattle.sc_calm_rows_law.proofs.Lemmas.{ballots_own, fit, others_idle, rows_replicas, view_was, Plays, Found, found_well, replay_well}
+use Rattle.sc_calm_groups_law.specs.Definitions.{IsLedStep, Ends, IsWellLed, IsOfLog, CountsAsMember, IsLedScene, IsWellPlayer, AreWellBorn, IsRowOf, Delivers, HasOneLog, IsSentSo, EventsGoOn, EventsKeepLed}
 use Rattle.sc_calm_groups_law.proofs.Leading.{leaders_keep_led}
 use Rattle.sc_calm_groups_law.proofs.Mails.{scene}
 use Rattle.sc_calm_groups_law.proofs.Others.{others_keep_led, mails_keep_led}
@@ -63,7 +32,7 @@ number_among sent zero mail e = cc
 number_among sent (suc place) mail e = among_place sent place mail e
 
 -- a player that is born well, as what is said of it later
-plays_of : (who : ℕ) (player : Player) → IsWellPlayer who player → Plays who player
+pub plays_of : (who : ℕ) (player : Player) → IsWellPlayer who player → Plays who player
 plays_of who (Node node) k = (k.0, subst (λ m. Each (IsWellKept m) node.replicas) k.0 k.1)
 plays_of who (Client client) k = tt
 
@@ -269,9 +238,11 @@ module _ (at : Sets) (over : Ends) (by : Tellers) (words : ℕ → ℕ → ℕ �
   by_player (Node node) (Drop mail) is row calm timely = absurd calm
   by_player (Node node) (Again mail) is row calm timely = absurd calm
 
+-- Each event of a player in a calm journal is a row of a group whose log is one, and whose mail is sent so: it does nothing in it, a replica rests or takes a mail, a node makes one, its leader acts, or one elects itself; and the group is well led in the course after it.
 pub events_go_on : EventsGoOn
 events_go_on at over by words births journal base wb one so rows seat event course row born calm timely was =
     by_player at over by words births journal base wb one so rows seat course born was (value player_table seat rows) event refl row calm timely
 
+-- So each event of a player in a calm journal leaves a group well led whose log is one, and whose mail is sent so.
 pub events_keep_led : EventsKeepLed
 events_keep_led at over by words births journal base wb one so rows seat event course row born calm timely was = (let step = events_go_on at over by words births journal base wb one so rows seat event course row born calm timely was in (step.later, step.led))

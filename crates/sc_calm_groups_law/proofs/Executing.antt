@@ -1,25 +1,12 @@
 -- By a promise, an order and mail that is no part of the agreement a leader executes nothing.
 use Rattle.std.proofs.Common.{◌≡◌, ℕ, ◌&&◌, not, Bool, true, false, cond, List, [], ◌∷◌, ◌++◌, refl, ap}
-use Rattle.sc_base.specs.Drawing.{Drawer}
-use Rattle.sc_base.specs.Same.{same_ballot}
-use Rattle.sc_base.specs.declared.names.Ballot.{Ballot}
-use Rattle.sc_cmd.specs.declared.commands.Command.{Command}
-use Rattle.sc_cmd.specs.declared.orders.OrderLine.{OrderLine}
-use Rattle.sc_mail.specs.declared.bodies.MailBody.{MailBody}
-use Rattle.sc_mail.specs.declared.bodies.MailBody.TheVariants.{Promise}
-use Rattle.sc_base.specs.Roster.{is_member}
-use Rattle.sc_paxos_words.specs.declared.reports.Report.{Report}
-use Rattle.sc_paxos_words.specs.Leaders.{LeaderState, promise_counted}
+use Rattle.sc_base.specs.Definitions.{Drawer, same_ballot, is_member}
+use Rattle.sc_node_table.specs.Values.{Ballot, Command, OrderLine, MailBody, Promise, Report}
+use Rattle.sc_paxos_words.specs.Definitions.{LeaderState, promise_counted}
 use Rattle.sc_node_table.specs.declared.ReplicaInput.TheVariants as Given
-use Rattle.sc_node_table.specs.Pump.{pumped}
-use Rattle.sc_node_table.specs.Replica.{ReplicaState, name_of, next}
-use Rattle.sc_node_table.specs.Rows.{mailed, stepped}
-use Rattle.sc_node_table.specs.Voting.{leads, promise_row}
-use Rattle.sc_following_law.specs.Following.{Progress, Sets}
-use Rattle.sc_following_law.specs.Leading.{IsLeadOf, IsAside}
-use Rattle.sc_following_law.specs.Offers.{MayOffer}
-use Rattle.sc_following_law.proofs.Asides.{aside_is, order_is}
-use Rattle.sc_following_law.proofs.Offers.{pumps_offer}
+use Rattle.sc_node_table.specs.Definitions.{pumped, ReplicaState, name_of, next, mailed, stepped, leads, promise_row}
+use Rattle.sc_following_law.specs.Definitions.{Progress, Sets, IsLeadOf, IsAside, MayOffer}
+use Rattle.sc_following_law.proofs.Lemmas.{aside_is, order_is, pumps_offer}
 
 module _ (at : Sets) (now : Progress) (r : ReplicaState) (was : IsLeadOf at now r) where
   -- one with other queues may offer as well

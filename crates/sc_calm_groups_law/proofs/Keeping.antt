@@ -1,26 +1,19 @@
 -- Each replica in any journal of a scenario keeps its greatest ballot and its slots.
 use Rattle.std.proofs.Common.{◌≡◌, ℕ, eqb, List, [], ◌∷◌, map, find, Option, Some, None, refl, sym, subst}
 use Rattle.std.proofs.lemmas.Bool.{eqb-true}
-use Rattle.sc_base.specs.Among.{Each}
-use Rattle.sc_base.specs.declared.names.Draw.{Draw}
-use Rattle.sc_cmd.specs.declared.cores.Base.{Base}
-use Rattle.sc_mail.specs.declared.roles.Role.TheVariants.{Node, Client}
-use Rattle.sc_actor.specs.declared.actors.Seat.{Seat}
-use Rattle.sc_actor.specs.Replay.{value}
-use Rattle.sc_paxos_words.proofs.ListLemmas.{Each-among, Each-append, find_found}
+use Rattle.sc_base.specs.Definitions.{Each}
+use Rattle.sc_node_table.specs.Values.{Draw, Base, Node, Client, Seat}
+use Rattle.sc_actor.specs.Definitions.{value}
+use Rattle.sc_paxos_words.proofs.Lemmas.{Each-among, Each-append, find_found}
 use Rattle.sc_scenario.specs.declared.scenarios.Asks.{Asks as Requests}
 use Rattle.sc_scenario.specs.declared.scenarios.Scenario.{Scenario}
-use Rattle.sc_node_table.specs.Node.{replica_of}
-use Rattle.sc_node_table.specs.Replica.{ReplicaState}
-use Rattle.sc_node_table.specs.Slots.{numbers_from}
-use Rattle.sc_sound.specs.Players.{Player, player_table, births, as_nodes, node_seat, client_seat, client_seats, route_of}
-use Rattle.sc_calm_rows_law.specs.Groups.{replicas_of, replica_in}
-use Rattle.sc_calm_groups_law.specs.Kept.{IsKeptPlayer, ScenariosAreKeptBorn, ReplicasAreKept, KeptLeadersRest}
-use Rattle.sc_calm_groups_law.specs.Slots.{IsSlotKept}
-use Rattle.sc_calm_groups_law.specs.Tops.{IsTopKept}
+use Rattle.sc_node_table.specs.Definitions.{replica_of, ReplicaState, numbers_from}
+use Rattle.sc_sound.specs.Definitions.{Player, player_table, births, as_nodes, node_seat, client_seat, client_seats, route_of}
+use Rattle.sc_calm_rows_law.specs.Definitions.{replicas_of, replica_in}
+use Rattle.sc_calm_groups_law.specs.Definitions.{IsKeptPlayer, ScenariosAreKeptBorn, ReplicasAreKept, KeptLeadersRest, IsSlotKept, IsTopKept}
 use Rattle.sc_calm_groups_law.proofs.Clearing.{quiet_leaders_rest}
 use Rattle.sc_calm_groups_law.proofs.SlotNodes.{nodes_born as slots_born, Plays as SlotPlays, Found as SlotFound, found_well as slot_found, replay_well as slots_replay}
-use Rattle.sc_calm_groups_law.proofs.TopNodes.{nodes_born as tops_born, Plays as TopPlays, Found as TopFound, found_well as top_found, replay_well as tops_replay}
+use Rattle.sc_calm_groups_law.proofs.TopKept.{nodes_born as tops_born, Plays as TopPlays, Found as TopFound, found_well as top_found, replay_well as tops_replay}
 
 -- ---- at birth
 
@@ -44,6 +37,7 @@ all_kept : (scenario : Scenario) → Each IsKeptSeat (births as_nodes scenario)
 all_kept scenario =
     Each-append IsKeptSeat (map (node_seat as_nodes scenario.groups scenario.policy) (numbers_from 1 scenario.nodes)) (client_seats scenario.groups scenario.clients) (nodes_kept scenario (numbers_from 1 scenario.nodes)) (clients_kept scenario.groups scenario.clients)
 
+-- The players of a scenario are born so.
 pub scenarios_kept_born : ScenariosAreKeptBorn
 scenarios_kept_born scenario seat is = Each-among IsKeptSeat (births as_nodes scenario) seat (all_kept scenario) (find_found (λ other. eqb other.who seat.who) (births as_nodes scenario) seat is).0
 
@@ -57,7 +51,7 @@ slot_of : (who : ℕ) (name : Draw) (player : Player) (r : ReplicaState) → Slo
 slot_of who name (Node node) r k e = subst (SlotFound who) e (slot_found who name node.replicas k.1)
 slot_of who name (Client client) r k e = cc
 
-top_plays : (who : ℕ) (player : Player) → IsKeptPlayer who player → TopPlays who player
+pub top_plays : (who : ℕ) (player : Player) → IsKeptPlayer who player → TopPlays who player
 top_plays who (Node node) k = (k.0, k.1)
 top_plays who (Client client) k = tt
 
@@ -65,6 +59,7 @@ slot_plays : (who : ℕ) (player : Player) → IsKeptPlayer who player → SlotP
 slot_plays who (Node node) k = (k.0, k.2)
 slot_plays who (Client client) k = tt
 
+-- Where players are, each replica after any rows keeps its greatest ballot and its slots.
 pub replicas_kept : ReplicasAreKept
 replicas_kept births rows name who r kept e = by (find (λ (seat : Seat Player). eqb seat.who who) births) refl e
   where
@@ -77,6 +72,7 @@ replicas_kept births rows name who r kept e = by (find (λ (seat : Seat Player).
           slot_of seat.who name (value player_table seat rows) r (slots_replay seat.who seat.who rows seat.actor [] (slot_plays seat.who seat.actor born)) e,
         )
 
+-- And in a quiet journal the one that leads a group that is well led and stands leads at rest, with nothing in flight or ready, where its slots are not used up.
 pub kept_leaders_rest : KeptLeadersRest
 kept_leaders_rest at over by words births rows base course lead kept rosters timely quiet strangers was stands there room =
     let k : IsTopKept course.ballot.node lead × IsSlotKept lead = replicas_kept births rows base.core.id course.ballot.node lead kept there in

@@ -1,51 +1,19 @@
 -- What the leader of a group takes leaves the group well led, in the course after it.
 use Rattle.std.proofs.Common.{◌≡◌, ℕ, suc, ◌+◌, ◌-◌, ◌<◌, ◌≤◌, true, false, true≢false, List, [], Option, Some, None, ◌⊎◌, inl, inr, refl, sym, ◌∙◌, ap, subst, arith}
 use Rattle.std.proofs.lemmas.Bool.{cases_eq, cases_lt}
-use Rattle.sc_base.specs.Among.{Each}
-use Rattle.sc_base.specs.declared.names.Ballot.{Ballot}
-use Rattle.sc_base.specs.declared.names.Draw.{Draw}
-use Rattle.sc_cmd.specs.declared.cores.Base.{Base}
-use Rattle.sc_cmd.specs.declared.orders.OrderLine.{OrderLine}
-use Rattle.sc_mail.specs.declared.bodies.Mail.{Mail}
-use Rattle.sc_mail.specs.declared.bodies.MailBody.TheVariants.{Promise, Accepted}
-use Rattle.sc_base.specs.Roster.{is_member}
-use Rattle.sc_actor.specs.declared.actors.Seat.{Seat}
-use Rattle.sc_actor.specs.declared.rows.Event.{Event}
-use Rattle.sc_actor.specs.declared.rows.Event.TheVariants.{Deliver, Told}
-use Rattle.sc_actor.specs.Mail.{mails}
-use Rattle.sc_orderly_law.specs.Timely.{AreInTime}
-use Rattle.sc_node_table.specs.Node.{NodeState, replica_of, group_of_mail, group_of_order}
-use Rattle.sc_node_table.specs.Ordering.{ordered_row}
-use Rattle.sc_node_table.specs.Replica.{ReplicaState, Place, name_of, next}
-use Rattle.sc_node_table.specs.Rows.{mailed}
-use Rattle.sc_sound.specs.Players.{Player}
-use Rattle.sc_calm_law.specs.Charts.{players}
-use Rattle.sc_calm_law.specs.Totals.{Rows}
-use Rattle.sc_following_law.specs.Dated.{AsksLow}
-use Rattle.sc_following_law.specs.Following.{Mark, Votes, Promises, mark_of, Course, Progress, Sets, members_at}
-use Rattle.sc_following_law.specs.Hints.{Tellers, LeavesLast}
-use Rattle.sc_following_law.specs.Leading.{IsLeadOf, LeadsInto, IsAside, DecidesNext}
-use Rattle.sc_following_law.specs.Orderly.{IsOrderly}
-use Rattle.sc_following_law.specs.Owning.{CountsOwn}
-use Rattle.sc_following_law.proofs.Alone.{acts_stop_alone}
-use Rattle.sc_following_law.proofs.AsksNext.{rows_ask_next}
-use Rattle.sc_following_law.proofs.Asides.{rows_lead}
-use Rattle.sc_following_law.proofs.Nodes.{same_mark}
-use Rattle.sc_following_law.proofs.Ordered.{order_is_kept}
-use Rattle.sc_following_law.proofs.Owning.{leaders_count_own}
-use Rattle.sc_following_law.proofs.TableHints.{leaders_leave_last}
-use Rattle.sc_calm_rows_law.specs.Groups.{view_at, progress_at, mark_in, taken_mark}
-use Rattle.sc_calm_rows_law.specs.Mailed.{IsScene, TakesMail, HoldsReplica}
-use Rattle.sc_calm_rows_law.specs.Steps.{led_course, LedBy}
-use Rattle.sc_calm_rows_law.specs.Turns.{with_event, IsReplicasRow}
-use Rattle.sc_calm_rows_law.proofs.Leading.{steps_lead}
-use Rattle.sc_calm_rows_law.proofs.Scenes.{aside_mark, told_is, leads_here, named, row_to, taken}
-use Rattle.sc_calm_rows_law.proofs.Turning.{found_name, rows_replicas}
-use Rattle.sc_calm_groups_law.specs.Kinds.{RowLeads, IsLedStep}
-use Rattle.sc_calm_groups_law.specs.Led.{Ends}
-use Rattle.sc_calm_groups_law.specs.Logged.{IsOfLog, RestsBy, CountsTo, CountsAsMember}
-use Rattle.sc_calm_groups_law.specs.Mailed.{IsLedScene, LeadersKeepLed}
-use Rattle.sc_calm_groups_law.specs.Rows.{IsStateFrom, LeadsWell}
+use Rattle.sc_base.specs.Definitions.{Each, is_member}
+use Rattle.sc_node_table.specs.Values.{Ballot, Draw, Base, OrderLine, Mail, Promise, Accepted, Seat, Event, Deliver}
+use Rattle.sc_actor.specs.declared.rows.Event.TheVariants.{Told}
+use Rattle.sc_actor.specs.Definitions.{mails}
+use Rattle.sc_orderly_law.specs.Definitions.{AreInTime}
+use Rattle.sc_node_table.specs.Definitions.{NodeState, replica_of, group_of_mail, group_of_order, ordered_row, ReplicaState, Place, name_of, next, mailed}
+use Rattle.sc_sound.specs.Definitions.{Player}
+use Rattle.sc_calm_law.specs.Definitions.{players, Rows}
+use Rattle.sc_following_law.specs.Definitions.{AsksLow, Mark, Votes, Promises, mark_of, Course, Progress, Sets, members_at, Tellers, LeavesLast, IsLeadOf, LeadsInto, IsAside, DecidesNext, IsOrderly, CountsOwn}
+use Rattle.sc_following_law.proofs.Lemmas.{acts_stop_alone, rows_ask_next, rows_lead, same_mark, order_is_kept, leaders_count_own, leaders_leave_last}
+use Rattle.sc_calm_rows_law.specs.Definitions.{view_at, progress_at, mark_in, taken_mark, IsScene, TakesMail, HoldsReplica, led_course, LedBy, with_event, IsReplicasRow}
+use Rattle.sc_calm_rows_law.proofs.Lemmas.{steps_lead, aside_mark, told_is, leads_here, named, row_to, taken, found_name, rows_replicas}
+use Rattle.sc_calm_groups_law.specs.Definitions.{RowLeads, IsLedStep, Ends, IsOfLog, RestsBy, CountsTo, CountsAsMember, IsLedScene, LeadersKeepLed, IsStateFrom, LeadsWell}
 use Rattle.sc_calm_groups_law.proofs.Executing.{asides_stay, orders_stay, promises_stay}
 use Rattle.sc_calm_groups_law.proofs.Mails.{scene, stage}
 use Rattle.sc_calm_groups_law.proofs.Rows.{rows_keep_led}
@@ -204,6 +172,7 @@ module _ (at : Sets) (over : Ends) (by : Tellers) (words : ℕ → ℕ → ℕ �
       (λ on. subst (λ (p : Place). IsOrderly p.0) (told_is node line r) (order_is_kept.orders at now false node.draws line r leads old)) logs
       (inl (subst (λ (p : Place). next p.0 ≡ next r) (told_is node line r) (orders_stay at now r leads false node.draws line))) counts
 
+-- So does what its leader takes: a vote, a promise, other mail that comes to it, and an order.
 pub leaders_keep_led : LeadersKeepLed
 leaders_keep_led = record {
   vote = λ at over by words births rows seat number mail node base course r ballot slot s takes has body runs decides rests logs counts. counts_vote at over by words births rows seat node base course s number mail takes r has runs ballot slot body decides rests logs counts;

@@ -2,62 +2,25 @@
 use Rattle.std.proofs.Common.{◌≡◌, ℕ, suc, ◌+◌, ◌≤◌, nat_le, true, false, true≢false, List, [], ◌∷◌, Option, Some, None, ◌⊎◌, inl, inr, refl, sym, ◌∙◌, ap, subst, arith}
 use Rattle.std.specs.Prelude.{is_some}
 use Rattle.std.proofs.lemmas.Bool.{cases_lt, and_parts, leb-true}
-use Rattle.sc_base.specs.Among.{Each}
-use Rattle.sc_base.specs.Limits.{most_nodes}
-use Rattle.sc_base.specs.declared.names.Ballot.{Ballot}
-use Rattle.sc_base.specs.declared.names.Draw.{Draw}
-use Rattle.sc_cmd.specs.declared.commands.Command.{Command}
-use Rattle.sc_cmd.specs.declared.cores.Base.{Base}
-use Rattle.sc_cmd.specs.declared.links.Route.{Route}
-use Rattle.sc_mail.specs.declared.bodies.Mail.{Mail}
-use Rattle.sc_mail.specs.declared.bodies.MailBody.TheVariants.{Learn}
-use Rattle.sc_base.specs.Roster.{IsRoster, is_member, least_of}
-use Rattle.sc_actor.specs.declared.actors.Seat.{Seat}
-use Rattle.sc_actor.specs.declared.rows.Event.TheVariants.{Deliver}
-use Rattle.sc_actor.specs.Mail.{mails}
-use Rattle.sc_paxos_words.specs.Ballots.{below}
-use Rattle.sc_paxos_words.proofs.BallotLemmas.{below_from, at_least_below}
-use Rattle.sc_node_table.specs.Execute.{entered, is_among}
-use Rattle.sc_node_table.specs.Node.{NodeState, group_of_mail, is_node}
-use Rattle.sc_node_table.specs.Replica.{ReplicaState, Place, name_of, next, members, last_slot, forgotten}
-use Rattle.sc_node_table.specs.Rows.{mailed}
-use Rattle.sc_law_lemmas.proofs.Entries.{entered_next}
-use Rattle.sc_sound.specs.Players.{Player}
-use Rattle.sc_calm_law.specs.Charts.{players}
-use Rattle.sc_calm_law.specs.Totals.{Rows}
-use Rattle.sc_following_law.specs.Dated.{Dated, IsNoPrepare, dated_for}
-use Rattle.sc_following_law.specs.Following.{Mark, Asks, Votes, Tells, Installs, Prepares, Promises, mark_of, pledged, Course, Progress, Sets, members_at, IsOpen}
-use Rattle.sc_following_law.specs.Heeding.{IsHeir}
-use Rattle.sc_following_law.specs.Hints.{Tellers, hint_by}
-use Rattle.sc_following_law.specs.Offers.{AreAt}
-use Rattle.sc_following_law.specs.Owning.{AreToldLast}
-use Rattle.sc_following_law.specs.Tables.{IsInTime, Stays, MayElect, next_ballot}
-use Rattle.sc_following_law.proofs.DatedTables.{elections_ask_next}
-use Rattle.sc_following_law.proofs.Elected.{tables_elect}
-use Rattle.sc_following_law.proofs.Electing.{elections_lead}
-use Rattle.sc_following_law.proofs.Heeding.{nodes_heed}
-use Rattle.sc_following_law.proofs.Leads.{least_in}
-use Rattle.sc_following_law.proofs.Learn.{tables}
-use Rattle.sc_following_law.proofs.Nodes.{same_mark}
-use Rattle.sc_following_law.proofs.TableHints.{hints_follow, heirs_elect}
-use Rattle.sc_calm_rows_law.specs.Elections.{IsNextLead}
-use Rattle.sc_calm_rows_law.specs.Groups.{promise_in, progress_at, marks_at, taken_mark}
-use Rattle.sc_calm_rows_law.specs.Mailed.{IsScene, TakesMail, HoldsReplica}
-use Rattle.sc_calm_rows_law.specs.Steps.{WaitsStill, elected_course}
-use Rattle.sc_calm_rows_law.specs.Turns.{IsReplicasRow}
-use Rattle.sc_calm_rows_law.proofs.Electing.{elections_keep, entered_name, entered_me}
-use Rattle.sc_calm_rows_law.proofs.Scenes.{apart_off, row_in, head, all_fit, within, no_lead, named, row_to, fit, taken}
-use Rattle.sc_calm_rows_law.proofs.Stepping.{steps_elect}
-use Rattle.sc_calm_groups_law.specs.Kinds.{RowElects, IsLedStep}
-use Rattle.sc_calm_groups_law.specs.Led.{Ends, hint_in, hints_at}
-use Rattle.sc_calm_groups_law.specs.Logged.{IsOfLog, HasRounds}
-use Rattle.sc_calm_groups_law.specs.Mailed.{IsLedScene}
-use Rattle.sc_calm_groups_law.specs.Rows.{ElectsWell}
+use Rattle.sc_base.specs.Definitions.{Each, most_nodes, IsRoster, is_member, least_of}
+use Rattle.sc_node_table.specs.Values.{Ballot, Draw, Command, Base, Route, Mail, Learn, Seat, Deliver}
+use Rattle.sc_actor.specs.Definitions.{mails}
+use Rattle.sc_paxos_words.specs.Definitions.{below}
+use Rattle.sc_paxos_words.proofs.Lemmas.{below_from, at_least_below}
+use Rattle.sc_node_table.specs.Definitions.{entered, is_among, NodeState, group_of_mail, is_node, ReplicaState, Place, name_of, next, members, last_slot, forgotten, mailed}
+use Rattle.sc_law_lemmas.proofs.Lemmas.{entered_next}
+use Rattle.sc_sound.specs.Definitions.{Player}
+use Rattle.sc_calm_law.specs.Definitions.{players, Rows}
+use Rattle.sc_following_law.specs.Definitions.{Dated, IsNoPrepare, dated_for, Mark, Asks, Votes, Tells, Installs, Prepares, Promises, mark_of, pledged, Course, Progress, Sets, members_at, IsOpen, IsHeir, Tellers, hint_by, AreAt, AreToldLast, IsInTime, Stays, MayElect, next_ballot}
+use Rattle.sc_following_law.proofs.Lemmas.{elections_ask_next, tables_elect, elections_lead, nodes_heed, least_in, tables, same_mark, hints_follow, heirs_elect}
+use Rattle.sc_calm_rows_law.specs.Definitions.{IsNextLead, promise_in, progress_at, marks_at, taken_mark, IsScene, TakesMail, HoldsReplica, WaitsStill, elected_course, IsReplicasRow}
+use Rattle.sc_calm_rows_law.proofs.Lemmas.{elections_keep, entered_name, entered_me, apart_off, row_in, head, all_fit, within, no_lead, named, row_to, fit, taken, steps_elect}
+use Rattle.sc_calm_groups_law.specs.Definitions.{RowElects, IsLedStep, Ends, hint_in, hints_at, IsOfLog, HasRounds, IsLedScene, ElectsWell}
 use Rattle.sc_calm_groups_law.proofs.Mails.{scene, stage, takes_further}
 use Rattle.sc_calm_groups_law.proofs.Rows.{rows_keep_led}
 
 -- what asks for no promise leaves the ballot that is promised
-pledged_none : (promise : Ballot) (marks : List Mark) → Each IsNoPrepare marks → pledged promise marks ≡ promise
+pub pledged_none : (promise : Ballot) (marks : List Mark) → Each IsNoPrepare marks → pledged promise marks ≡ promise
 pledged_none promise [] e = refl
 pledged_none promise (Prepares ballot ∷ marks) e = absurd e.0
 pledged_none promise (Asks ballot slot ∷ marks) e = pledged_none promise marks e.1

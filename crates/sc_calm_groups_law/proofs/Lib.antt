@@ -19,6 +19,5 @@ pub mod SlotParts
 pub mod SlotRows
 pub mod Taught
 pub mod Through
-pub mod TopNodes
-pub mod TopParts
-pub mod TopRows
+pub mod TopKept
+pub mod Lemmas

@@ -3,63 +3,20 @@ use Rattle.std.proofs.Common.{◌≡◌, ℕ, suc, ◌+◌, ◌<◌, ◌&&◌, t
 use Rattle.std.specs.Prelude.{is_some}
 use Rattle.std.specs.Option.{option_map}
 use Rattle.std.proofs.lemmas.Bool.{cases_lt, cond-false}
-use Rattle.sc_base.specs.Same.{same_ballot}
-use Rattle.sc_base.specs.declared.names.Ballot.{Ballot}
-use Rattle.sc_base.specs.declared.names.Draw.{Draw}
-use Rattle.sc_cmd.specs.declared.commands.Command.{Command}
-use Rattle.sc_cmd.specs.declared.cores.Base.{Base}
-use Rattle.sc_cmd.specs.declared.orders.OrderLine.{OrderLine}
-use Rattle.sc_mail.specs.declared.bodies.Mail.{Mail}
-use Rattle.sc_mail.specs.declared.bodies.MailBody.TheVariants.{Prepare, Promise, Accept, Accepted, Install}
-use Rattle.sc_base.specs.Roster.{is_member}
-use Rattle.sc_actor.specs.declared.actors.Seat.{Seat}
-use Rattle.sc_actor.specs.declared.rows.Event.{Event}
-use Rattle.sc_actor.specs.declared.rows.Event.TheVariants.{Deliver, Told}
-use Rattle.sc_actor.specs.Mail.{mails}
-use Rattle.sc_actor.specs.System.{row_of}
-use Rattle.sc_orderly_law.specs.Timely.{AreInTime}
-use Rattle.sc_paxos_words.specs.declared.reports.Report.{Report}
-use Rattle.sc_paxos_words.specs.Ballots.{below}
-use Rattle.sc_paxos_words.specs.Leaders.{LeaderState, flight_at, promise_counted}
-use Rattle.sc_node_table.specs.Node.{NodeState, replica_of, group_of_mail, group_of_order}
-use Rattle.sc_node_table.specs.Ordering.{ordered_row}
-use Rattle.sc_node_table.specs.Pump.{pumped}
-use Rattle.sc_node_table.specs.Replica.{ReplicaState, Place, Executed, childless, listed, either, taken_at, name_of, next, first_ballot, set_at}
-use Rattle.sc_node_table.specs.Rows.{mailed, made_by}
-use Rattle.sc_node_table.specs.Slots.{at_slot}
-use Rattle.sc_node_table.specs.Voting.{leads, promise_row, voted, accepted_row}
-use Rattle.sc_sound.specs.Players.{Player, player_table}
-use Rattle.sc_calm_law.specs.Charts.{players}
-use Rattle.sc_calm_law.specs.Totals.{Rows}
-use Rattle.sc_following_law.specs.Dated.{from_slot_of}
-use Rattle.sc_following_law.specs.Following.{Mark, Asks, Votes, Installs, Prepares, Promises, mark_of, Course, Progress, Sets, members_at}
-use Rattle.sc_following_law.specs.Hints.{Tellers, hint_by, AreHeeded, IsOther, GoesBy}
-use Rattle.sc_following_law.specs.Leading.{IsAside}
-use Rattle.sc_following_law.specs.Orderly.{AreApart, HasBallot, IsOrderly}
-use Rattle.sc_following_law.specs.Rows.{IsRow, IsCount}
-use Rattle.sc_following_law.specs.Tables.{marks_for, StepsBy}
-use Rattle.sc_following_law.proofs.Dated.{prepares_are_known}
-use Rattle.sc_following_law.proofs.Heeding.{nodes_heed}
-use Rattle.sc_following_law.proofs.Learn.{tables}
-use Rattle.sc_following_law.proofs.Nodes.{same_mark, states}
-use Rattle.sc_following_law.proofs.TableHints.{hints_follow}
-use Rattle.sc_calm_rows_law.specs.Asides.{IsUnmoved}
-use Rattle.sc_calm_rows_law.specs.Groups.{view_at, next_in, promise_in, progress_at, marks_at, mark_in, taken_mark}
-use Rattle.sc_calm_rows_law.specs.Kept.{LeavesLead}
-use Rattle.sc_calm_rows_law.specs.Mailed.{IsScene, TakesMail, HoldsReplica}
-use Rattle.sc_calm_rows_law.specs.Steps.{WaitsStill}
-use Rattle.sc_calm_rows_law.specs.Turns.{with_event, IsReplicasRow}
-use Rattle.sc_calm_rows_law.proofs.Asides.{asides_still}
-use Rattle.sc_calm_rows_law.proofs.Keeping.{same_some}
-use Rattle.sc_calm_rows_law.proofs.Scenes.{aside_mark, apart_off, goes_on, idle_apart, waits_here, row_in, head, all_fit, known, within, no_lead, named, row_to, fit, taken}
-use Rattle.sc_calm_rows_law.proofs.Staying.{leads_stay}
-use Rattle.sc_calm_rows_law.proofs.Stepping.{steps_take, states_take, uncounted_pass, still_idle}
-use Rattle.sc_calm_rows_law.proofs.Turning.{rows_replicas}
-use Rattle.sc_calm_groups_law.specs.Kinds.{RowRests, RowTakes, RowMakes, IsLedStep}
-use Rattle.sc_calm_groups_law.specs.Led.{Ends, hint_in, hints_at, dated_at}
-use Rattle.sc_calm_groups_law.specs.Logged.{IsLogsState}
-use Rattle.sc_calm_groups_law.specs.Mailed.{IsLedScene}
-use Rattle.sc_calm_groups_law.specs.Rows.{IsStage, LeavesWell}
+use Rattle.sc_base.specs.Definitions.{same_ballot, is_member}
+use Rattle.sc_node_table.specs.Values.{Ballot, Draw, Command, Base, OrderLine, Mail, Prepare, Promise, Accept, Accepted, Install, Seat, Event, Deliver, Report}
+use Rattle.sc_actor.specs.declared.rows.Event.TheVariants.{Told}
+use Rattle.sc_actor.specs.Definitions.{mails, row_of}
+use Rattle.sc_orderly_law.specs.Definitions.{AreInTime}
+use Rattle.sc_paxos_words.specs.Definitions.{below, LeaderState, flight_at, promise_counted}
+use Rattle.sc_node_table.specs.Definitions.{NodeState, replica_of, group_of_mail, group_of_order, ordered_row, pumped, ReplicaState, Place, Executed, childless, listed, either, taken_at, name_of, next, first_ballot, set_at, mailed, made_by, at_slot, leads, promise_row, voted, accepted_row}
+use Rattle.sc_sound.specs.Definitions.{Player, player_table}
+use Rattle.sc_calm_law.specs.Definitions.{players, Rows}
+use Rattle.sc_following_law.specs.Definitions.{from_slot_of, Mark, Asks, Votes, Installs, Prepares, Promises, mark_of, Course, Progress, Sets, members_at, Tellers, hint_by, AreHeeded, IsOther, GoesBy, IsAside, AreApart, HasBallot, IsOrderly, IsRow, IsCount, marks_for, StepsBy}
+use Rattle.sc_following_law.proofs.Lemmas.{prepares_are_known, nodes_heed, tables, same_mark, states, hints_follow}
+use Rattle.sc_calm_rows_law.specs.Definitions.{IsUnmoved, view_at, next_in, promise_in, progress_at, marks_at, mark_in, taken_mark, LeavesLead, IsScene, TakesMail, HoldsReplica, WaitsStill, with_event, IsReplicasRow}
+use Rattle.sc_calm_rows_law.proofs.Lemmas.{asides_still, same_some, aside_mark, apart_off, goes_on, idle_apart, waits_here, row_in, head, all_fit, known, within, no_lead, named, row_to, fit, taken, leads_stay, steps_take, states_take, uncounted_pass, still_idle, rows_replicas}
+use Rattle.sc_calm_groups_law.specs.Definitions.{RowRests, RowTakes, RowMakes, IsLedStep, Ends, hint_in, hints_at, dated_at, IsLogsState, IsLedScene, IsStage, LeavesWell}
 use Rattle.sc_calm_groups_law.proofs.Dating.{dated_in, taken_dated, rows_dated}
 use Rattle.sc_calm_groups_law.proofs.Rows.{rows_keep_led}
 

@@ -1,30 +1,17 @@
 -- An event that does nothing in a group leaves it well led, also where a replica is born; and so does all mail of agreement.
 use Rattle.std.proofs.Common.{◌≡◌, ℕ, ◌+◌, ◌<◌, true, List, None, Some, inl, inr, refl, sym, ◌∙◌, ap, subst, arith}
 use Rattle.std.proofs.lemmas.Bool.{eqb-true}
-use Rattle.sc_cmd.specs.declared.cores.Base.{Base}
-use Rattle.sc_cmd.specs.declared.orders.OrderLine.{OrderLine}
-use Rattle.sc_base.specs.Roster.{IsRoster, is_member}
-use Rattle.sc_actor.specs.declared.actors.Seat.{Seat}
-use Rattle.sc_actor.specs.declared.rows.Event.{Event}
-use Rattle.sc_orderly_law.specs.Timely.{AreInTime}
-use Rattle.sc_node_table.specs.Replica.{ReplicaState, born_replica}
-use Rattle.sc_node_table.specs.Slots.{slots_ahead}
-use Rattle.sc_sound.specs.Players.{Player}
-use Rattle.sc_calm_law.specs.Charts.{players}
-use Rattle.sc_calm_law.specs.Totals.{Rows}
-use Rattle.sc_following_law.specs.Following.{Course, Sets}
-use Rattle.sc_following_law.specs.Hints.{Tellers}
-use Rattle.sc_following_law.specs.Orderly.{IsOrderly}
-use Rattle.sc_following_law.proofs.Beginning.{leaders_begin}
-use Rattle.sc_calm_rows_law.specs.Groups.{view_at, begun_course, IsLedBy}
-use Rattle.sc_calm_rows_law.specs.Turns.{with_event, IsIdleIn, IsBornOr}
-use Rattle.sc_calm_rows_law.proofs.Keeping.{same_some}
-use Rattle.sc_calm_rows_law.proofs.Staying.{leads_stay}
-use Rattle.sc_calm_groups_law.specs.Kinds.{RowPasses, IsLedStep}
-use Rattle.sc_calm_groups_law.specs.Led.{Ends, hint_in, IsWellLed}
-use Rattle.sc_calm_groups_law.specs.Logged.{IsLogOf}
-use Rattle.sc_calm_groups_law.specs.Mailed.{MailsKeepLed, OthersKeepLed}
-use Rattle.sc_calm_groups_law.specs.Rows.{IsStage}
+use Rattle.sc_node_table.specs.Values.{Base, OrderLine, Seat, Event}
+use Rattle.sc_base.specs.Definitions.{IsRoster, is_member}
+use Rattle.sc_orderly_law.specs.Definitions.{AreInTime}
+use Rattle.sc_node_table.specs.Definitions.{ReplicaState, born_replica, slots_ahead}
+use Rattle.sc_sound.specs.Definitions.{Player}
+use Rattle.sc_calm_law.specs.Definitions.{players, Rows}
+use Rattle.sc_following_law.specs.Definitions.{Course, Sets, Tellers, IsOrderly}
+use Rattle.sc_following_law.proofs.Lemmas.{leaders_begin}
+use Rattle.sc_calm_rows_law.specs.Definitions.{view_at, begun_course, IsLedBy, with_event, IsIdleIn, IsBornOr}
+use Rattle.sc_calm_rows_law.proofs.Lemmas.{same_some, leads_stay}
+use Rattle.sc_calm_groups_law.specs.Definitions.{RowPasses, IsLedStep, Ends, hint_in, IsWellLed, IsLogOf, MailsKeepLed, OthersKeepLed, IsStage}
 use Rattle.sc_calm_groups_law.proofs.Learns.{learns}
 use Rattle.sc_calm_groups_law.proofs.Mails.{accepts, prepares, installs, passes_vote, passes_promise, stays_aside, makes, stays_ordered}
 use Rattle.sc_calm_groups_law.proofs.Rows.{rows_keep_led}
@@ -66,12 +53,14 @@ module _ (at : Sets) (over : Ends) (by : Tellers) (words : ℕ → ℕ → ℕ �
           row = RowPasses refl (record { idle = idle; view = inr makes_ });
         }
 
+-- A row that does nothing in a group leaves it well led, also where a node makes its replica at the group's birth.
 pub others_keep_led : OthersKeepLed
 others_keep_led = record {
   alone = λ at over by words births rows seat event base course log timely was leaves. by_same at over by words births rows seat event base course log timely was leaves.view leaves.idle;
   bears = λ at over by words births rows seat event base course log timely was same first stands leaves. by_born at over by words births rows seat event base course log timely was same first stands leaves.view leaves.idle;
 }
 
+-- A mail of agreement that comes to a node of its group leaves the group well led: what asks to accept or to promise, an entry that is the log's, by which the one elects itself that is to lead next, and nobody else, a state that is the log's, and whatever else comes to one that does not lead.
 pub mails_keep_led : MailsKeepLed
 mails_keep_led = record {
   accept = λ at over by words births rows seat number mail node base course r ballot slot command s takes has from body. accepts at over by words births rows seat node base course s number mail takes r has ballot slot command from body;

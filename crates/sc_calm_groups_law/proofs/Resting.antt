@@ -1,53 +1,27 @@
 -- What a group that is well led is in a quiet journal.
-use Rattle.std.proofs.Common.{◌≡◌, ℕ, ◌≤◌, ◌*◌, ◌&&◌, ◌||◌, not, eqb, Bool, true, false, true≢false, cond, List, [], ◌∷◌, length, Some, inl, inr, refl, sym, ◌∙◌, ap, subst, arith}
-use Rattle.std.proofs.lemmas.Bool.{cases_Bool, cond-true, eq-eqb, lt-ltb, or_left, or_right}
-use Rattle.sc_cmd.specs.declared.cores.Base.{Base}
-use Rattle.std.proofs.lemmas.List.Sums.{sum_by-cons}
-use Rattle.sc_base.specs.Majority.{votes_of, is_majority}
-use Rattle.sc_base.specs.Roster.{IsRoster, is_member}
-use Rattle.sc_actor.specs.declared.actors.Seat.{Seat}
-use Rattle.sc_actor.specs.Walk.{is_quiet}
-use Rattle.sc_orderly_law.specs.Orderly.{is_born}
-use Rattle.sc_orderly_law.specs.Timely.{AreInTime}
-use Rattle.sc_orderly_law.proofs.InTime.{in_time_tidy}
-use Rattle.sc_orderly_law.proofs.Resting.{quiet-empty}
-use Rattle.sc_paxos_words.specs.Ballots.{below}
-use Rattle.sc_node_table.specs.Replica.{ReplicaState, next, first_set, may_offer, settled}
-use Rattle.sc_sound.specs.Players.{Player}
-use Rattle.sc_calm_law.specs.Charts.{players}
-use Rattle.sc_calm_law.specs.Quiet.{MayVote}
-use Rattle.sc_calm_law.specs.Totals.{Rows}
-use Rattle.sc_following_law.specs.Following.{marks_of, Course, Progress, Sets, members_at, IsOpen}
-use Rattle.sc_following_law.specs.Hints.{Tellers, hinted}
-use Rattle.sc_following_law.specs.Offers.{AreAt}
-use Rattle.sc_following_law.specs.Leading.{IsLeadOf}
-use Rattle.sc_calm_law.proofs.OwedLearn.{unbound_new}
-use Rattle.sc_calm_rows_law.specs.Evens.{IsEvenAt}
-use Rattle.sc_calm_rows_law.specs.Groups.{view_at, next_in, promise_in, progress_at, marks_at}
-use Rattle.sc_calm_rows_law.proofs.Evens.{quiet_rests}
-use Rattle.sc_calm_rows_law.proofs.Keeping.{same_some}
-use Rattle.sc_calm_groups_law.specs.Led.{Ends, hint_in, hints_at, IsWellLed}
-use Rattle.sc_calm_groups_law.specs.Rests.{IsLedQuietly, QuietGroupsAreLed}
+use Rattle.std.proofs.Common.{◌≡◌, ℕ, ◌≤◌, ◌*◌, ◌&&◌, ◌||◌, not, true, false, true≢false, List, [], ◌∷◌, length, Some, inl, inr, sym, ◌∙◌, ap, subst, arith}
+use Rattle.std.proofs.lemmas.Bool.{cases_Bool, or_left, or_right}
+use Rattle.sc_node_table.specs.Values.{Base, Seat}
+use Rattle.sc_base.specs.Definitions.{is_majority, IsRoster, is_member}
+use Rattle.sc_actor.specs.Definitions.{is_quiet}
+use Rattle.sc_orderly_law.specs.Definitions.{is_born, AreInTime}
+use Rattle.sc_orderly_law.proofs.Lemmas.{in_time_tidy, quiet-empty}
+use Rattle.sc_paxos_words.specs.Definitions.{below}
+use Rattle.sc_node_table.specs.Definitions.{ReplicaState, next, first_set, may_offer, settled}
+use Rattle.sc_sound.specs.Definitions.{Player}
+use Rattle.sc_calm_law.specs.Definitions.{players, MayVote, Rows}
+use Rattle.sc_following_law.specs.Definitions.{marks_of, Course, Progress, Sets, members_at, IsOpen, Tellers, hinted, AreAt, IsLeadOf}
+use Rattle.sc_calm_law.proofs.Lemmas.{unbound_new}
+use Rattle.sc_calm_rows_law.specs.Definitions.{IsEvenAt, view_at, next_in, promise_in, progress_at, marks_at}
+use Rattle.sc_calm_rows_law.proofs.Lemmas.{quiet_rests, same_some}
+use Rattle.sc_calm_groups_law.specs.Definitions.{Ends, hint_in, hints_at, IsWellLed, IsLedQuietly, QuietGroupsAreLed}
+use Rattle.sc_base.proofs.Lemmas.{and_both as both}
+use Rattle.sc_following_law.proofs.Lemmas.{decided as all_decide}
 
 -- the members of the first open slot
-first_at : (at : Sets) (slot : ℕ) (sets : List (List ℕ)) → AreAt at slot sets → 1 ≤ length sets → at slot ≡ first_set sets
+pub first_at : (at : Sets) (slot : ℕ) (sets : List (List ℕ)) → AreAt at slot sets → 1 ≤ length sets → at slot ≡ first_set sets
 first_at at slot [] are some = absurd (omega (arith, some))
 first_at at slot (set ∷ sets) are some = are.0
-
--- where all of some members are among others, a majority is
-all_votes : (members voters : List ℕ) → ((node : ℕ) → is_member members node ≡ true → is_member voters node ≡ true) → votes_of members voters ≡ length members
-all_votes [] voters f = refl
-all_votes (x ∷ members) voters f =
-    let head = sum_by-cons (λ member. cond (is_member voters member) 1 0) x members in
-    let one : ◌≡◌ {A = ℕ} (cond (is_member voters x) 1 0) 1 = cond-true (is_member voters x) 1 0 (f x (or_left (eqb x x) (is_member members x) (eq-eqb x x refl))) in
-    let more = all_votes members voters (λ node is. f node (or_right (eqb x node) (is_member members node) is)) in
-    omega (arith, head, one, more)
-
-all_decide : (members voters : List ℕ) → 1 ≤ length members → ((node : ℕ) → is_member members node ≡ true → is_member voters node ≡ true) → is_majority members voters ≡ true
-all_decide members voters some f = (let all = all_votes members voters f in lt-ltb (length members) (2 * votes_of members voters) (omega (arith, all, some)))
-
-both : (a b : Bool) → a ≡ true → b ≡ true → (a && b) ≡ true
-both a b e f = ap (λ x. x && b) e ∙ f
 
 module _ (at : Sets) (over : Ends) (by : Tellers) (words : ℕ → ℕ → ℕ × ℕ) (births : List (Seat Player)) (rows : Rows) (base : Base) (course : Course) (lead : ReplicaState) (rosters : (slot : ℕ) → IsRoster (at slot)) (timely : AreInTime (players words births) rows)
     (quiet : is_quiet (players words births) rows ≡ true) (strangers : (who : ℕ) → is_born (players words births) who ≡ false → marks_at (players words births) rows base.core.id who ≡ []) (was : IsWellLed at over by words births rows base course)
@@ -126,6 +100,7 @@ module _ (at : Sets) (over : Ends) (by : Tellers) (words : ℕ → ℕ → ℕ �
     voter = may_vote;
   }
 
+-- In a quiet journal a group that is well led and stands has one that leads, and no other runs; none is further, and each other that decides an open slot may vote; and of one that is gone none runs.
 pub quiet_groups_led : QuietGroupsAreLed
 quiet_groups_led = record {
   stands = λ at over by words births rows base course lead rosters timely quiet strangers was stands there. quietly at over by words births rows base course lead rosters timely quiet strangers was stands there;

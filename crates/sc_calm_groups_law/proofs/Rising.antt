@@ -1,10 +1,11 @@
 -- One that has promised the ballot of a leader, and saw no later one, rises to it.
 use Rattle.std.proofs.Common.{◌≡◌, Some, inl, sym, ◌∙◌, ap, subst}
-use Rattle.sc_base.specs.declared.names.Ballot.{Ballot}
-use Rattle.sc_paxos_words.specs.Ballots.{IsAtLeast}
-use Rattle.sc_paxos_words.proofs.BallotLemmas.{same_from_at_least}
-use Rattle.sc_calm_groups_law.specs.Rising.{PromisersRise}
+use Rattle.sc_node_table.specs.Values.{Ballot}
+use Rattle.sc_paxos_words.specs.Definitions.{IsAtLeast}
+use Rattle.sc_paxos_words.proofs.Lemmas.{same_from_at_least}
+use Rattle.sc_calm_groups_law.specs.Definitions.{PromisersRise}
 
+-- One that has promised the ballot of a leader, takes it for that, and saw no later ballot rises to it.
 pub promisers_rise : PromisersRise
 promisers_rise at group lead r who there runs mine hint promised most kept =
     let top : r.top ≡ lead.leader.ballot = same_from_at_least r.top lead.leader.ballot (subst (IsAtLeast r.top) promised kept.1) most in

@@ -2,39 +2,18 @@
 use Rattle.std.proofs.Common.{◌≡◌, ℕ, ◌≤◌, true, true≢false, List, [], ◌∷◌, ◌++◌, Option, Some, None, inl, inr, refl, sym, ◌∙◌, ap, subst, append-nil}
 use Rattle.std.specs.Option.{option_map}
 use Rattle.std.proofs.lemmas.Bool.{cases_eq}
-use Rattle.sc_base.specs.Among.{Among, Each}
-use Rattle.sc_base.specs.declared.names.Ballot.{Ballot}
-use Rattle.sc_base.specs.declared.names.Draw.{Draw}
-use Rattle.sc_cmd.specs.declared.cores.Base.{Base}
-use Rattle.sc_cmd.specs.declared.orders.OrderLine.{OrderLine}
-use Rattle.sc_mail.specs.declared.bodies.Mail.{Mail}
-use Rattle.sc_actor.specs.declared.actors.Seat.{Seat}
-use Rattle.sc_actor.specs.declared.rows.Event.{Event}
-use Rattle.sc_actor.specs.Mail.{mails}
-use Rattle.sc_actor.specs.System.{row_of}
-use Rattle.sc_orderly_law.specs.Orderly.{rest}
-use Rattle.sc_node_table.specs.Replica.{ReplicaState, Place, listed}
-use Rattle.sc_sound.specs.Players.{Player, player_table}
-use Rattle.sc_calm_law.specs.Charts.{players}
-use Rattle.sc_calm_law.specs.Totals.{Rows}
-use Rattle.sc_following_law.specs.Dated.{Dated, from_slot_of, dated_of, dated_for, marks_in, IsNoPrepare, AreLow, IsAskedLow, IsDatedRow}
-use Rattle.sc_following_law.specs.Following.{Mark, mark_of, marks_of, Course, Progress, Sets, IsFollowing}
-use Rattle.sc_following_law.specs.Hints.{Tellers, GoesBy}
-use Rattle.sc_following_law.specs.Orderly.{IsOrderly}
-use Rattle.sc_following_law.specs.Rows.{IsRow, IsIdle, Takes, Leads, Elects, IsOffered}
-use Rattle.sc_following_law.specs.Tables.{marks_for}
-use Rattle.sc_following_law.proofs.Dated.{slots_are_kept, prepares_are_known}
-use Rattle.sc_following_law.proofs.Heeding.{hints_are_kept}
-use Rattle.sc_following_law.proofs.Keeps.{idle-keeps}
-use Rattle.sc_following_law.proofs.Owning.{own_is_kept}
-use Rattle.sc_calm_rows_law.specs.Groups.{view_at, progress_at, marks_at, taken_mark, begun_course}
-use Rattle.sc_calm_rows_law.specs.Steps.{led_course, elected_course}
-use Rattle.sc_calm_rows_law.specs.Turns.{with_event, IsKind, IsReplicasRow}
-use Rattle.sc_calm_rows_law.proofs.Keeping.{rows_keep, same_some}
-use Rattle.sc_calm_rows_law.proofs.Marking.{rows_are}
-use Rattle.sc_calm_rows_law.proofs.Viewing.{view_others}
-use Rattle.sc_calm_groups_law.specs.Led.{Ends, hint_in, hints_at, dated_at, IsWellLed}
-use Rattle.sc_calm_groups_law.specs.Rows.{IsStage, LeavesWell, LeadsWell, ElectsWell, RowsKeepLed}
+use Rattle.sc_base.specs.Definitions.{Among, Each}
+use Rattle.sc_node_table.specs.Values.{Ballot, Draw, Base, OrderLine, Mail, Seat, Event}
+use Rattle.sc_actor.specs.Definitions.{mails, row_of}
+use Rattle.sc_orderly_law.specs.Definitions.{rest}
+use Rattle.sc_node_table.specs.Definitions.{ReplicaState, Place, listed}
+use Rattle.sc_sound.specs.Definitions.{Player, player_table}
+use Rattle.sc_calm_law.specs.Definitions.{players, Rows}
+use Rattle.sc_following_law.specs.Definitions.{Dated, from_slot_of, dated_of, dated_for, marks_in, IsNoPrepare, AreLow, IsAskedLow, IsDatedRow, Mark, mark_of, marks_of, Course, Progress, Sets, IsFollowing, Tellers, GoesBy, IsOrderly, IsRow, IsIdle, Takes, Leads, Elects, IsOffered, marks_for}
+use Rattle.sc_following_law.proofs.Lemmas.{slots_are_kept, prepares_are_known, hints_are_kept, idle-keeps, own_is_kept}
+use Rattle.sc_calm_rows_law.specs.Definitions.{view_at, progress_at, marks_at, taken_mark, begun_course, led_course, elected_course, with_event, IsKind, IsReplicasRow}
+use Rattle.sc_calm_rows_law.proofs.Lemmas.{rows_keep, same_some, rows_are, view_others}
+use Rattle.sc_calm_groups_law.specs.Definitions.{Ends, hint_in, hints_at, dated_at, IsWellLed, IsStage, LeavesWell, LeadsWell, ElectsWell, RowsKeepLed}
 use Rattle.sc_calm_groups_law.proofs.Dating.{taken_dated, taken_same, with_slot, with_none, rows_dated}
 
 -- ---- what is the same for marks that are the same
@@ -282,6 +261,7 @@ module _ (at : Sets) (over : Ends) (by : Tellers) (words : ℕ → ℕ → ℕ �
         rests = stage.was.rests;
       }
 
+-- Each row of players keeps a group well led, by what it is in the group: one that does nothing, of a node that takes a mail, of the leader, or of one that elects itself.
 pub rows_keep_led : RowsKeepLed
 rows_keep_led = record {
   idle = λ at over by words births rows seat event base course stage leaves idle hint. keeps_idle at over by words births rows seat event base course stage leaves idle hint;

@@ -3,52 +3,19 @@ use Rattle.std.proofs.Common.{◌≡◌, ℕ, ◌+◌, ◌-◌, ◌&&◌, not, e
 use Rattle.std.specs.Prelude.{is_some, nat_le}
 use Rattle.std.specs.List.{filter, list_any}
 use Rattle.std.proofs.lemmas.Bool.{cond_both, eq-eqb}
-use Rattle.sc_base.specs.Among.{Among, Each}
-use Rattle.sc_base.specs.Drawing.{Drawer}
-use Rattle.sc_base.specs.declared.names.Ballot.{Ballot}
-use Rattle.sc_base.specs.declared.names.Draw.{Draw}
-use Rattle.sc_cmd.specs.declared.commands.Command.{Command}
-use Rattle.sc_cmd.specs.declared.cores.Base.{Base}
-use Rattle.sc_cmd.specs.declared.cores.Core.{Core}
-use Rattle.sc_cmd.specs.declared.orders.OrderLine.{OrderLine}
-use Rattle.sc_mail.specs.declared.bodies.AnswerBody.{AnswerBody}
-use Rattle.sc_mail.specs.declared.bodies.Mail.{Mail}
-use Rattle.sc_mail.specs.declared.bodies.MailBody.{MailBody}
-use Rattle.sc_mail.specs.declared.bodies.MailBody.TheVariants.{Prepare, Promise, Accept, Accepted, Learn, Install}
-use Rattle.sc_machine_table.specs.Group.{base_of}
-use Rattle.sc_machine_table.specs.Machine.{applied}
-use Rattle.sc_base.specs.Roster.{IsRoster, is_member}
-use Rattle.sc_paxos_words.specs.declared.answers.Must.{Must}
-use Rattle.sc_paxos_words.specs.declared.answers.Must.TheVariants.{Value, Gap, Free as Open}
-use Rattle.sc_paxos_words.specs.declared.reports.Report.{Report}
-use Rattle.sc_paxos_words.specs.Leaders.{must, promise_counted, without_flight_at}
-use Rattle.sc_paxos_words.proofs.ListLemmas.{Each-append}
+use Rattle.sc_base.specs.Definitions.{Among, Each, Drawer, IsRoster, is_member}
+use Rattle.sc_node_table.specs.Values.{Ballot, Draw, Command, Base, Core, OrderLine, AnswerBody, Mail, MailBody, Prepare, Promise, Accept, Accepted, Learn, Install, Must, Gap, Report}
+use Rattle.sc_machine_table.specs.Definitions.{base_of, applied}
+use Rattle.sc_paxos_words.specs.declared.answers.Must.TheVariants.{Value, Free as Open}
+use Rattle.sc_paxos_words.specs.Definitions.{must, promise_counted, without_flight_at}
+use Rattle.sc_paxos_words.proofs.Lemmas.{Each-append}
 use Rattle.sc_node_table.specs.declared.ReplicaInput.TheVariants as Given
-use Rattle.sc_node_table.specs.Execute.{entered, learnt_to, welcomed, landed, left, looked, executed_one, next_child, next_ready, ending, executed_ready, executed}
-use Rattle.sc_node_table.specs.Install.{install_to, welcomed_all}
-use Rattle.sc_node_table.specs.Mails.{sent, sent_all, sent_others, answered}
-use Rattle.sc_node_table.specs.Pump.{Found, is_act, waits, turned_down, next_call, from_calls, from_acts, from_queues, found_by, found_for, offered, pumped_from, pumped}
-use Rattle.sc_node_table.specs.Replica.{ReplicaState, Place, Executed, childless, listed, name_of, next, members, settled, may_offer, taken_at, under_way, is_idle, last_slot}
-use Rattle.sc_node_table.specs.Rows.{mailed, stepped}
-use Rattle.sc_node_table.specs.Slots.{at_slot, without_slot}
-use Rattle.sc_node_table.specs.Spoken.{before_of, spoken}
-use Rattle.sc_node_table.specs.Voting.{leads, promise_row}
-use Rattle.sc_law_lemmas.specs.Steps.{IfThere}
-use Rattle.sc_law_lemmas.proofs.Entries.{idle_ready}
-use Rattle.sc_following_law.specs.Following.{Mark, Installs, mark_of, marks_of, Course, Progress, Sets}
-use Rattle.sc_following_law.specs.Counted.{IsLed, IsNext}
-use Rattle.sc_following_law.specs.Executed.{AreNext}
-use Rattle.sc_following_law.specs.Leading.{IsLeadOf, IsAside, DecidesNext}
-use Rattle.sc_following_law.specs.Tables.{marks_for}
-use Rattle.sc_following_law.proofs.Asides.{aside_is, order_is}
-use Rattle.sc_following_law.proofs.Counted.{entered_keeps, landed_is, told_state, ends, entries_lead}
-use Rattle.sc_following_law.proofs.Entries.{with_state, with_both}
-use Rattle.sc_following_law.proofs.Executed.{stays_led, ready_of}
-use Rattle.sc_following_law.proofs.Marks.{among-left, among-right}
-use Rattle.sc_following_law.proofs.Nodes.{same_mark}
-use Rattle.sc_following_law.proofs.Voted.{vote_row}
-use Rattle.sc_following_law.proofs.Spoken.{turned_kept, spoken_kept, ended_kept, announced_kept}
-use Rattle.sc_calm_groups_law.specs.Rows.{IsStateFrom}
+use Rattle.sc_node_table.specs.Definitions.{entered, learnt_to, welcomed, landed, left, looked, executed_one, next_child, next_ready, ending, executed_ready, executed, install_to, welcomed_all, sent, sent_all, sent_others, answered, Found, is_act, waits, turned_down, next_call, from_calls, from_acts, from_queues, found_by, found_for, offered, pumped_from, pumped, ReplicaState, Place, Executed, childless, listed, name_of, next, members, settled, may_offer, taken_at, under_way, is_idle, last_slot, mailed, stepped, at_slot, without_slot, before_of, spoken, leads, promise_row}
+use Rattle.sc_law_lemmas.specs.Definitions.{IfThere}
+use Rattle.sc_law_lemmas.proofs.Lemmas.{idle_ready}
+use Rattle.sc_following_law.specs.Definitions.{Mark, Installs, mark_of, marks_of, Course, Progress, Sets, IsLed, IsNext, AreNext, IsLeadOf, IsAside, DecidesNext, marks_for}
+use Rattle.sc_following_law.proofs.Lemmas.{aside_is, order_is, entered_keeps, landed_is, told_state, ends, entries_lead, with_state, with_both, stays_led, ready_of, among-left, among-right, same_mark, vote_row, turned_kept, spoken_kept, ended_kept, announced_kept}
+use Rattle.sc_calm_groups_law.specs.Definitions.{IsStateFrom}
 
 pub each_among : {X : Type 0} (P : X → Type 0) (xs : List X) → ((x : X) → Among x xs → P x) → Each P xs
 each_among P [] f = tt

@@ -1,17 +1,15 @@
 -- Commands in flight and entries that are ready, from a slot on.
 use Rattle.std.proofs.Common.{◌≡◌, ℕ, ◌+◌, ◌<◌, ◌≤◌, eqb, nat_lt, Bool, true, false, cond, List, [], ◌∷◌, ◌++◌, Option, Some, None, refl, sym, ◌∙◌, ap, arith}
 use Rattle.std.proofs.lemmas.Bool.{eqb-true, eqb-false, ltb-true, ltb-false, ne_eqb}
-use Rattle.sc_base.specs.Among.{Each}
-use Rattle.sc_cmd.specs.declared.commands.Command.{Command}
-use Rattle.sc_paxos_words.specs.declared.flights.Flight.{Flight}
-use Rattle.sc_paxos_words.specs.Leaders.{flight_at, without_flight}
-use Rattle.sc_paxos_words.specs.Votes.{with_voters}
-use Rattle.sc_paxos_words.proofs.ListLemmas.{Each-append, Each-weaker}
-use Rattle.sc_node_table.specs.Slots.{at_slot, with_slot, without_slot}
-use Rattle.sc_law_lemmas.proofs.Ways.{either_way}
-use Rattle.sc_following_law.specs.Orderly.{AreApart}
-use Rattle.sc_following_law.proofs.Orderly.{apart_without, apart_polled}
-use Rattle.sc_calm_groups_law.specs.Slots.{FlyFrom, AreRising, WaitFrom}
+use Rattle.sc_base.specs.Definitions.{Each}
+use Rattle.sc_node_table.specs.Values.{Command, Flight}
+use Rattle.sc_paxos_words.specs.Definitions.{flight_at, without_flight, with_voters}
+use Rattle.sc_paxos_words.proofs.Lemmas.{Each-append, Each-weaker}
+use Rattle.sc_node_table.specs.Definitions.{at_slot, with_slot, without_slot}
+use Rattle.sc_law_lemmas.proofs.Lemmas.{either_way}
+use Rattle.sc_following_law.specs.Definitions.{AreApart}
+use Rattle.sc_following_law.proofs.Lemmas.{apart_without, apart_polled, apart_pushed}
+use Rattle.sc_calm_groups_law.specs.Definitions.{FlyFrom, AreRising, WaitFrom}
 
 -- where none is at this slot, all are later
 none_there : (n : ℕ) (fs : List (Flight Command)) → Each (λ f. n ≤ f.slot) fs → flight_at n fs ≡ None → Each (λ f. n + 1 ≤ f.slot) fs
@@ -56,14 +54,6 @@ push_none slot new (f ∷ fs) ne e = by (eqb f.slot slot) e (λ rest. push_none 
     by : (b : Bool) → cond b (Some f) (flight_at slot fs) ≡ None → (flight_at slot fs ≡ None → flight_at slot (fs ++ new ∷ []) ≡ None) → cond b (Some f) (flight_at slot (fs ++ new ∷ [])) ≡ None
     by true bad more = cc
     by false rest more = more rest
-
-apart_pushed : (fs : List (Flight Command)) (new : Flight Command) → AreApart fs → flight_at new.slot fs ≡ None → AreApart (fs ++ new ∷ [])
-apart_pushed [] new k e = (refl, tt)
-apart_pushed (f ∷ fs) new k e = by (eqb f.slot new.slot) refl e (λ rest. apart_pushed fs new k.1 rest)
-  where
-    by : (b : Bool) → eqb f.slot new.slot ≡ b → cond b (Some f) (flight_at new.slot fs) ≡ None → (flight_at new.slot fs ≡ None → AreApart (fs ++ new ∷ [])) → (flight_at f.slot (fs ++ new ∷ []) ≡ None) × AreApart (fs ++ new ∷ [])
-    by true t bad more = cc
-    by false t rest more = (push_none f.slot new fs (λ same. eqb-false f.slot new.slot t (sym same)) k.0, more rest)
 
 -- one more begins to fly
 pub fly_pushed : (n : ℕ) (new : Flight Command) (fs : List (Flight Command)) → n ≤ new.slot → flight_at new.slot fs ≡ None → FlyFrom n fs → FlyFrom n (fs ++ new ∷ [])

@@ -1,30 +1,14 @@
 -- What each replica has in flight and ready stays from its next slot on by the rows of its node, and so after any rows.
 use Rattle.std.proofs.Common.{◌≡◌, ℕ, ◌||◌, not, nat_lt, eqb, refl, Bool, cond, List, [], ◌∷◌, ◌++◌, length, map, Option, Some, None, sym, subst}
 use Rattle.std.specs.Prelude.{is_some}
-use Rattle.sc_base.specs.Among.{Each}
-use Rattle.sc_base.specs.Drawing.{Drawer}
-use Rattle.sc_base.specs.Same.{same_draw}
-use Rattle.sc_base.specs.declared.names.Draw.{Draw}
-use Rattle.sc_actor.specs.declared.rows.Input.{Input}
-use Rattle.sc_actor.specs.declared.rows.Input.TheVariants.{Got, Tick, Go, Told}
-use Rattle.sc_actor.specs.declared.rows.Row.{Row}
-use Rattle.sc_actor.specs.Replay.{acted, input_of, replay}
-use Rattle.sc_cmd.specs.declared.cores.Base.{Base}
-use Rattle.sc_cmd.specs.declared.orders.OrderLine.{OrderLine}
-use Rattle.sc_mail.specs.declared.bodies.Mail.{Mail}
-use Rattle.sc_mail.specs.declared.bodies.MailBody.{MailBody}
-use Rattle.sc_mail.specs.declared.bodies.MailBody.TheVariants.{Install}
-use Rattle.sc_mail.specs.declared.roles.Role.TheVariants.{Node, Client}
-use Rattle.sc_base.specs.Roster.{is_member}
-use Rattle.sc_node_table.specs.Node.{NodeState, born_replicas, replica_of, with_replica, is_before, with_new, group_of_mail, with_made, unknown, may_come, with_born, with_children, taken_by, routed, on_mail, group_of_order, ordered_of, ticked}
-use Rattle.sc_node_table.specs.Ordering.{ordered_row}
-use Rattle.sc_node_table.specs.Policy.{names_after_tick}
-use Rattle.sc_node_table.specs.Replica.{ReplicaState, Place, Executed, name_of, last_slot, born_replica}
-use Rattle.sc_node_table.specs.Rows.{made_by, tick_row, mailed}
-use Rattle.sc_node_table.specs.Slots.{slots_ahead}
-use Rattle.sc_sound.specs.Players.{Player, player_table}
-use Rattle.sc_law_lemmas.proofs.Ways.{either_way}
-use Rattle.sc_calm_groups_law.specs.Slots.{IsSlotKept, NodesKeepSlots, NodesAreBornSlotted}
+use Rattle.sc_base.specs.Definitions.{Each, Drawer, same_draw, is_member}
+use Rattle.sc_node_table.specs.Values.{Draw, Input, Got, Row, Base, OrderLine, Mail, MailBody, Install, Node, Client}
+use Rattle.sc_actor.specs.declared.rows.Input.TheVariants.{Tick, Go, Told}
+use Rattle.sc_actor.specs.Definitions.{acted, input_of, replay}
+use Rattle.sc_node_table.specs.Definitions.{NodeState, born_replicas, replica_of, with_replica, is_before, with_new, group_of_mail, with_made, unknown, may_come, with_born, with_children, taken_by, routed, on_mail, group_of_order, ordered_of, ticked, ordered_row, names_after_tick, ReplicaState, Place, Executed, name_of, last_slot, born_replica, made_by, tick_row, mailed, slots_ahead}
+use Rattle.sc_sound.specs.Definitions.{Player, player_table}
+use Rattle.sc_law_lemmas.proofs.Lemmas.{either_way}
+use Rattle.sc_calm_groups_law.specs.Definitions.{IsSlotKept, NodesKeepSlots, NodesAreBornSlotted}
 use Rattle.sc_calm_groups_law.proofs.SlotParts.{K}
 use Rattle.sc_calm_groups_law.proofs.SlotRows.{born_well, made_well, mailed_well, order_well, tick_well}
 
@@ -124,11 +108,13 @@ module _ (me : ℕ) where
   born_all [] = tt
   born_all (base ∷ groups) = either_way (λ (bases : List Base). All (map (λ b. born_replica slots_ahead me b) bases)) (is_member base.core.members me) _ _ (born_well me base, born_all groups) (born_all groups)
 
+-- In any journal what each replica of a node has in flight and ready is at slots that are not executed, one command at a slot, and nothing that is ready is to be executed now.
 pub nodes_keep : NodesKeepSlots
 nodes_keep seat rows born node is well e =
     let plays : Plays born.me seat.actor = subst (Plays born.me) (sym is) (refl, well) in
     let after : Plays born.me (Node node) = subst (Plays born.me) e (replay_well born.me seat.who rows seat.actor [] plays) in
     after.1
 
+-- So it is of each replica that is made at the birth of groups.
 pub nodes_born : NodesAreBornSlotted
 nodes_born me groups policy = born_all me groups

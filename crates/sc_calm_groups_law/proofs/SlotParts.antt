@@ -3,44 +3,20 @@ use Rattle.std.proofs.Common.{◌≡◌, ℕ, ◌+◌, ◌-◌, ◌^◌, ◌≤�
 use Rattle.std.specs.Prelude.{is_some}
 use Rattle.std.specs.List.{list_any}
 use Rattle.std.proofs.lemmas.Bool.{cond_both, and_parts}
-use Rattle.sc_base.specs.declared.names.Ballot.{Ballot}
-use Rattle.sc_cmd.specs.declared.commands.Command.{Command}
-use Rattle.sc_cmd.specs.declared.commands.Command.TheVariants.{Noop, Call, Join, Leave, Split, Begin, Prepared, RecordVote, GiveUp, Finish, Watched, RecordWatch}
-use Rattle.sc_cmd.specs.declared.effects.Effect.{Effect}
-use Rattle.sc_cmd.specs.declared.links.Route.{Route}
-use Rattle.sc_cmd.specs.declared.orders.ToldResult.{ToldResult}
-use Rattle.sc_mail.specs.declared.bodies.AnswerBody.{AnswerBody}
-use Rattle.sc_mail.specs.declared.bodies.Mail.{Mail}
+use Rattle.sc_node_table.specs.Values.{Ballot, Command, Noop, Call, Join, Leave, Split, Begin, Prepared, RecordVote, GiveUp, Finish, Watched, RecordWatch, Effect, Route, ToldResult, AnswerBody, Mail, Must, Gap, Flight}
 use Rattle.sc_mail.specs.declared.bodies.AnswerBody.TheVariants as Says
-use Rattle.sc_base.specs.Roster.{is_member, least_of}
-use Rattle.sc_machine_table.specs.Machine.{applied}
-use Rattle.sc_paxos_words.specs.declared.answers.Must.{Must}
-use Rattle.sc_paxos_words.specs.declared.answers.Must.TheVariants.{Value, Gap, Free as Open}
-use Rattle.sc_paxos_words.specs.declared.flights.Flight.{Flight}
-use Rattle.sc_paxos_words.specs.Ballots.{below}
-use Rattle.sc_paxos_words.specs.Leaders.{must, flight_at, new_leader, without_flight}
-use Rattle.sc_node_table.specs.Acts.{has_act, with_act, act_queued}
+use Rattle.sc_base.specs.Definitions.{is_member, least_of}
+use Rattle.sc_machine_table.specs.Definitions.{applied}
+use Rattle.sc_paxos_words.specs.declared.answers.Must.TheVariants.{Value, Free as Open}
+use Rattle.sc_paxos_words.specs.Definitions.{below, must, flight_at, new_leader, without_flight}
+use Rattle.sc_node_table.specs.Definitions.{has_act, with_act, act_queued, elected, ended, stopped, saw, entered, answer_of, told_call, order_result, told_effect, announced, learnt_to, welcomed, landed, left_gone, left, is_among, looked_for, looked, executed_one, has_room, next_ready, next_child, ending, executed_ready, all_ready, executed, install_to, asked_to_promise, welcomed_all, Found, is_act, from_calls, from_acts, from_queues, found_by, found_for, offered, pumped_from, pumped, put_back, ReplicaState, Place, Executed, childless, flying, next, members, settled, may_offer, first_set, taken_at, under_way, is_idle, last_slot, forgotten, at_slot, without_slot, before_of, spoken}
 use Rattle.sc_node_table.specs.declared.Before.{Before}
-use Rattle.sc_node_table.specs.Election.{elected, ended, stopped, saw}
-use Rattle.sc_node_table.specs.Execute.{entered, answer_of, told_call, order_result, told_effect, announced, learnt_to, welcomed, landed, left_gone, left, is_among, looked_for, looked, executed_one, has_room, next_ready, next_child, ending, executed_ready, all_ready, executed}
-use Rattle.sc_node_table.specs.Install.{install_to, asked_to_promise, welcomed_all}
-use Rattle.sc_node_table.specs.Pump.{Found, is_act, from_calls, from_acts, from_queues, found_by, found_for, offered, pumped_from, pumped}
-use Rattle.sc_node_table.specs.Queues.{put_back}
-use Rattle.sc_node_table.specs.Replica.{ReplicaState, Place, Executed, childless, flying, next, members, settled, may_offer, first_set, taken_at, under_way, is_idle, last_slot, forgotten}
-use Rattle.sc_node_table.specs.Slots.{at_slot, without_slot}
-use Rattle.sc_node_table.specs.Spoken.{before_of, spoken}
-use Rattle.sc_law_lemmas.proofs.Entries.{entered_next}
-use Rattle.sc_law_lemmas.proofs.Places.{welcomed_place, landed_place}
-use Rattle.sc_law_lemmas.proofs.Ways.{either_way}
-use Rattle.sc_calm_groups_law.specs.Slots.{HasFrom, IsSlotKept}
+use Rattle.sc_law_lemmas.proofs.Lemmas.{entered_next, welcomed_place, landed_place, either_way}
+use Rattle.sc_calm_groups_law.specs.Definitions.{HasFrom, IsSlotKept}
 use Rattle.sc_calm_groups_law.proofs.SlotLists.{fly_past, fly_pushed, wait_past}
 use Rattle.sc_calm_groups_law.proofs.Clearing.{none_mapped, none_first}
-use Rattle.sc_node_table.proofs.Readiness.{one-shorter}
-
--- where none is there, it is none
-none_is : {X : Type 0} (o : Option X) → is_some o ≡ false → o ≡ None
-none_is None e = refl
-none_is (Some x) e = absurd (true≢false e)
+use Rattle.sc_node_table.proofs.Lemmas.{one-shorter}
+use Rattle.sc_following_law.proofs.Lemmas.{none_there as none_is}
 
 -- what is ready is not executed where nothing runs, or nothing is ready
 pub off_done : (r : ReplicaState) → r.running ≡ false → next_ready r ≡ None

@@ -1,38 +1,18 @@
 -- Through a journal in which a group is well led, its members learn all entries.
 use Rattle.std.proofs.Common.{◌≡◌, ℕ, ◌+◌, ◌<◌, true, List, [], ◌∷◌, ◌++◌, Option, None, refl, sym, ◌∙◌, ap, subst, arith, append_assoc}
-use Rattle.sc_base.specs.declared.names.Ballot.{Ballot}
-use Rattle.sc_cmd.specs.declared.cores.Base.{Base}
-use Rattle.sc_cmd.specs.declared.orders.OrderLine.{OrderLine}
-use Rattle.sc_mail.specs.declared.bodies.Mail.{Mail}
-use Rattle.sc_base.specs.Roster.{is_member}
-use Rattle.sc_actor.specs.declared.actors.Seat.{Seat}
-use Rattle.sc_actor.specs.declared.rows.Event.{Event}
-use Rattle.sc_actor.specs.declared.rows.Row.{Row}
-use Rattle.sc_actor.specs.Mail.{mails}
-use Rattle.sc_actor.specs.System.{row_of}
-use Rattle.sc_orderly_law.specs.Timely.{AreInTime}
-use Rattle.sc_orderly_law.proofs.InTime.{by_time, last_in_time}
-use Rattle.sc_node_table.specs.Replica.{first_ballot}
-use Rattle.sc_node_table.specs.Slots.{slots_ahead}
-use Rattle.sc_sound.specs.Players.{Player, player_table, births, as_nodes}
-use Rattle.sc_calm_law.specs.Charts.{players}
-use Rattle.sc_calm_law.specs.Totals.{Rows}
-use Rattle.sc_following_law.specs.Following.{Mark, Course, Progress, Sets, members_at, IsFollowing}
-use Rattle.sc_following_law.specs.Hints.{Tellers}
-use Rattle.sc_following_law.specs.Rows.{IsRow, IsIdle, begun}
-use Rattle.sc_following_law.specs.Tables.{marks_for}
-use Rattle.sc_following_law.proofs.InQuiet.{begins}
-use Rattle.sc_following_law.proofs.Taught.{taught_is_kept}
-use Rattle.sc_calm_rows_law.specs.Groups.{next_in, promise_in, progress_at, marks_at, taken_mark, begun_course}
-use Rattle.sc_calm_rows_law.specs.Turns.{with_event}
-use Rattle.sc_calm_rows_law.proofs.Beginning.{born_facts, next_born, promise_born}
-use Rattle.sc_calm_rows_law.proofs.Marking.{rows_are}
-use Rattle.sc_calm_groups_law.specs.Begun.{BeginsSo}
-use Rattle.sc_calm_groups_law.specs.Kinds.{IsGroupRow, RowPasses, RowRests, RowTakes, RowMakes, RowLeads, RowElects}
-use Rattle.sc_calm_groups_law.specs.Led.{Ends}
-use Rattle.sc_calm_groups_law.specs.Rows.{IsStage}
-use Rattle.sc_calm_groups_law.specs.Taught.{AreTaughtAt, IsTaughtOn, RowsKeepTaught, ScenariosBeginTaught, ChildrenBeginTaught, GroupsAreTaughtThrough}
-use Rattle.sc_calm_groups_law.specs.Through.{AreWellBorn, HasOneLog, IsSentSo}
+use Rattle.sc_node_table.specs.Values.{Ballot, Base, OrderLine, Mail, Seat, Event, Row}
+use Rattle.sc_base.specs.Definitions.{is_member}
+use Rattle.sc_actor.specs.Definitions.{mails, row_of}
+use Rattle.sc_orderly_law.specs.Definitions.{AreInTime}
+use Rattle.sc_orderly_law.proofs.Lemmas.{by_time, last_in_time}
+use Rattle.sc_node_table.specs.Definitions.{first_ballot, slots_ahead}
+use Rattle.sc_sound.specs.Definitions.{Player, player_table, births, as_nodes}
+use Rattle.sc_calm_law.specs.Definitions.{players, Rows}
+use Rattle.sc_following_law.specs.Definitions.{Mark, Course, Progress, Sets, members_at, IsFollowing, Tellers, IsRow, IsIdle, begun, marks_for}
+use Rattle.sc_following_law.proofs.Lemmas.{begins, taught_is_kept}
+use Rattle.sc_calm_rows_law.specs.Definitions.{next_in, promise_in, progress_at, marks_at, taken_mark, begun_course, with_event}
+use Rattle.sc_calm_rows_law.proofs.Lemmas.{born_facts, next_born, promise_born, rows_are}
+use Rattle.sc_calm_groups_law.specs.Definitions.{BeginsSo, IsGroupRow, RowPasses, RowRests, RowTakes, RowMakes, RowLeads, RowElects, Ends, IsStage, AreTaughtAt, IsTaughtOn, RowsKeepTaught, ScenariosBeginTaught, ChildrenBeginTaught, GroupsAreTaughtThrough, AreWellBorn, HasOneLog, IsSentSo}
 use Rattle.sc_calm_groups_law.proofs.Beginning.{scenarios_begin_led, children_begin_led}
 use Rattle.sc_calm_groups_law.proofs.Events.{events_go_on}
 
@@ -75,6 +55,7 @@ module _ (at : Sets) (over : Ends) (by : Tellers) (words : ℕ → ℕ → ℕ �
   row_keeps later (RowElects r after ballot row off e same) =
       subst Then (sym same) (taught_is_kept.elects at by now (after_ _) seat.who taken sent marks marks_then stage.rosters (row_in _) e.elects stage.was.followed.follows tt was)
 
+-- Each row of a known kind keeps it that the members of a group's states learn the entries after them, and that nobody else is told one.
 pub rows_keep_taught : RowsKeepTaught
 rows_keep_taught at over by words births rows seat event base course later stage row was = row_keeps at over by words births rows seat event base course stage was later row
 
@@ -114,6 +95,7 @@ module _ (at : Sets) (over : Ends) (by : Tellers) (words : ℕ → ℕ → ℕ �
       following : IsFollowing at start (λ node. [])
       following = begins at ballot same (ap (λ (ms : List ℕ). is_member ms base.core.first) firsts ∙ first)
 
+-- So it is of each group of a bounded scenario at its birth.
 pub scenarios_begin_taught : ScenariosBeginTaught
 scenarios_begin_taught at over by words scenario base bounded a so = record {
   course = begun_course base;
@@ -121,6 +103,7 @@ scenarios_begin_taught at over by words scenario base bounded a so = record {
   taught = taught_begun at over by words (births as_nodes scenario) [] base so (born_facts scenario bounded base a).1 (next_born scenario bounded base a) (promise_born scenario bounded base a) (λ who. refl);
 }
 
+-- So it is of a group of which no node has a replica at the births.
 pub children_begin_taught : ChildrenBeginTaught
 children_begin_taught at over by words births base first unborn so = record {
   course = begun_course base;
@@ -153,6 +136,7 @@ module _ (at : Sets) (over : Ends) (by : Tellers) (words : ℕ → ℕ → ℕ �
   before_in_time : AreInTime (players words births) journal → (rows more : Rows) → journal ≡ rows ++ more → AreInTime (players words births) rows
   before_in_time timely rows more is = λ before row after e. timely before row (after ++ more) (is ∙ (ap (λ rs. rs ++ more) e ∙ append_assoc before (row ∷ after) more))
 
+-- And so it is after each row of a journal whose rows come in time, and in which the group's log is one, if it is at first.
 pub groups_taught_through : GroupsAreTaughtThrough
 groups_taught_through at over by words births journal base wb one so timely first rows more is =
     by_time (players words births) (Begin at over by words births journal base wb one so) (λ all e. first) (after_row at over by words births journal base wb one so) rows (before_in_time at over by words births journal base wb one so timely rows more is) more is

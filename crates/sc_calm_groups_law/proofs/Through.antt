@@ -2,30 +2,19 @@
 use Rattle.std.proofs.Common.{◌≡◌, ℕ, List, [], ◌∷◌, ◌++◌, Some, None, refl, sym, ◌∙◌, ap, subst, append_assoc}
 use Rattle.std.specs.Prelude.{is_some}
 use Rattle.std.proofs.lemmas.Bool.{cond-true}
-use Rattle.sc_base.specs.Among.{Among}
-use Rattle.sc_cmd.specs.declared.cores.Base.{Base}
-use Rattle.sc_cmd.specs.declared.orders.OrderLine.{OrderLine}
-use Rattle.sc_mail.specs.declared.bodies.Mail.{Mail}
-use Rattle.sc_base.specs.Roster.{is_member}
-use Rattle.sc_actor.specs.declared.actors.Seat.{Seat}
-use Rattle.sc_actor.specs.declared.rows.Row.{Row}
-use Rattle.sc_orderly_law.specs.Timely.{AreInTime}
-use Rattle.sc_orderly_law.proofs.InTime.{by_time, last_in_time}
-use Rattle.sc_scenario.specs.Valid.{IsBounded}
+use Rattle.sc_base.specs.Definitions.{Among, is_member}
+use Rattle.sc_node_table.specs.Values.{Base, OrderLine, Mail, Seat, Row}
+use Rattle.sc_orderly_law.specs.Definitions.{AreInTime}
+use Rattle.sc_orderly_law.proofs.Lemmas.{by_time, last_in_time}
+use Rattle.sc_scenario.specs.Definitions.{IsBounded}
 use Rattle.sc_scenario.specs.declared.scenarios.Scenario.{Scenario}
-use Rattle.sc_node_table.specs.Replica.{ReplicaState, born_replica}
-use Rattle.sc_node_table.specs.Slots.{slots_ahead}
-use Rattle.sc_sound.specs.Players.{Player, births, as_nodes}
-use Rattle.sc_calm_law.specs.Charts.{players}
-use Rattle.sc_calm_law.specs.Totals.{Rows}
-use Rattle.sc_following_law.specs.Following.{Sets}
-use Rattle.sc_following_law.specs.Hints.{Tellers}
-use Rattle.sc_calm_rows_law.specs.Groups.{begun_course}
-use Rattle.sc_calm_rows_law.proofs.Beginning.{view_born, born_facts}
-use Rattle.sc_calm_groups_law.specs.Begun.{BeginsSo}
-use Rattle.sc_calm_groups_law.specs.Logged.{IsOfLog}
-use Rattle.sc_calm_groups_law.specs.Led.{Ends, IsLedOn}
-use Rattle.sc_calm_groups_law.specs.Through.{AreWellBorn, HasOneLog, IsSentSo, GroupsAreLedThrough, ScenariosAreLedThrough, ChildrenAreLedThrough}
+use Rattle.sc_node_table.specs.Definitions.{ReplicaState, born_replica, slots_ahead}
+use Rattle.sc_sound.specs.Definitions.{Player, births, as_nodes}
+use Rattle.sc_calm_law.specs.Definitions.{players, Rows}
+use Rattle.sc_following_law.specs.Definitions.{Sets, Tellers}
+use Rattle.sc_calm_rows_law.specs.Definitions.{begun_course}
+use Rattle.sc_calm_rows_law.proofs.Lemmas.{view_born, born_facts}
+use Rattle.sc_calm_groups_law.specs.Definitions.{BeginsSo, IsOfLog, Ends, IsLedOn, AreWellBorn, HasOneLog, IsSentSo, GroupsAreLedThrough, ScenariosAreLedThrough, ChildrenAreLedThrough}
 use Rattle.sc_calm_groups_law.proofs.Beginning.{scenarios_begin_led, children_begin_led}
 use Rattle.sc_calm_groups_law.proofs.BornWell.{scenarios_well_born}
 use Rattle.sc_calm_groups_law.proofs.Events.{events_keep_led}
@@ -48,6 +37,7 @@ module _ (at : Sets) (over : Ends) (by : Tellers) (words : ℕ → ℕ → ℕ �
   before_in_time : AreInTime (players words births) journal → (rows more : Rows) → journal ≡ rows ++ more → AreInTime (players words births) rows
   before_in_time timely rows more is = λ before row after e. timely before row (after ++ more) (is ∙ (ap (λ rs. rs ++ more) e ∙ append_assoc before (row ∷ after) more))
 
+-- So it is after each row of a journal whose rows come in time, if it is at first.
 pub groups_led_through : GroupsAreLedThrough
 groups_led_through at over by words births journal base wb one so timely first rows more is =
     by_time (players words births) (Begin at over by words births journal base wb one so) (λ all e. first) (after_row at over by words births journal base wb one so) rows (before_in_time at over by words births journal base wb one so timely rows more is) more is
@@ -71,11 +61,13 @@ module _ (at : Sets) (over : Ends) (by : Tellers) (words : ℕ → ℕ → ℕ �
     rosters = one.log.rosters;
   }
 
+-- So is each group of a bounded scenario, after each row of a journal in which its log is one, and its mail is sent so.
 pub scenarios_led_through : ScenariosAreLedThrough
 scenarios_led_through at over by words scenario journal base bounded a one so timely =
     groups_led_through at over by words (births as_nodes scenario) journal base (scenarios_well_born scenario) one so timely
     (begun_course base, scenarios_begin_led at over by words scenario base bounded a (begins_so at over by words scenario journal base bounded a one))
 
+-- And so is each child of a split, of which no node has a replica at the births.
 pub children_led_through : ChildrenAreLedThrough
 children_led_through at over by words births journal base wb unborn stands early one so timely =
     groups_led_through at over by words births journal base wb one so timely

@@ -1,23 +1,12 @@
 -- What each row of players is to a group that is well led, and the course that the group has after it.
 use Rattle.std.specs.Prelude.{◌≡◌, ℕ, true, false, List, Some, None}
-use Rattle.sc_base.specs.declared.names.Ballot.{Ballot}
-use Rattle.sc_cmd.specs.declared.cores.Base.{Base}
-use Rattle.sc_cmd.specs.declared.orders.OrderLine.{OrderLine}
-use Rattle.sc_actor.specs.declared.actors.Seat.{Seat}
-use Rattle.sc_actor.specs.declared.rows.Event.{Event}
-use Rattle.sc_actor.specs.Mail.{mails}
-use Rattle.sc_node_table.specs.Replica.{ReplicaState, Place}
-use Rattle.sc_node_table.specs.Rows.{made_by}
-use Rattle.sc_sound.specs.Players.{Player}
-use Rattle.sc_calm_law.specs.Totals.{Rows}
-use Rattle.sc_following_law.specs.Following.{Mark, Installs, Course, Sets}
-use Rattle.sc_following_law.specs.Hints.{Tellers}
-use Rattle.sc_following_law.specs.Rows.{IsIdle, Takes}
-use Rattle.sc_following_law.specs.Tables.{StepsBy}
-use Rattle.sc_calm_rows_law.specs.Asides.{IsUnmoved}
-use Rattle.sc_calm_rows_law.specs.Groups.{taken_mark}
-use Rattle.sc_calm_rows_law.specs.Steps.{led_course, elected_course}
-use Rattle.sc_calm_rows_law.specs.Turns.{with_event, IsKind, IsReplicasRow, LeavesOrBears}
+use Rattle.sc_node_table.specs.Values.{Ballot, Base, OrderLine, Seat, Event}
+use Rattle.sc_actor.specs.Definitions.{mails}
+use Rattle.sc_node_table.specs.Definitions.{ReplicaState, Place, made_by}
+use Rattle.sc_sound.specs.Definitions.{Player}
+use Rattle.sc_calm_law.specs.Definitions.{Rows}
+use Rattle.sc_following_law.specs.Definitions.{Mark, Installs, Course, Sets, Tellers, IsIdle, Takes, StepsBy}
+use Rattle.sc_calm_rows_law.specs.Definitions.{IsUnmoved, taken_mark, led_course, elected_course, with_event, IsKind, IsReplicasRow, LeavesOrBears}
 use Rattle.sc_calm_groups_law.specs.Led.{Ends, IsWellLed}
 use Rattle.sc_calm_groups_law.specs.Logged.{IsLogsState, CountsTo}
 use Rattle.sc_calm_groups_law.specs.Rows.{LeadsWell, ElectsWell}

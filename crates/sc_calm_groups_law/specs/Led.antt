@@ -1,22 +1,13 @@
 -- A group after some rows of players that is well led: it follows its leader, each node takes the one for the leader that it is to, and what the leader has in flight is in order.
 use Rattle.std.specs.Prelude.{◌≡◌, ℕ, ◌≤◌, Bool, true, List, Option, Some, None}
-use Rattle.sc_base.specs.declared.names.Draw.{Draw}
-use Rattle.sc_cmd.specs.declared.cores.Base.{Base}
-use Rattle.sc_cmd.specs.declared.orders.OrderLine.{OrderLine}
-use Rattle.sc_mail.specs.declared.bodies.Mail.{Mail}
-use Rattle.sc_actor.specs.declared.actors.Seat.{Seat}
-use Rattle.sc_actor.specs.System.{System}
-use Rattle.sc_orderly_law.specs.Orderly.{rest}
-use Rattle.sc_node_table.specs.Replica.{ReplicaState}
-use Rattle.sc_sound.specs.Players.{Player}
-use Rattle.sc_calm_law.specs.Charts.{players}
-use Rattle.sc_calm_law.specs.Totals.{Rows}
-use Rattle.sc_following_law.specs.Dated.{Dated, dated_of, IsAskedLow}
-use Rattle.sc_following_law.specs.Following.{Course, Sets}
-use Rattle.sc_following_law.specs.Hints.{Tellers, IsHeeding}
-use Rattle.sc_following_law.specs.Orderly.{IsOrderly}
-use Rattle.sc_following_law.specs.Owning.{IsOwnFirst}
-use Rattle.sc_calm_rows_law.specs.Groups.{view_at, progress_at, marks_at, begun_course, IsFollowedAt}
+use Rattle.sc_node_table.specs.Values.{Draw, Base, OrderLine, Mail, Seat}
+use Rattle.sc_actor.specs.Definitions.{System}
+use Rattle.sc_orderly_law.specs.Definitions.{rest}
+use Rattle.sc_node_table.specs.Definitions.{ReplicaState}
+use Rattle.sc_sound.specs.Definitions.{Player}
+use Rattle.sc_calm_law.specs.Definitions.{players, Rows}
+use Rattle.sc_following_law.specs.Definitions.{Dated, dated_of, IsAskedLow, Course, Sets, Tellers, IsHeeding, IsOrderly, IsOwnFirst}
+use Rattle.sc_calm_rows_law.specs.Definitions.{view_at, progress_at, marks_at, begun_course, IsFollowedAt}
 
 -- whom a replica takes for the leader; where there is none yet, it will be the group's first member
 abbrev pub hint_in : Base → Option ReplicaState → Option ℕ

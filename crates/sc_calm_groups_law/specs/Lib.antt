@@ -12,3 +12,4 @@ pub mod Slots
 pub mod Taught
 pub mod Through
 pub mod Tops
+pub mod Definitions

@@ -1,15 +1,11 @@
 -- What a group's log must be, so that each row of a calm journal keeps the group well led: what is said of it here is of the log alone, and not of who leads or heeds.
 use Rattle.std.specs.Prelude.{◌≡◌, ℕ, ◌+◌, ◌-◌, ◌^◌, ◌<◌, ◌≤◌, true, List, length, is_some, ◌⊎◌}
-use Rattle.sc_cmd.specs.declared.cores.Base.{Base}
-use Rattle.sc_base.specs.Roster.{IsRoster, is_member}
-use Rattle.sc_paxos_words.specs.Ballots.{IsAtLeast}
-use Rattle.sc_node_table.specs.Node.{is_node}
-use Rattle.sc_node_table.specs.Replica.{ReplicaState, next, members, first_ballot}
-use Rattle.sc_node_table.specs.Slots.{slots_ahead}
-use Rattle.sc_following_law.specs.Following.{Sets, members_at}
-use Rattle.sc_following_law.specs.Hints.{Tellers}
-use Rattle.sc_following_law.specs.Offers.{AreAt}
-use Rattle.sc_calm_rows_law.specs.Turns.{IsWholeState}
+use Rattle.sc_node_table.specs.Values.{Base}
+use Rattle.sc_base.specs.Definitions.{IsRoster, is_member}
+use Rattle.sc_paxos_words.specs.Definitions.{IsAtLeast}
+use Rattle.sc_node_table.specs.Definitions.{is_node, ReplicaState, next, members, first_ballot, slots_ahead}
+use Rattle.sc_following_law.specs.Definitions.{Sets, members_at, Tellers, AreAt}
+use Rattle.sc_calm_rows_law.specs.Definitions.{IsWholeState}
 use Rattle.sc_calm_groups_law.specs.Led.{Ends}
 
 -- a replica's state is the log's: its members, those of its open slots, and whether the group is gone

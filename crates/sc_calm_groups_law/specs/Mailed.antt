@@ -1,33 +1,15 @@
 -- That each mail, order and other event that comes to a player leaves a group well led.
 use Rattle.std.specs.Prelude.{◌≡◌, ℕ, ◌+◌, ◌<◌, ◌≤◌, true, false, List, [], Some, None}
-use Rattle.sc_base.specs.declared.names.Ballot.{Ballot}
-use Rattle.sc_cmd.specs.declared.commands.Command.{Command}
-use Rattle.sc_cmd.specs.declared.cores.Base.{Base}
-use Rattle.sc_cmd.specs.declared.orders.OrderLine.{OrderLine}
-use Rattle.sc_mail.specs.declared.bodies.Mail.{Mail}
-use Rattle.sc_mail.specs.declared.bodies.MailBody.TheVariants.{Prepare, Promise, Accept, Accepted, Learn, Install}
-use Rattle.sc_mail.specs.declared.roles.Role.TheVariants.{Node}
-use Rattle.sc_base.specs.Roster.{is_member}
-use Rattle.sc_actor.specs.declared.actors.Seat.{Seat}
-use Rattle.sc_actor.specs.declared.rows.Event.{Event}
-use Rattle.sc_actor.specs.declared.rows.Event.TheVariants.{Deliver, Told}
-use Rattle.sc_actor.specs.Replay.{value}
-use Rattle.sc_orderly_law.specs.Timely.{AreInTime}
-use Rattle.sc_paxos_words.specs.declared.reports.Report.{Report}
-use Rattle.sc_node_table.specs.Execute.{entered}
-use Rattle.sc_node_table.specs.Node.{NodeState, replica_of, group_of_mail, group_of_order}
-use Rattle.sc_node_table.specs.Ordering.{ordered_row}
-use Rattle.sc_node_table.specs.Replica.{ReplicaState, last_slot}
-use Rattle.sc_node_table.specs.Rows.{mailed}
-use Rattle.sc_node_table.specs.Slots.{slots_ahead}
-use Rattle.sc_sound.specs.Players.{Player, player_table}
-use Rattle.sc_calm_law.specs.Charts.{players}
-use Rattle.sc_calm_law.specs.Totals.{Rows}
-use Rattle.sc_following_law.specs.Following.{Course, Sets}
-use Rattle.sc_following_law.specs.Hints.{Tellers}
-use Rattle.sc_following_law.specs.Leading.{IsAside, DecidesNext}
-use Rattle.sc_calm_rows_law.specs.Mailed.{TakesMail, HoldsReplica}
-use Rattle.sc_calm_rows_law.specs.Turns.{IsSeat, with_event, LeavesAlone, LeavesOrBears}
+use Rattle.sc_node_table.specs.Values.{Ballot, Command, Base, OrderLine, Mail, Prepare, Promise, Accept, Accepted, Learn, Install, Node, Seat, Event, Deliver, Report}
+use Rattle.sc_base.specs.Definitions.{is_member}
+use Rattle.sc_actor.specs.declared.rows.Event.TheVariants.{Told}
+use Rattle.sc_actor.specs.Definitions.{value}
+use Rattle.sc_orderly_law.specs.Definitions.{AreInTime}
+use Rattle.sc_node_table.specs.Definitions.{entered, NodeState, replica_of, group_of_mail, group_of_order, ordered_row, ReplicaState, last_slot, mailed, slots_ahead}
+use Rattle.sc_sound.specs.Definitions.{Player, player_table}
+use Rattle.sc_calm_law.specs.Definitions.{players, Rows}
+use Rattle.sc_following_law.specs.Definitions.{Course, Sets, Tellers, IsAside, DecidesNext}
+use Rattle.sc_calm_rows_law.specs.Definitions.{TakesMail, HoldsReplica, IsSeat, with_event, LeavesAlone, LeavesOrBears}
 use Rattle.sc_calm_groups_law.specs.Kinds.{IsLedStep}
 use Rattle.sc_calm_groups_law.specs.Led.{Ends, IsWellLed}
 use Rattle.sc_calm_groups_law.specs.Logged.{IsOfLog, HasRounds, IsLogsState, RestsBy, CountsAsMember, IsLogOf}

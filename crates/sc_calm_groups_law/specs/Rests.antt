@@ -1,23 +1,15 @@
 -- What a group that is well led is in a quiet journal.
 use Rattle.std.specs.Prelude.{◌≡◌, ℕ, ◌≤◌, true, false, List, [], Some}
-use Rattle.sc_cmd.specs.declared.cores.Base.{Base}
-use Rattle.sc_base.specs.Roster.{IsRoster, is_member}
-use Rattle.sc_actor.specs.declared.actors.Seat.{Seat}
-use Rattle.sc_actor.specs.Walk.{is_quiet}
-use Rattle.sc_orderly_law.specs.Orderly.{is_born}
-use Rattle.sc_orderly_law.specs.Timely.{AreInTime}
-use Rattle.sc_paxos_words.specs.Ballots.{below}
-use Rattle.sc_node_table.specs.Replica.{ReplicaState, next, members, settled}
-use Rattle.sc_sound.specs.Players.{Player}
-use Rattle.sc_calm_law.specs.Charts.{players}
-use Rattle.sc_calm_law.specs.Laws.{IsUnbound}
-use Rattle.sc_calm_law.specs.Quiet.{MayVote}
-use Rattle.sc_calm_law.specs.Totals.{Rows}
-use Rattle.sc_following_law.specs.Following.{Course, Sets, IsOpen}
-use Rattle.sc_following_law.specs.Hints.{Tellers}
-use Rattle.sc_following_law.specs.Leading.{IsLeadOf}
-use Rattle.sc_following_law.specs.Orderly.{IsOrderly}
-use Rattle.sc_calm_rows_law.specs.Groups.{view_at, progress_at, marks_at}
+use Rattle.sc_node_table.specs.Values.{Base, Seat}
+use Rattle.sc_base.specs.Definitions.{IsRoster, is_member}
+use Rattle.sc_actor.specs.Definitions.{is_quiet}
+use Rattle.sc_orderly_law.specs.Definitions.{is_born, AreInTime}
+use Rattle.sc_paxos_words.specs.Definitions.{below}
+use Rattle.sc_node_table.specs.Definitions.{ReplicaState, next, members, settled}
+use Rattle.sc_sound.specs.Definitions.{Player}
+use Rattle.sc_calm_law.specs.Definitions.{players, IsUnbound, MayVote, Rows}
+use Rattle.sc_following_law.specs.Definitions.{Course, Sets, IsOpen, Tellers, IsLeadOf, IsOrderly}
+use Rattle.sc_calm_rows_law.specs.Definitions.{view_at, progress_at, marks_at}
 use Rattle.sc_calm_groups_law.specs.Led.{Ends, IsWellLed}
 
 -- One leads, a settled member that no report binds, with all in order, and no other runs; no replica is further, and each member's is as far; none has promised a later ballot; and each other of a node that decides an open slot may vote.

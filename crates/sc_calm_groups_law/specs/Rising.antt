@@ -1,9 +1,9 @@
 -- One that has promised the ballot of a leader, and saw no later one, rises to it.
 use Rattle.std.specs.Prelude.{◌≡◌, ℕ, true, Some}
-use Rattle.sc_base.specs.declared.names.Draw.{Draw}
-use Rattle.sc_paxos_words.specs.Ballots.{IsAtLeast}
-use Rattle.sc_node_table.specs.Replica.{ReplicaState}
-use Rattle.sc_calm_law.specs.Quiet.{View, RisesAt}
+use Rattle.sc_node_table.specs.Values.{Draw}
+use Rattle.sc_paxos_words.specs.Definitions.{IsAtLeast}
+use Rattle.sc_node_table.specs.Definitions.{ReplicaState}
+use Rattle.sc_calm_law.specs.Definitions.{View, RisesAt}
 use Rattle.sc_calm_groups_law.specs.Tops.{IsTopKept}
 
 -- It takes the leader for that, whose ballot names its node: its greatest ballot is that one.

@@ -1,32 +1,14 @@
 -- That each row of players, by its kind in a group, keeps the group well led.
 use Rattle.std.specs.Prelude.{◌≡◌, ℕ, suc, ◌≤◌, true, List, Some, None, is_some}
-use Rattle.sc_base.specs.Among.{Each}
-use Rattle.sc_base.specs.declared.names.Ballot.{Ballot}
-use Rattle.sc_base.specs.declared.names.Draw.{Draw}
-use Rattle.sc_cmd.specs.declared.cores.Base.{Base}
-use Rattle.sc_cmd.specs.declared.orders.OrderLine.{OrderLine}
-use Rattle.sc_mail.specs.declared.bodies.Mail.{Mail}
-use Rattle.sc_mail.specs.declared.bodies.MailBody.TheVariants.{Install}
-use Rattle.sc_base.specs.Roster.{IsRoster}
-use Rattle.sc_actor.specs.declared.actors.Seat.{Seat}
-use Rattle.sc_actor.specs.declared.rows.Event.{Event}
-use Rattle.sc_actor.specs.Mail.{mails}
-use Rattle.sc_orderly_law.specs.Timely.{AreInTime}
-use Rattle.sc_node_table.specs.Replica.{ReplicaState, Place, next}
-use Rattle.sc_sound.specs.Players.{Player}
-use Rattle.sc_calm_law.specs.Charts.{players}
-use Rattle.sc_calm_law.specs.Totals.{Rows}
-use Rattle.sc_following_law.specs.Dated.{dated_for, AsksLow}
-use Rattle.sc_following_law.specs.Following.{Tells, Course, Sets}
-use Rattle.sc_following_law.specs.Hints.{Tellers, GoesBy, LeavesLast}
-use Rattle.sc_following_law.specs.Leading.{IsLeadOf}
-use Rattle.sc_following_law.specs.Orderly.{IsOrderly}
-use Rattle.sc_following_law.specs.Owning.{CountsOwn}
-use Rattle.sc_following_law.specs.Rows.{IsIdle, Takes, Elects}
-use Rattle.sc_calm_rows_law.specs.Groups.{view_at, progress_at, taken_mark}
-use Rattle.sc_calm_rows_law.specs.Kept.{LeavesLead}
-use Rattle.sc_calm_rows_law.specs.Steps.{led_course, elected_course, LedBy}
-use Rattle.sc_calm_rows_law.specs.Turns.{with_event, IsKind, IsReplicasRow}
+use Rattle.sc_base.specs.Definitions.{Each, IsRoster}
+use Rattle.sc_node_table.specs.Values.{Ballot, Draw, Base, OrderLine, Mail, Install, Seat, Event}
+use Rattle.sc_actor.specs.Definitions.{mails}
+use Rattle.sc_orderly_law.specs.Definitions.{AreInTime}
+use Rattle.sc_node_table.specs.Definitions.{ReplicaState, Place, next}
+use Rattle.sc_sound.specs.Definitions.{Player}
+use Rattle.sc_calm_law.specs.Definitions.{players, Rows}
+use Rattle.sc_following_law.specs.Definitions.{dated_for, AsksLow, Tells, Course, Sets, Tellers, GoesBy, LeavesLast, IsLeadOf, IsOrderly, CountsOwn, IsIdle, Takes, Elects}
+use Rattle.sc_calm_rows_law.specs.Definitions.{view_at, progress_at, taken_mark, LeavesLead, led_course, elected_course, LedBy, with_event, IsKind, IsReplicasRow}
 use Rattle.sc_calm_groups_law.specs.Led.{Ends, hints_at, IsWellLed}
 
 -- a group is well led after some rows, whose slots have rosters, and one more event comes in time

@@ -1,20 +1,17 @@
 -- What holds of the ballots of each replica of a node in any journal.
 use Rattle.std.specs.Prelude.{◌≡◌, ℕ, Bool, true, List, Some}
-use Rattle.sc_base.specs.Among.{Each}
-use Rattle.sc_cmd.specs.declared.cores.Base.{Base}
-use Rattle.sc_mail.specs.declared.roles.Role.TheVariants.{Node}
-use Rattle.sc_actor.specs.declared.actors.Seat.{Seat}
-use Rattle.sc_actor.specs.Replay.{value}
-use Rattle.sc_paxos_words.specs.Ballots.{IsAtLeast}
-use Rattle.sc_node_table.specs.Node.{NodeState, born_node}
-use Rattle.sc_node_table.specs.Replica.{ReplicaState}
-use Rattle.sc_node_table.specs.Slots.{slots_ahead}
-use Rattle.sc_sound.specs.Players.{Player, player_table}
-use Rattle.sc_calm_law.specs.Totals.{Rows}
+use Rattle.sc_base.specs.Definitions.{Each}
+use Rattle.sc_node_table.specs.Values.{Base, Node, Seat}
+use Rattle.sc_actor.specs.Definitions.{value}
+use Rattle.sc_paxos_words.specs.Definitions.{IsAtLeast}
+use Rattle.sc_node_table.specs.Definitions.{NodeState, born_node, ReplicaState, slots_ahead}
+use Rattle.sc_sound.specs.Definitions.{Player, player_table}
+use Rattle.sc_calm_law.specs.Definitions.{Rows}
+use Rattle.sc_law_lemmas.specs.Definitions.{IsKept}
 
--- It is its node's, and has promised no later ballot than the greatest that it saw; and where it runs, that is the one it runs with, and it takes itself for the leader.
+-- It is its node's, and has promised no later ballot than the greatest that it saw; where it runs, that is the one it runs with, and it takes itself for the leader; and it is kept as any replica is.
 abbrev pub IsTopKept : ℕ → ReplicaState → Type 0
-IsTopKept me r = (r.me ≡ me) × IsAtLeast r.top r.acceptor.promised × (r.running ≡ true → (r.top ≡ r.leader.ballot) × (r.hint ≡ Some me))
+IsTopKept me r = (r.me ≡ me) × IsAtLeast r.top r.acceptor.promised × (r.running ≡ true → (r.top ≡ r.leader.ballot) × (r.hint ≡ Some me)) × IsKept me r
 
 -- each replica of a node is so
 abbrev pub IsTopKeptNode : NodeState → Type 0

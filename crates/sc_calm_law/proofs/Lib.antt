@@ -32,3 +32,5 @@ pub mod OwedTotals
 pub mod OwedTransactions
 pub mod OwedVotes
 pub mod QuietBirth
+pub mod Laws
+pub mod Lemmas

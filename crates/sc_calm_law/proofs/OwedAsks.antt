@@ -2,39 +2,16 @@
 use Rattle.std.proofs.Common.{◌≡◌, ℕ, ◌+◌, ◌*◌, ◌≤◌, ◌&&◌, not, Bool, true, false, cond, List, [], ◌∷◌, ◌++◌, append-nil, sum_by, Option, Some, None, refl, ◌∙◌, ap, arith}
 use Rattle.std.specs.Prelude.{nat_le}
 use Rattle.std.proofs.lemmas.List.Sums.{sum_by_push, sum_by-cons}
-use Rattle.sc_base.specs.Limits.{client_actor}
-use Rattle.sc_base.specs.declared.names.Ballot.{Ballot}
-use Rattle.sc_base.specs.declared.names.Draw.{Draw}
-use Rattle.sc_base.specs.declared.ops.Op.{Op}
-use Rattle.sc_base.specs.Same.{same_ballot}
-use Rattle.sc_ideal.specs.IdealStore.{key_of, holds_key}
-use Rattle.sc_cmd.specs.declared.bodies.Offer.{Offer}
-use Rattle.sc_cmd.specs.declared.bodies.Watch.{Watch}
-use Rattle.sc_cmd.specs.declared.commands.Command.{Command}
-use Rattle.sc_cmd.specs.declared.commands.Command.TheVariants.{Call, Prepared, Watched}
-use Rattle.sc_cmd.specs.declared.links.Route.{Route}
-use Rattle.sc_cmd.specs.declared.votes.Past.{Past}
+use Rattle.sc_base.specs.Definitions.{client_actor, same_ballot, is_member}
+use Rattle.sc_node_table.specs.Values.{Ballot, Draw, Op, Offer, Watch, Command, Call, Prepared, Watched, Route, Past, AnswerBody, Mail, Answer, TxVote, TxWatched, TxElsewhere, Report}
+use Rattle.sc_ideal.specs.Definitions.{key_of, holds_key}
 use Rattle.sc_cmd.specs.declared.votes.Past.TheVariants as Cast
 use Rattle.sc_cmd.specs.declared.votes.Vote.TheVariants as Votes
-use Rattle.sc_mail.specs.declared.bodies.AnswerBody.{AnswerBody}
 use Rattle.sc_mail.specs.declared.bodies.AnswerBody.TheVariants as Says
-use Rattle.sc_mail.specs.declared.bodies.Mail.{Mail}
-use Rattle.sc_mail.specs.declared.bodies.MailBody.TheVariants.{Answer, TxVote, TxWatched, TxElsewhere}
-use Rattle.sc_base.specs.Roster.{is_member}
-use Rattle.sc_machine_table.specs.Orders.{locked_in}
-use Rattle.sc_machine_table.specs.Plans.{frozen_of}
-use Rattle.sc_machine_table.specs.Splits.{is_locked_in}
-use Rattle.sc_paxos_words.specs.declared.reports.Report.{Report}
-use Rattle.sc_paxos_words.specs.Leaders.{LeaderState, must, promise_counted}
-use Rattle.sc_node_table.specs.Acts.{act_queued}
-use Rattle.sc_node_table.specs.Pump.{serves_calls, pumped}
-use Rattle.sc_node_table.specs.Queues.{call_of, is_call_of, without_call}
-use Rattle.sc_node_table.specs.Replica.{ReplicaState, Place, name_of}
-use Rattle.sc_node_table.specs.Rows.{call_refusal, refused_at, queued, requested, request_row}
-use Rattle.sc_node_table.specs.Transactions.{standing_by, standing_vote, noted_vote, voted_to, sent_elsewhere, offered_by, offer_row, watched_to, watched_by, watch_row}
-use Rattle.sc_node_table.specs.Voting.{leads, promise_row}
-use Rattle.sc_calm_law.specs.Laws.{MayPump, IsUnbound, Points}
-use Rattle.sc_calm_law.specs.Owed.{Ways, command_owes, answer_owes, prepare_owes, watch_owes, asked_owes, elsewhere_owes, mail_owes, flights_owe, place_owes}
+use Rattle.sc_machine_table.specs.Definitions.{locked_in, frozen_of, is_locked_in}
+use Rattle.sc_paxos_words.specs.Definitions.{LeaderState, must, promise_counted}
+use Rattle.sc_node_table.specs.Definitions.{act_queued, serves_calls, pumped, call_of, is_call_of, without_call, ReplicaState, Place, name_of, call_refusal, refused_at, queued, requested, request_row, standing_by, standing_vote, noted_vote, voted_to, sent_elsewhere, offered_by, offer_row, watched_to, watched_by, watch_row, leads, promise_row}
+use Rattle.sc_calm_law.specs.Definitions.{MayPump, IsUnbound, Points, Ways, command_owes, answer_owes, prepare_owes, watch_owes, asked_owes, elsewhere_owes, mail_owes, flights_owe, place_owes}
 use Rattle.sc_calm_law.proofs.OwedSums.{sent_owes}
 use Rattle.sc_calm_law.proofs.OwedPump.{pump_owes}
 use Rattle.sc_calm_law.proofs.OwedRows.{queued_owes}

@@ -2,32 +2,15 @@
 use Rattle.std.proofs.Common.{◌≡◌, ℕ, ◌+◌, ◌≤◌, eqb, ltb, not, Bool, true, false, true≢false, cond, List, length, sum_by, Option, Some, None, refl, sym, ◌∙◌, ap, arith}
 use Rattle.std.specs.FinMap.{get}
 use Rattle.std.specs.List.{filter}
-use Rattle.sc_base.specs.declared.names.Draw.{Draw}
-use Rattle.sc_base.specs.declared.ops.Noted.{Noted}
-use Rattle.sc_base.specs.declared.ops.Op.{Op}
-use Rattle.sc_base.specs.Limits.{client_actor}
-use Rattle.sc_ideal.specs.IdealStore.{key_of, holds_key}
-use Rattle.sc_cmd.specs.declared.commands.Command.TheVariants.{Call}
-use Rattle.sc_cmd.specs.declared.cores.Lock.{Lock}
-use Rattle.sc_cmd.specs.declared.cores.Lock.TheVariants.{Free, Coordinating, Promised, Watching}
-use Rattle.sc_cmd.specs.declared.effects.Effect.{Effect}
+use Rattle.sc_node_table.specs.Values.{Draw, Noted, Op, Call, Lock, Free, Coordinating, Promised, Watching, Effect, Route, AnswerBody, Mail, Answer}
+use Rattle.sc_base.specs.Definitions.{client_actor, is_member}
+use Rattle.sc_ideal.specs.Definitions.{key_of, holds_key}
 use Rattle.sc_cmd.specs.declared.effects.Effect.TheVariants as Was
-use Rattle.sc_cmd.specs.declared.links.Route.{Route}
-use Rattle.sc_mail.specs.declared.bodies.AnswerBody.{AnswerBody}
 use Rattle.sc_mail.specs.declared.bodies.AnswerBody.TheVariants as Says
-use Rattle.sc_mail.specs.declared.bodies.Mail.{Mail}
-use Rattle.sc_mail.specs.declared.bodies.MailBody.TheVariants.{Answer}
-use Rattle.sc_base.specs.Roster.{is_member}
-use Rattle.sc_machine_table.specs.Group.{Group}
-use Rattle.sc_machine_table.specs.Machine.{applied, called, served, served_by_note, done}
+use Rattle.sc_machine_table.specs.Definitions.{Group, applied, called, served, served_by_note, done}
 use Rattle.sc_node_table.specs.declared.Before.{Before}
-use Rattle.sc_node_table.specs.Execute.{entered, told_effect, told_call, announced, answer_of, executed_one}
-use Rattle.sc_node_table.specs.Pump.{serves_calls}
-use Rattle.sc_node_table.specs.Replica.{ReplicaState, Place, name_of, members, forgotten}
-use Rattle.sc_node_table.specs.Spoken.{before_of, went_on, spoken_mails, spoken}
-use Rattle.sc_calm_law.specs.Executing.{IsServed}
-use Rattle.sc_calm_law.specs.Laws.{said_place, newcomers, IsCounting, LeadsOn}
-use Rattle.sc_calm_law.specs.Owed.{Ways, answer_owes, mail_owes, place_owes}
+use Rattle.sc_node_table.specs.Definitions.{entered, told_effect, told_call, announced, answer_of, executed_one, serves_calls, ReplicaState, Place, name_of, members, forgotten, before_of, went_on, spoken_mails, spoken}
+use Rattle.sc_calm_law.specs.Definitions.{IsServed, said_place, newcomers, IsCounting, LeadsOn, Ways, answer_owes, mail_owes, place_owes}
 use Rattle.sc_calm_law.proofs.OwedSums.{sent_owes}
 use Rattle.sc_calm_law.proofs.OwedLearnt.{begun_owes}
 use Rattle.sc_calm_law.proofs.OwedCounted.{counted_owes}

@@ -3,24 +3,12 @@ use Rattle.std.proofs.Common.{◌≡◌, ℕ, ◌+◌, ◌*◌, ◌≤◌, ◌||
 use Rattle.std.specs.List.{filter}
 use Rattle.std.proofs.lemmas.Bool.{eq-eqb, or_right}
 use Rattle.std.proofs.lemmas.List.Elements.{filter-append}
-use Rattle.sc_base.specs.Among.{Among}
-use Rattle.sc_cmd.specs.declared.commands.Command.{Command}
-use Rattle.sc_cmd.specs.declared.commands.Command.TheVariants.{Noop, Call, Join, Leave, Split, Begin, Prepared, RecordVote, GiveUp, Finish, Watched, RecordWatch}
-use Rattle.sc_cmd.specs.declared.effects.Effect.{Effect}
-use Rattle.sc_cmd.specs.declared.links.Route.{Route}
-use Rattle.sc_cmd.specs.declared.orders.OrderRefusal.{OrderRefusal}
-use Rattle.sc_mail.specs.declared.bodies.AnswerBody.{AnswerBody}
-use Rattle.sc_mail.specs.declared.bodies.Mail.{Mail}
-use Rattle.sc_base.specs.Roster.{is_member, with_member}
-use Rattle.sc_machine_table.specs.Group.{Group}
-use Rattle.sc_machine_table.specs.Machine.{applied}
-use Rattle.sc_machine_table.specs.Orders.{ordered, refusal_of, with_node, without_node}
+use Rattle.sc_base.specs.Definitions.{Among, is_member, with_member}
+use Rattle.sc_node_table.specs.Values.{Command, Noop, Call, Join, Leave, Split, Begin, Prepared, RecordVote, GiveUp, Finish, Watched, RecordWatch, Effect, Route, OrderRefusal, AnswerBody, Mail}
+use Rattle.sc_machine_table.specs.Definitions.{Group, applied, ordered, refusal_of, with_node, without_node}
 use Rattle.sc_node_table.specs.declared.Before.{Before}
-use Rattle.sc_node_table.specs.Execute.{entered, order_result, told_effect, told_call, announced, answer_of, executed_one}
-use Rattle.sc_node_table.specs.Replica.{ReplicaState, Place, members, forgotten}
-use Rattle.sc_node_table.specs.Spoken.{before_of, told_begun, went_on, spoken_mails, spoken}
-use Rattle.sc_calm_law.specs.Laws.{said_place, newcomers, IsChange, LeadsOn, StopsAfter}
-use Rattle.sc_calm_law.specs.Owed.{Ways, offered_owes, mail_owes, place_owes}
+use Rattle.sc_node_table.specs.Definitions.{entered, order_result, told_effect, told_call, announced, answer_of, executed_one, ReplicaState, Place, members, forgotten, before_of, told_begun, went_on, spoken_mails, spoken}
+use Rattle.sc_calm_law.specs.Definitions.{said_place, newcomers, IsChange, LeadsOn, StopsAfter, Ways, offered_owes, mail_owes, place_owes}
 use Rattle.sc_calm_law.proofs.OwedLearnt.{effect_owes, begun_owes}
 use Rattle.sc_calm_law.proofs.OwedCounted.{counted_owes, leaving_owes}
 

@@ -1,17 +1,12 @@
 -- By a chart that follows another no more is owed.
 use Rattle.std.proofs.Common.{◌≡◌, ℕ, ◌≤◌, true, cond, List, [], ◌∷◌, sum_by, ap, arith}
 use Rattle.std.proofs.lemmas.List.Sums.{sum_by-cons, sum_by-append}
-use Rattle.sc_base.specs.Among.{Each}
-use Rattle.sc_base.specs.declared.names.Draw.{Draw}
-use Rattle.sc_mail.specs.declared.roles.Role.TheVariants.{Node, Client}
-use Rattle.sc_actor.specs.declared.actors.Seat.{Seat}
-use Rattle.sc_actor.specs.Replay.{value}
-use Rattle.sc_orderly_law.specs.Owing.{under_way}
-use Rattle.sc_sound.specs.Players.{Player, player_table}
-use Rattle.sc_calm_law.specs.Charts.{players, Chart, player_owes, SeeksNoMore, ChartsMayChange}
-use Rattle.sc_calm_law.specs.Nodes.{node_owes}
-use Rattle.sc_calm_law.specs.Owed.{mail_owes, election}
-use Rattle.sc_calm_law.specs.Totals.{Rows, is_led, group_idles}
+use Rattle.sc_base.specs.Definitions.{Each}
+use Rattle.sc_node_table.specs.Values.{Draw, Node, Client, Seat}
+use Rattle.sc_actor.specs.Definitions.{value}
+use Rattle.sc_orderly_law.specs.Definitions.{under_way}
+use Rattle.sc_sound.specs.Definitions.{Player, player_table}
+use Rattle.sc_calm_law.specs.Definitions.{players, Chart, player_owes, SeeksNoMore, ChartsMayChange, node_owes, mail_owes, election, Rows, is_led, group_idles}
 
 each_less : {X : Type 0} (f g : X → ℕ) (xs : List X) → Each (λ x. f x ≤ g x) xs → sum_by f xs ≤ sum_by g xs
 each_less f g [] each = omega arith
@@ -46,6 +41,7 @@ led_idle births rows (group ∷ groups) each =
     let s = sum_by-cons (group_idles births rows) group groups in
     omega (arith, more, one, s)
 
+-- What is owed may be counted by another chart after a row: where no mail under way and no client owes more by it, and the groups that come into it are led, all owe no more by it.
 pub charts_may_change : ChartsMayChange
 charts_may_change words births rows old new is =
     let clients = players_less old new is.most rows births is.clients in

@@ -5,20 +5,13 @@ use Rattle.std.specs.Option.{option_map}
 use Rattle.std.proofs.lemmas.Bool.{eqb-true, leb-true}
 use Rattle.std.proofs.lemmas.List.{length_push}
 use Rattle.std.proofs.lemmas.List.Sums.{sum_by-cons}
-use Rattle.sc_base.specs.Same.{same_draw}
-use Rattle.sc_base.specs.declared.names.Draw.{Draw}
-use Rattle.sc_base.specs.declared.ops.Op.{Op}
-use Rattle.sc_base.specs.declared.ops.Reply.{Reply}
-use Rattle.sc_lookup.specs.Known.{KnownGroups, way_to, target_in, changed, preferring, passed_on}
-use Rattle.sc_lookup.specs.Ways.{target_of}
+use Rattle.sc_base.specs.Definitions.{same_draw}
+use Rattle.sc_node_table.specs.Values.{Draw, Op, Reply, Answer}
+use Rattle.sc_lookup.specs.Definitions.{KnownGroups, way_to, target_in, changed, preferring, passed_on, target_of}
 use Rattle.sc_lookup.specs.declared.ways.Way.{Way}
 use Rattle.sc_mail.specs.declared.bodies.AnswerBody.TheVariants as Says
-use Rattle.sc_mail.specs.declared.bodies.MailBody.TheVariants.{Answer}
-use Rattle.sc_client_table.specs.Client.{Client as ClientState, waiting_request}
-use Rattle.sc_client_table.specs.Table.{request_of, asked_of, sent_where, chosen_for, request_sent, started, waits_for, was_asked, redirected, got}
-use Rattle.sc_calm_law.specs.Clients.{waiting_one, requests_owe, step_owes, AsksWithin, IsInTurn, ClientsLower}
-use Rattle.sc_calm_law.specs.Executing.{AreBounded}
-use Rattle.sc_calm_law.specs.Owed.{Ways, answer_owes, mail_owes}
+use Rattle.sc_client_table.specs.Definitions.{Client as ClientState, waiting_request, request_of, asked_of, sent_where, chosen_for, request_sent, started, waits_for, was_asked, redirected, got}
+use Rattle.sc_calm_law.specs.Definitions.{waiting_one, requests_owe, step_owes, AsksWithin, IsInTurn, ClientsLower, AreBounded, Ways, answer_owes, mail_owes}
 
 module _ (ways : Ways) where
   -- ---- a request goes out
@@ -113,6 +106,7 @@ module _ (ways : Ways) where
       by true false le some = omega (arith, some)
       by false c le some = omega (arith, some)
 
+-- A reply, and an answer that names another node or none, lower what is owed at their client, and a client that goes raises it by the way of its first request at most.
 pub clients : ClientsLower
 clients = record {
   go = λ ways most client idle none near. (let zero_ = ap length none in let le = started_owes ways most 1 client near (omega (arith, zero_)) in let one = ap waiting_one idle in omega (arith, le, zero_, one));

@@ -2,28 +2,17 @@
 use Rattle.std.proofs.Common.{◌≡◌, ℕ, ◌+◌, ◌-◌, ◌*◌, ◌≤◌, ◌||◌, not, eqb, Bool, true, false, true≢false, cond, List, [], ◌∷◌, ◌++◌, length, sum_by, Option, Some, None, refl, sym, ◌∙◌, ap, arith}
 use Rattle.std.specs.Option.{option_map}
 use Rattle.std.specs.List.{filter}
-use Rattle.sc_cmd.specs.declared.commands.Command.{Command}
-use Rattle.sc_cmd.specs.declared.links.Route.{Route}
+use Rattle.sc_node_table.specs.Values.{Command, Route, Mail, MailBody, Learn, Prepare, Install, Flight}
 use Rattle.sc_mail.specs.declared.bodies.AnswerBody.TheVariants as Says
-use Rattle.sc_mail.specs.declared.bodies.Mail.{Mail}
-use Rattle.sc_mail.specs.declared.bodies.MailBody.{MailBody}
-use Rattle.sc_mail.specs.declared.bodies.MailBody.TheVariants.{Learn, Prepare, Install}
-use Rattle.sc_base.specs.Roster.{is_member, least_of}
-use Rattle.sc_machine_table.specs.Group.{Group, base_of}
-use Rattle.sc_paxos_words.specs.declared.flights.Flight.{Flight}
-use Rattle.sc_paxos_words.specs.Leaders.{LeaderState, flight_at, without_flight, without_flight_at}
-use Rattle.sc_node_table.specs.Election.{ended, stopped}
-use Rattle.sc_node_table.specs.Execute.{entered, learnt_to, welcomed, slot_lost, landed, left_gone, left, looked_for, looked, executed_one}
-use Rattle.sc_node_table.specs.Install.{install_to, asked_to_promise, welcomed_all}
-use Rattle.sc_node_table.specs.Mails.{sent, sent_others, answered_all, dismissed_all}
-use Rattle.sc_node_table.specs.Replica.{ReplicaState, Place, name_of, next, members, flying, forgotten, either, listed, taken_at, taken_from, open_slots, under_way}
-use Rattle.sc_node_table.specs.Slots.{at_slot, without_slot}
-use Rattle.sc_calm_law.specs.Laws.{IsCounting, newcomers, said_place}
-use Rattle.sc_calm_law.specs.Owed.{Ways, offered_owes, body_owes, mail_owes, replica_owes, idle_owes, election, place_owes}
+use Rattle.sc_base.specs.Definitions.{is_member, least_of}
+use Rattle.sc_machine_table.specs.Definitions.{Group, base_of}
+use Rattle.sc_paxos_words.specs.Definitions.{LeaderState, flight_at, without_flight, without_flight_at}
+use Rattle.sc_node_table.specs.Definitions.{ended, stopped, entered, learnt_to, welcomed, slot_lost, landed, left_gone, left, looked_for, looked, executed_one, install_to, asked_to_promise, welcomed_all, sent, sent_others, answered_all, dismissed_all, ReplicaState, Place, name_of, next, members, flying, forgotten, either, listed, taken_at, taken_from, open_slots, under_way, at_slot, without_slot}
+use Rattle.sc_calm_law.specs.Definitions.{IsCounting, newcomers, said_place, Ways, offered_owes, body_owes, mail_owes, replica_owes, idle_owes, election, place_owes}
 use Rattle.sc_calm_law.proofs.OwedSums.{sent_owes, without_flight_owes, taken_slot_owes}
 use Rattle.sc_calm_law.proofs.OwedLearnt.{entered_owes, entered_running, entered_flights, entered_ready, looked_owes}
 
-entered_me : (command : Command) (r : ReplicaState) → (entered command r).me ≡ r.me
+pub entered_me : (command : Command) (r : ReplicaState) → (entered command r).me ≡ r.me
 unfolding entered forgotten
 entered_me command r = refl
 

@@ -1,24 +1,13 @@
 -- A leader whose group is gone after a counted entry: its waiting calls are sent on, each for no more than it owed.
 use Rattle.std.proofs.Common.{◌≡◌, ℕ, ◌+◌, ◌*◌, ◌≤◌, true, false, cond, List, [], ◌∷◌, length, sum_by, Option, Some, None, refl, ◌∙◌, ap, arith}
 use Rattle.std.proofs.lemmas.List.Sums.{sum_by-cons}
-use Rattle.sc_base.specs.Limits.{client_actor}
-use Rattle.sc_base.specs.declared.names.Draw.{Draw}
-use Rattle.sc_cmd.specs.declared.commands.Command.{Command}
-use Rattle.sc_cmd.specs.declared.commands.Command.TheVariants.{Noop, Call, Join, Leave, Split, Begin, Prepared, RecordVote, GiveUp, Finish, Watched, RecordWatch}
-use Rattle.sc_cmd.specs.declared.links.Route.{Route}
+use Rattle.sc_base.specs.Definitions.{client_actor}
+use Rattle.sc_node_table.specs.Values.{Draw, Command, Noop, Call, Join, Leave, Split, Begin, Prepared, RecordVote, GiveUp, Finish, Watched, RecordWatch, Route, Refused, Mail, Answer}
 use Rattle.sc_cmd.specs.declared.orders.OrderRefusal.TheVariants.{NotLeader}
-use Rattle.sc_cmd.specs.declared.orders.ToldResult.TheVariants.{Refused}
 use Rattle.sc_mail.specs.declared.bodies.AnswerBody.TheVariants as Says
-use Rattle.sc_mail.specs.declared.bodies.Mail.{Mail}
-use Rattle.sc_mail.specs.declared.bodies.MailBody.TheVariants.{Answer}
-use Rattle.sc_machine_table.specs.Group.{Group}
-use Rattle.sc_node_table.specs.Election.{ended}
-use Rattle.sc_node_table.specs.Execute.{entered, left_gone, left, looked_for, looked, executed_one}
-use Rattle.sc_node_table.specs.Mails.{answered_all, dismissed, dismissed_all, order_number, told_order}
-use Rattle.sc_node_table.specs.Replica.{ReplicaState, Place, name_of, open_slots}
-use Rattle.sc_calm_law.specs.Executing.{EndsAfter, ArePaid}
-use Rattle.sc_calm_law.specs.Laws.{said_place, newcomers}
-use Rattle.sc_calm_law.specs.Owed.{Ways, command_owes, offered_owes, mail_owes, idle_owes, place_owes}
+use Rattle.sc_machine_table.specs.Definitions.{Group}
+use Rattle.sc_node_table.specs.Definitions.{ended, entered, left_gone, left, looked_for, looked, executed_one, answered_all, dismissed, dismissed_all, order_number, told_order, ReplicaState, Place, name_of, open_slots}
+use Rattle.sc_calm_law.specs.Definitions.{EndsAfter, ArePaid, said_place, newcomers, Ways, command_owes, offered_owes, mail_owes, idle_owes, place_owes}
 use Rattle.sc_calm_law.proofs.OwedSums.{sent_owes}
 use Rattle.sc_calm_law.proofs.OwedLearnt.{desk_owes}
 use Rattle.sc_calm_law.proofs.OwedCounted.{counted_ends, taken_none}

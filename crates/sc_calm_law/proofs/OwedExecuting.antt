@@ -1,30 +1,16 @@
 -- Entries that a leader executes one after another raise nothing, where each is paid for.
 use Rattle.std.proofs.Common.{◌≡◌, ℕ, ◌+◌, ◌*◌, ◌≤◌, Bool, true, false, List, [], ◌∷◌, length, sum_by, Option, Some, None, ◌⊎◌, inl, inr, refl, sym, ◌∙◌, ap, subst, arith}
-use Rattle.sc_base.specs.declared.names.Draw.{Draw}
-use Rattle.sc_cmd.specs.declared.commands.Command.{Command}
-use Rattle.sc_cmd.specs.declared.commands.Command.TheVariants.{Noop, Call, Join, Leave, Split, Begin, Prepared, RecordVote, GiveUp, Finish, Watched, RecordWatch}
-use Rattle.sc_cmd.specs.declared.votes.Past.{Past}
+use Rattle.sc_node_table.specs.Values.{Draw, Command, Noop, Call, Join, Leave, Split, Begin, Prepared, RecordVote, GiveUp, Finish, Watched, RecordWatch, Past, Vote, Mail, Report}
 use Rattle.sc_cmd.specs.declared.votes.Past.TheVariants as Cast
-use Rattle.sc_cmd.specs.declared.votes.Vote.{Vote}
-use Rattle.sc_cmd.specs.Effects.{is_changed}
-use Rattle.sc_mail.specs.declared.bodies.Mail.{Mail}
-use Rattle.sc_base.specs.Roster.{is_member, least_of}
-use Rattle.sc_machine_table.specs.Group.{Group}
-use Rattle.sc_machine_table.specs.Machine.{applied}
-use Rattle.sc_paxos_words.specs.declared.reports.Report.{Report}
-use Rattle.sc_paxos_words.specs.Leaders.{must}
-use Rattle.sc_paxos_words.specs.Logs.{LogState, next_of}
-use Rattle.sc_node_table.specs.Election.{ended, stopped}
-use Rattle.sc_node_table.specs.Execute.{entered, looked, executed_one, next_child, next_ready, ending, executed_ready, executed}
-use Rattle.sc_node_table.specs.Pump.{pumped}
-use Rattle.sc_node_table.specs.Replica.{ReplicaState, Place, Executed, childless, next, members}
-use Rattle.sc_node_table.specs.Slots.{without_slot}
-use Rattle.sc_law_lemmas.specs.Steps.{IfThere}
-use Rattle.sc_calm_law.specs.Executing.{AreBounded, EndsAfter, LeavesFew, IsWatchPaid, IsPaid, MayGoOn, ArePaid, AllPaid}
-use Rattle.sc_calm_law.specs.Laws.{said_place, newcomers, AreNines, MayPump, IsChange, LeadsOn, StopsAfter, ExecutesFreely}
-use Rattle.sc_calm_law.specs.Owed.{Ways, election, offered_owes, mail_owes, place_owes}
+use Rattle.sc_cmd.specs.Definitions.{is_changed}
+use Rattle.sc_base.specs.Definitions.{is_member, least_of}
+use Rattle.sc_machine_table.specs.Definitions.{Group, applied}
+use Rattle.sc_paxos_words.specs.Definitions.{must, LogState, next_of}
+use Rattle.sc_node_table.specs.Definitions.{ended, stopped, entered, looked, executed_one, next_child, next_ready, ending, executed_ready, executed, pumped, ReplicaState, Place, Executed, childless, next, members, without_slot}
+use Rattle.sc_law_lemmas.specs.Definitions.{IfThere}
+use Rattle.sc_calm_law.specs.Definitions.{AreBounded, EndsAfter, LeavesFew, IsWatchPaid, IsPaid, MayGoOn, ArePaid, AllPaid, said_place, newcomers, AreNines, MayPump, IsChange, LeadsOn, StopsAfter, ExecutesFreely, Ways, election, offered_owes, mail_owes, place_owes}
 use Rattle.sc_calm_law.proofs.OwedPump.{pump_owes}
-use Rattle.sc_law_lemmas.proofs.Entries.{entered_next, idle_pump}
+use Rattle.sc_law_lemmas.proofs.Lemmas.{entered_next, idle_pump}
 use Rattle.sc_calm_law.proofs.OwedLearn.{IsFresh, looked_fresh, unbound_new}
 use Rattle.sc_calm_law.proofs.OwedCounted.{Counts, counted_ends, counted_owes, leaving_owes, left_same, looked_same, left_stops, stops_idle}
 use Rattle.sc_calm_law.proofs.OwedChanges.{silent_said, changes_owe, leader_leaves}
@@ -239,6 +225,7 @@ paid_ends (Finish tx outcome) place (inr ends) = (record { most = 0; says = fini
 paid_ends (Watched tx watch) place paid = (record { most = _; says = watched_said near tx watch place.0 place.1 }, inl paid)
 paid_ends (RecordWatch tx vote by) place paid = watch_ends tx vote by place paid
 
+-- A paid entry behind which nothing is ready needs no more than that, where the replica may pump.
 pub lone_paid : (command : Command) (place : Place) → IsPaid command place.0 → without_slot place.0.ready (next place.0) ≡ [] → MayPump place.0 → LeavesFew command place.0 → AllPaid command place
 lone_paid command place paid alone may few =
     let follows = paid_ends command place paid in

@@ -1,11 +1,9 @@
 -- Where a replica does not run, nothing that is ready is executed.
 use Rattle.std.proofs.Common.{◌≡◌, ℕ, ◌&&◌, true, false, true≢false, cond, List, [], ◌∷◌, None, sym, ◌∙◌, ap, subst}
-use Rattle.sc_cmd.specs.declared.commands.Command.{Command}
-use Rattle.sc_node_table.specs.Execute.{executed_one, has_room}
-use Rattle.sc_node_table.specs.Replica.{Place, next}
-use Rattle.sc_node_table.specs.Slots.{at_slot}
-use Rattle.sc_law_lemmas.specs.Steps.{IfThere}
-use Rattle.sc_calm_law.specs.Executing.{IsPaid, MayGoOn, ArePaid}
+use Rattle.sc_node_table.specs.Values.{Command}
+use Rattle.sc_node_table.specs.Definitions.{executed_one, has_room, Place, next, at_slot}
+use Rattle.sc_law_lemmas.specs.Definitions.{IfThere}
+use Rattle.sc_calm_law.specs.Definitions.{IsPaid, MayGoOn, ArePaid}
 
 pub idle_paid : (es : List (ℕ × Command)) (place : Place) → place.0.running ≡ false → ArePaid es place
 idle_paid [] place off = λ runs. absurd (true≢false (sym runs ∙ off))

@@ -1,26 +1,11 @@
 -- Rows of an Install at one that does not run, and of a mail that sends a coordinator elsewhere.
 use Rattle.std.proofs.Common.{◌≡◌, ℕ, ◌+◌, ◌≤◌, ◌||◌, not, Bool, true, false, cond, List, length, sum_by, Option, Some, None, refl, ◌∙◌, ap, arith}
 use Rattle.std.specs.Prelude.{nat_lt, ◌==◌}
-use Rattle.sc_base.specs.declared.names.Draw.{Draw}
-use Rattle.sc_base.proofs.NameLemmas.{draw_is}
-use Rattle.sc_base.specs.Same.{same_draw}
-use Rattle.sc_cmd.specs.declared.bodies.Body.{Body}
-use Rattle.sc_cmd.specs.declared.cores.Base.{Base}
-use Rattle.sc_cmd.specs.declared.cores.Lock.{Lock}
-use Rattle.sc_cmd.specs.declared.cores.Lock.TheVariants.{Free, Coordinating, Promised, Watching}
-use Rattle.sc_cmd.specs.declared.links.Route.{Route}
-use Rattle.sc_cmd.specs.declared.votes.Heard.{Heard}
-use Rattle.sc_mail.specs.declared.bodies.Mail.{Mail}
-use Rattle.sc_base.specs.Roster.{is_member}
-use Rattle.sc_node_table.specs.Election.{stopped}
-use Rattle.sc_node_table.specs.Execute.{looked}
-use Rattle.sc_node_table.specs.Install.{jumped}
-use Rattle.sc_node_table.specs.Questions.{question, asked_node}
-use Rattle.sc_node_table.specs.Replica.{ReplicaState, Place, next, members, settled, last_slot, forgotten}
-use Rattle.sc_node_table.specs.Rows.{looked_up, took_over, install_row}
-use Rattle.sc_node_table.specs.Transactions.{asked_next, elsewhere_row}
-use Rattle.sc_calm_law.specs.Laws.{AsksAs}
-use Rattle.sc_calm_law.specs.Owed.{Ways, body_owes, asked_owes, mail_owes, replica_owes, idle_owes, election, place_owes}
+use Rattle.sc_node_table.specs.Values.{Draw, Body, Base, Lock, Free, Coordinating, Promised, Watching, Route, Heard, Mail}
+use Rattle.sc_base.proofs.Lemmas.{draw_is}
+use Rattle.sc_base.specs.Definitions.{same_draw, is_member}
+use Rattle.sc_node_table.specs.Definitions.{stopped, looked, jumped, question, asked_node, ReplicaState, Place, next, members, settled, last_slot, forgotten, looked_up, took_over, install_row, asked_next, elsewhere_row}
+use Rattle.sc_calm_law.specs.Definitions.{AsksAs, Ways, body_owes, asked_owes, mail_owes, replica_owes, idle_owes, election, place_owes}
 use Rattle.sc_calm_law.proofs.OwedSums.{sent_owes}
 use Rattle.sc_calm_law.proofs.OwedLearnt.{looked_owes}
 

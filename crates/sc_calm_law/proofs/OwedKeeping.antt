@@ -3,47 +3,17 @@ use Rattle.std.proofs.Common.{◌≡◌, ℕ, ◌+◌, ◌*◌, ◌≤◌, eqb, 
 use Rattle.std.specs.List.{filter}
 use Rattle.std.specs.Option.{option_map}
 use Rattle.std.proofs.lemmas.List.Sums.{sum_by-append}
-use Rattle.sc_base.specs.declared.names.Draw.{Draw}
-use Rattle.sc_cmd.specs.declared.orders.OrderLine.{OrderLine}
-use Rattle.sc_mail.specs.declared.bodies.Mail.{Mail}
-use Rattle.sc_mail.specs.declared.bodies.MailBody.{MailBody}
-use Rattle.sc_mail.specs.declared.bodies.MailBody.TheVariants.{Request, Answer, Prepare, Promise, Accept, Accepted, Nack, Learn, Ask, Install, TxPrepare, TxVote, TxOutcome, TxElsewhere, TxWatch, TxWatched, Told as ToldMail}
-use Rattle.sc_mail.specs.declared.roles.Role.TheVariants.{Node, Client}
-use Rattle.sc_actor.specs.declared.actors.Seat.{Seat}
-use Rattle.sc_actor.specs.declared.rows.Event.{Event}
-use Rattle.sc_actor.specs.declared.rows.Event.TheVariants.{Deliver, Tick, Go, Told, Crash, Drop, Again}
-use Rattle.sc_actor.specs.declared.rows.Input.{Input}
-use Rattle.sc_actor.specs.declared.rows.Input.TheVariants.{Got, Go as GoInput, Told as ToldInput}
-use Rattle.sc_actor.specs.declared.rows.Row.{Row}
-use Rattle.sc_actor.specs.declared.schedules.Line.{Line}
-use Rattle.sc_actor.specs.Mail.{mails, copies, counts_at, is_delivery}
-use Rattle.sc_actor.specs.Replay.{value, acted, input_of}
-use Rattle.sc_actor.specs.System.{are_apart, row_of}
-use Rattle.sc_actor.specs.Walk.{IsLawful, is_quiet}
-use Rattle.sc_actor.proofs.PendingLemmas.{waiting_one}
-use Rattle.sc_actor.proofs.WalkLemmas.{lawful-prefix}
-use Rattle.sc_orderly_law.specs.Orderly.{IsCalmEvent, mail_with, is_born, is_told, deliveries}
-use Rattle.sc_orderly_law.specs.Owing.{under_way}
-use Rattle.sc_orderly_law.specs.Timely.{AreInTime}
-use Rattle.sc_orderly_law.proofs.InTime.{in_time_before, in_time_tidy, last_in_time}
-use Rattle.sc_orderly_law.proofs.Ordering.{by_rows}
-use Rattle.sc_orderly_law.proofs.Paying.{count_push, delivered}
-use Rattle.sc_orderly_law.proofs.Rests.{filter_sum}
-use Rattle.sc_orderly_law.proofs.Resting.{after-row, is_born-from}
-use Rattle.sc_node_table.specs.Node.{NodeState, on_mail, ordered_of, on_order}
-use Rattle.sc_client_table.specs.Client.{Client as ClientState}
-use Rattle.sc_client_table.specs.Table.{started, got}
-use Rattle.sc_sound.specs.Players.{Player, player_table, receiver_of}
-use Rattle.sc_calm_law.specs.Charts.{players, Chart, player_owes, run_owes}
-use Rattle.sc_calm_law.specs.Executing.{AreBounded}
-use Rattle.sc_calm_law.specs.Keeping.{TakenMailLowers, IsCalmMailAt, Takes, Learns, Makes, Misses, Strays, IsBarred, IsCalmFor, MayGoNow, MayBeTold, FindsCalm, KeepCalm, KeptCalmIsMeasured}
-use Rattle.sc_calm_law.specs.Laws.{Lowers, Points}
-use Rattle.sc_calm_law.specs.Led.{LowersLed}
-use Rattle.sc_calm_law.specs.Owed.{Ways, body_owes, mail_owes}
-use Rattle.sc_calm_law.specs.Parties.{Elsewhere, groups_owe}
-use Rattle.sc_calm_law.specs.Reach.{client_owes, client_turn_owes}
-use Rattle.sc_calm_law.specs.Strangers.{PartyLowers}
-use Rattle.sc_calm_law.specs.Totals.{Rows, led_elsewhere}
+use Rattle.sc_node_table.specs.Values.{Draw, OrderLine, Mail, MailBody, Request, Answer, Prepare, Promise, Accept, Accepted, Nack, Learn, Ask, Install, TxPrepare, TxVote, TxOutcome, TxElsewhere, TxWatch, TxWatched, Told as ToldMail, Node, Client, Seat, Event, Deliver, Tick, Go, Crash, Drop, Again, Input, Got, Row, Line}
+use Rattle.sc_actor.specs.declared.rows.Event.TheVariants.{Told}
+use Rattle.sc_actor.specs.declared.rows.Input.TheVariants.{Go as GoInput, Told as ToldInput}
+use Rattle.sc_actor.specs.Definitions.{mails, copies, counts_at, is_delivery, value, acted, input_of, are_apart, row_of, IsLawful, is_quiet}
+use Rattle.sc_actor.proofs.Lemmas.{waiting_one, lawful-prefix}
+use Rattle.sc_orderly_law.specs.Definitions.{IsCalmEvent, mail_with, is_born, is_told, deliveries, under_way, AreInTime}
+use Rattle.sc_orderly_law.proofs.Lemmas.{in_time_before, in_time_tidy, last_in_time, by_rows, count_push, delivered, filter_sum, after-row, is_born-from}
+use Rattle.sc_node_table.specs.Definitions.{NodeState, on_mail, ordered_of, on_order}
+use Rattle.sc_client_table.specs.Definitions.{Client as ClientState, started, got}
+use Rattle.sc_sound.specs.Definitions.{Player, player_table, receiver_of}
+use Rattle.sc_calm_law.specs.Definitions.{players, Chart, player_owes, run_owes, AreBounded, TakenMailLowers, IsCalmMailAt, Takes, Learns, Makes, Misses, Strays, IsBarred, IsCalmFor, MayGoNow, MayBeTold, FindsCalm, KeepCalm, KeptCalmIsMeasured, Lowers, Points, LowersLed, Ways, body_owes, mail_owes, Elsewhere, groups_owe, client_owes, client_turn_owes, PartyLowers, Rows, led_elsewhere}
 use Rattle.sc_calm_law.proofs.OwedCharts.{charts_may_change}
 use Rattle.sc_calm_law.proofs.OwedLed.{led_learns}
 use Rattle.sc_calm_law.proofs.OwedLone.{lone_decides}
@@ -58,6 +28,7 @@ use Rattle.sc_calm_law.proofs.OwedTotals.{idle_part, node_idles, turns, players_
 
 -- ---- a mail that a replica takes
 
+-- A mail lowers what is owed at the replica that takes it, where the replica is as mail of its kind finds it in a calm journal.
 pub taken_mail : TakenMailLowers
 taken_mail ways from (Request group client seq op) r bounded may =
     subst (λ (g : Draw). Lowers ways from (Request g client seq op) (r, [])) may.0
@@ -234,6 +205,7 @@ module _ (words : ℕ → ℕ → ℕ × ℕ) (births : List (Seat Player)) (apa
         let some = pending_owes words births (charts rows).ways rows (in_time_tidy (players words births) rows timely) (keep.delivered rows lawful timely low) loud in
         omega (arith, some)
 
+-- Where each row in time of lawful journals with at most so many deliveries finds what it needs, what all players, groups and mail under way owe is a measure: a delivery lowers it, an order raises it by what a transaction with two other groups takes at most, and a client that goes raises nothing.
 pub kept_calm : KeptCalmIsMeasured
 kept_calm words births lines charts most still apart keep quiet = record {
   lowers = row_lowers words births apart lines charts most keep;

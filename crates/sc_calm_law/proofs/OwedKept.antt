@@ -2,16 +2,11 @@
 use Rattle.std.proofs.Common.{◌≡◌, ℕ, ◌+◌, ◌≤◌, ◌&&◌, Bool, true, false, cond, List, [], ◌∷◌, ◌++◌, length, Option, Some, None, refl, sym, ◌∙◌, subst}
 use Rattle.std.specs.Prelude.{is_some, nat_le}
 use Rattle.std.specs.List.{list_any}
-use Rattle.sc_cmd.specs.declared.commands.Command.{Command}
-use Rattle.sc_paxos_words.specs.declared.answers.Must.{Must}
-use Rattle.sc_paxos_words.specs.declared.answers.Must.TheVariants.{Value, Gap, Free as Open}
-use Rattle.sc_paxos_words.specs.Leaders.{must}
-use Rattle.sc_node_table.specs.Execute.{entered}
-use Rattle.sc_node_table.specs.Pump.{Found, is_act, from_calls, from_acts, from_queues, found_by, found_for, offered, pumped_from, pumped}
-use Rattle.sc_node_table.specs.Replica.{ReplicaState, Place, next, members, settled, may_offer, taken_at, under_way, is_idle, forgotten, last_slot}
-use Rattle.sc_node_table.specs.Slots.{rest_of}
-use Rattle.sc_calm_law.specs.Executing.{MayGoOn}
-use Rattle.sc_calm_law.specs.Laws.{AreNines}
+use Rattle.sc_node_table.specs.Values.{Command, Must, Gap}
+use Rattle.sc_paxos_words.specs.declared.answers.Must.TheVariants.{Value, Free as Open}
+use Rattle.sc_paxos_words.specs.Definitions.{must}
+use Rattle.sc_node_table.specs.Definitions.{entered, Found, is_act, from_calls, from_acts, from_queues, found_by, found_for, offered, pumped_from, pumped, ReplicaState, Place, next, members, settled, may_offer, taken_at, under_way, is_idle, forgotten, last_slot, rest_of}
+use Rattle.sc_calm_law.specs.Definitions.{MayGoOn, AreNines}
 
 -- ---- a pump leaves all but what is in flight and the queues
 

@@ -3,22 +3,13 @@ use Rattle.std.proofs.Common.{◌≡◌, ℕ, ◌+◌, ◌≤◌, Bool, true, fa
 use Rattle.std.specs.Prelude.{is_some}
 use Rattle.std.specs.Map.{lookup, set_value}
 use Rattle.std.proofs.lemmas.List.Sums.{sum_by-cons}
-use Rattle.sc_base.specs.Among.{Among}
-use Rattle.sc_base.specs.Arc.{Arc, end_of}
-use Rattle.sc_base.specs.Same.{same_draw}
-use Rattle.sc_base.specs.declared.names.Draw.{Draw}
-use Rattle.sc_base.specs.declared.ops.Op.{Op}
-use Rattle.sc_base.proofs.NameLemmas.{same_name}
-use Rattle.sc_cmd.specs.declared.links.Link.{Link}
-use Rattle.sc_cmd.specs.declared.links.Route.{Route}
-use Rattle.sc_lookup.specs.Known.{KnownGroups, way_to, target_in, changed, starting, group_learnt, told_not_mine, told_gone}
-use Rattle.sc_lookup.specs.Ways.{new_way}
+use Rattle.sc_base.specs.Definitions.{Among, Arc, end_of, same_draw}
+use Rattle.sc_node_table.specs.Values.{Draw, Op, Link, Route}
+use Rattle.sc_base.proofs.Lemmas.{same_name}
+use Rattle.sc_lookup.specs.Definitions.{KnownGroups, way_to, target_in, changed, starting, group_learnt, told_not_mine, told_gone, new_way}
 use Rattle.sc_lookup.specs.declared.ways.Way.{Way}
-use Rattle.sc_client_table.specs.Client.{Client as ClientState, waiting_request}
-use Rattle.sc_client_table.specs.Table.{ClientStep, asked_of, sent_where, chosen_for, request_sent, waits_for, was_asked}
-use Rattle.sc_calm_law.specs.Clients.{unknown_one, unknown, IsToldOne, NotMineTeaches, IsSentOn, GoneSendsOn}
-use Rattle.sc_calm_law.specs.Executing.{AreBounded}
-use Rattle.sc_calm_law.specs.Owed.{Ways}
+use Rattle.sc_client_table.specs.Definitions.{Client as ClientState, waiting_request, ClientStep, asked_of, sent_where, chosen_for, request_sent, waits_for, was_asked}
+use Rattle.sc_calm_law.specs.Definitions.{unknown_one, unknown, IsToldOne, NotMineTeaches, IsSentOn, GoneSendsOn, AreBounded, Ways}
 use Rattle.sc_calm_law.proofs.OwedClients.{request_owes}
 
 -- ---- whom a client knows
@@ -149,6 +140,7 @@ told_one ways groups group arc succ client bounded a none =
     after : ClientState
     after = record client { known = told_not_mine group arc succ client.known }
 
+-- An answer that a key is another group's teaches its client one group, and what it sends then owes no more than the answer did and what a group owes that is asked in vain.
 pub not_mine_teaches : NotMineTeaches
 not_mine_teaches ways groups from seq group arc succ client bounded told = by (waits_for client.waiting seq) refl (was_asked client.asked from group) refl
   where
@@ -178,6 +170,7 @@ gone_one ways group into way client bounded is =
     after : ClientState
     after = record client { known = told_gone group into client.known }
 
+-- An answer that a group went into another sends a client that knows no other on to that one.
 pub gone_sends_on : GoneSendsOn
 gone_sends_on ways from seq group into way client bounded is = by (waits_for client.waiting seq) (was_asked client.asked from group)
   where

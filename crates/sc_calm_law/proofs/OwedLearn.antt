@@ -1,24 +1,13 @@
 -- The row of a Learn at a replica that does not run: the entry, and the pump where it is elected by it.
 use Rattle.std.proofs.Common.{◌≡◌, ℕ, ◌+◌, ◌-◌, ◌^◌, ◌≤◌, eqb, ltb, Bool, true, false, true≢false, cond, List, [], ◌∷◌, Option, Some, None, ◌⊎◌, inl, inr, refl, sym, ◌∙◌, ap, subst, arith}
 use Rattle.std.proofs.lemmas.Bool.{ltb-true, eqb-true}
-use Rattle.sc_base.specs.declared.names.Ballot.{Ballot}
-use Rattle.sc_cmd.specs.declared.commands.Command.{Command}
-use Rattle.sc_cmd.specs.declared.links.Route.{Route}
-use Rattle.sc_mail.specs.declared.bodies.Mail.{Mail}
-use Rattle.sc_mail.specs.declared.bodies.MailBody.TheVariants.{Prepare, Ask}
-use Rattle.sc_base.specs.Roster.{least_of}
+use Rattle.sc_node_table.specs.Values.{Ballot, Command, Route, Mail, Prepare, Ask, Report}
+use Rattle.sc_base.specs.Definitions.{least_of}
 use Rattle.sc_paxos_words.specs.declared.answers.Must.TheVariants.{Free as Open}
-use Rattle.sc_paxos_words.specs.declared.reports.Report.{Report}
-use Rattle.sc_paxos_words.specs.Leaders.{LeaderState, new_leader, must}
-use Rattle.sc_node_table.specs.Election.{open_nodes, elected}
-use Rattle.sc_node_table.specs.Execute.{is_among, looked_for, looked, executed_one, executed_ready, all_ready, executed}
-use Rattle.sc_node_table.specs.Mails.{sent, sent_all}
-use Rattle.sc_node_table.specs.Pump.{pumped}
-use Rattle.sc_node_table.specs.Replica.{ReplicaState, Place, Executed, childless, name_of, next, members, last_slot}
-use Rattle.sc_node_table.specs.Rows.{learn_row}
-use Rattle.sc_law_lemmas.proofs.Entries.{idle_ready, idle_pump}
-use Rattle.sc_calm_law.specs.Laws.{AreNines, Follows}
-use Rattle.sc_calm_law.specs.Owed.{Ways, place_owes}
+use Rattle.sc_paxos_words.specs.Definitions.{LeaderState, new_leader, must}
+use Rattle.sc_node_table.specs.Definitions.{open_nodes, elected, is_among, looked_for, looked, executed_one, executed_ready, all_ready, executed, sent, sent_all, pumped, ReplicaState, Place, Executed, childless, name_of, next, members, last_slot, learn_row}
+use Rattle.sc_law_lemmas.proofs.Lemmas.{idle_ready, idle_pump}
+use Rattle.sc_calm_law.specs.Definitions.{AreNines, Follows, Ways, place_owes}
 use Rattle.sc_calm_law.proofs.OwedPump.{pump_owes}
 use Rattle.sc_calm_law.proofs.OwedLearnt.{learnt_ends, learnt_owes}
 

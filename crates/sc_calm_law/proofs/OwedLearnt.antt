@@ -2,27 +2,14 @@
 use Rattle.std.proofs.Common.{◌≡◌, ℕ, zero, suc, ◌+◌, ◌-◌, ◌^◌, ◌≤◌, eqb, Bool, true, false, true≢false, cond, List, [], ◌∷◌, length, sum_by, Option, Some, None, refl, sym, ◌∙◌, ap, subst, arith}
 use Rattle.std.specs.List.{filter}
 use Rattle.std.specs.Option.{option_map}
-use Rattle.sc_base.specs.Limits.{most_nodes}
-use Rattle.sc_base.specs.declared.names.Ballot.{Ballot}
-use Rattle.sc_cmd.specs.declared.commands.Command.{Command}
-use Rattle.sc_cmd.specs.declared.effects.Effect.{Effect}
-use Rattle.sc_cmd.specs.declared.links.Route.{Route}
-use Rattle.sc_cmd.specs.declared.orders.ToldResult.{ToldResult}
-use Rattle.sc_mail.specs.declared.bodies.Mail.{Mail}
-use Rattle.sc_mail.specs.declared.bodies.MailBody.TheVariants.{Prepare, Told}
-use Rattle.sc_base.specs.Roster.{least_of}
-use Rattle.sc_policy.specs.Wishes.{is_told}
-use Rattle.sc_paxos_words.specs.declared.flights.Flight.{Flight}
-use Rattle.sc_paxos_words.specs.Leaders.{LeaderState, new_leader, flight_at, without_flight_at}
-use Rattle.sc_machine_table.specs.Machine.{applied}
+use Rattle.sc_base.specs.Definitions.{most_nodes, least_of}
+use Rattle.sc_node_table.specs.Values.{Ballot, Command, Effect, Route, ToldResult, Mail, Prepare, Told, Flight}
+use Rattle.sc_policy.specs.Definitions.{is_told}
+use Rattle.sc_paxos_words.specs.Definitions.{LeaderState, new_leader, flight_at, without_flight_at}
+use Rattle.sc_machine_table.specs.Definitions.{applied}
 use Rattle.sc_node_table.specs.declared.Before.{Before}
-use Rattle.sc_node_table.specs.Election.{is_in_some, nodes_to, open_nodes, elected}
-use Rattle.sc_node_table.specs.Execute.{entered, order_result, told_effect, announced, learnt_to, welcomed, slot_lost, landed, left_gone, left, is_among, looked_for, looked, executed_one}
-use Rattle.sc_node_table.specs.Mails.{told_order, told_desk, sent_all, order_number}
-use Rattle.sc_node_table.specs.Replica.{ReplicaState, Place, name_of, next, members, flying, forgotten}
-use Rattle.sc_node_table.specs.Slots.{numbers_from, without_slot}
-use Rattle.sc_node_table.specs.Spoken.{before_of, begun_result, spoken_number, told_result, told_begun, spoken_mails, spoken}
-use Rattle.sc_calm_law.specs.Owed.{Ways, mail_owes, replica_owes, idle_owes, election, place_owes}
+use Rattle.sc_node_table.specs.Definitions.{is_in_some, nodes_to, open_nodes, elected, entered, order_result, told_effect, announced, learnt_to, welcomed, slot_lost, landed, left_gone, left, is_among, looked_for, looked, executed_one, told_order, told_desk, sent_all, order_number, ReplicaState, Place, name_of, next, members, flying, forgotten, numbers_from, without_slot, before_of, begun_result, spoken_number, told_result, told_begun, spoken_mails, spoken}
+use Rattle.sc_calm_law.specs.Definitions.{Ways, mail_owes, replica_owes, idle_owes, election, place_owes}
 use Rattle.sc_calm_law.proofs.OwedSums.{sent_owes, all_owe, without_flight_owes, without_slot_owes}
 
 -- ---- the nodes of an election
@@ -35,7 +22,7 @@ filter_short {X} test (x ∷ xs) = by (test x) (filter_short test xs)
     by true le = omega (arith, le)
     by false le = omega (arith, le)
 
-count_numbers : (from count : ℕ) → length (numbers_from from count) ≡ count
+pub count_numbers : (from count : ℕ) → length (numbers_from from count) ≡ count
 count_numbers from zero = refl
 count_numbers from (suc count) = ap suc (count_numbers (from + 1) count)
 

@@ -1,25 +1,15 @@
 -- A replica of whose group another leads or is gone: what it learns lowers what is owed but for what its group owes.
 use Rattle.std.proofs.Common.{◌≡◌, ℕ, ◌+◌, ◌-◌, ◌^◌, ◌≤◌, eqb, ltb, Bool, true, false, true≢false, cond, List, [], Option, Some, None, refl, ◌∙◌, ap, arith}
 use Rattle.std.proofs.lemmas.Bool.{ltb-true}
-use Rattle.sc_base.specs.declared.names.Ballot.{Ballot}
-use Rattle.sc_cmd.specs.declared.commands.Command.{Command}
-use Rattle.sc_cmd.specs.declared.links.Route.{Route}
-use Rattle.sc_mail.specs.declared.bodies.Mail.{Mail}
-use Rattle.sc_mail.specs.declared.bodies.MailBody.TheVariants.{Prepare, Ask}
-use Rattle.sc_base.specs.Roster.{least_of}
-use Rattle.sc_machine_table.specs.Group.{Group}
-use Rattle.sc_paxos_words.specs.Leaders.{new_leader}
-use Rattle.sc_node_table.specs.Election.{open_nodes, elected}
-use Rattle.sc_node_table.specs.Execute.{is_among, looked_for, looked, executed_one, executed}
-use Rattle.sc_node_table.specs.Mails.{sent, sent_all}
-use Rattle.sc_node_table.specs.Pump.{pumped}
-use Rattle.sc_node_table.specs.Replica.{ReplicaState, Place, Executed, childless, name_of, next, members, last_slot}
-use Rattle.sc_node_table.specs.Rows.{learn_row, mailed}
-use Rattle.sc_calm_law.specs.Led.{led_owes, StaysBehind, EndsLeaveNone, LearnsLed, LedLearnsLower}
-use Rattle.sc_calm_law.specs.Owed.{Ways}
+use Rattle.sc_node_table.specs.Values.{Ballot, Command, Route, Mail, Prepare, Ask}
+use Rattle.sc_base.specs.Definitions.{least_of}
+use Rattle.sc_machine_table.specs.Definitions.{Group}
+use Rattle.sc_paxos_words.specs.Definitions.{new_leader}
+use Rattle.sc_node_table.specs.Definitions.{open_nodes, elected, is_among, looked_for, looked, executed_one, executed, sent, sent_all, pumped, ReplicaState, Place, Executed, childless, name_of, next, members, last_slot, learn_row, mailed}
+use Rattle.sc_calm_law.specs.Definitions.{led_owes, StaysBehind, EndsLeaveNone, LearnsLed, LedLearnsLower, Ways}
 use Rattle.sc_calm_law.proofs.OwedEnds.{looked_gone}
 use Rattle.sc_calm_law.proofs.OwedExecuting.{near}
-use Rattle.sc_law_lemmas.proofs.Entries.{idle_ready, idle_pump}
+use Rattle.sc_law_lemmas.proofs.Lemmas.{idle_ready, idle_pump}
 use Rattle.sc_calm_law.proofs.OwedLearnt.{learnt_ends}
 
 module _ (ways : Ways) where
@@ -90,6 +80,7 @@ module _ (ways : Ways) where
       by false false false e le = omega arith
       by false false true e le = absurd (let above = ltb-true (next r) slot e in let low = is.low in omega (arith, above, low))
 
+-- A replica that learns an entry and does not lead by it owes less by itself, whatever its group owes: also where its group is gone by the entry.
 pub led_learns : LedLearnsLower
 unfolding mailed
 led_learns = λ ways from group slot command r is. learn_led ways from slot command r is

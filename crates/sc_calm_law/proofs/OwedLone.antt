@@ -1,14 +1,10 @@
 -- A leader at which one entry is in flight, alone: a vote lowers what is owed.
 use Rattle.std.proofs.Common.{◌≡◌, ℕ, eqb, Bool, true, false, cond, List, [], ◌∷◌, Option, Some, None, sym, ◌∙◌, ap, subst}
 use Rattle.std.proofs.lemmas.Bool.{cond-true, eq-eqb}
-use Rattle.sc_cmd.specs.declared.commands.Command.{Command}
-use Rattle.sc_paxos_words.specs.declared.flights.Flight.{Flight}
-use Rattle.sc_paxos_words.specs.Leaders.{flight_at}
-use Rattle.sc_node_table.specs.Replica.{Place, next}
-use Rattle.sc_node_table.specs.Slots.{with_slot, without_slot}
-use Rattle.sc_calm_law.specs.Executing.{AreBounded, FliesAlone}
-use Rattle.sc_calm_law.specs.Laws.{readied_at, MayPump, ExecutesFreely, DecidesFreely}
-use Rattle.sc_calm_law.specs.Owed.{Ways}
+use Rattle.sc_node_table.specs.Values.{Command, Flight}
+use Rattle.sc_paxos_words.specs.Definitions.{flight_at}
+use Rattle.sc_node_table.specs.Definitions.{Place, next, with_slot, without_slot}
+use Rattle.sc_calm_law.specs.Definitions.{AreBounded, FliesAlone, readied_at, MayPump, ExecutesFreely, DecidesFreely, Ways}
 use Rattle.sc_calm_law.proofs.OwedExecuting.{execution_owes, lone_paid}
 
 -- the one that flies is found

@@ -1,18 +1,13 @@
 -- What a replica owes that is made: at its group's birth, or of a state that is sent.
 use Rattle.std.proofs.Common.{◌≡◌, ℕ, ◌+◌, ◌≤◌, Bool, true, false, cond, List, [], sum_by, Option, Some, None, refl, ◌∙◌, ap, arith}
-use Rattle.sc_cmd.specs.declared.cores.Base.{Base}
-use Rattle.sc_cmd.specs.declared.links.Route.{Route}
-use Rattle.sc_mail.specs.declared.bodies.Mail.{Mail}
-use Rattle.sc_base.specs.Roster.{is_member}
-use Rattle.sc_node_table.specs.Execute.{looked}
-use Rattle.sc_node_table.specs.Install.{named}
-use Rattle.sc_node_table.specs.Replica.{ReplicaState, Place, members, forgotten, installed_replica}
-use Rattle.sc_node_table.specs.Rows.{looked_up, made_by}
-use Rattle.sc_calm_law.specs.Births.{BornReplicasOwe, MadeReplicasOwe}
-use Rattle.sc_calm_law.specs.Owed.{Ways, mail_owes, replica_owes, idle_owes, place_owes}
+use Rattle.sc_node_table.specs.Values.{Base, Route, Mail}
+use Rattle.sc_base.specs.Definitions.{is_member}
+use Rattle.sc_node_table.specs.Definitions.{looked, named, ReplicaState, Place, members, forgotten, installed_replica, looked_up, made_by}
+use Rattle.sc_calm_law.specs.Definitions.{BornReplicasOwe, MadeReplicasOwe, Ways, mail_owes, replica_owes, idle_owes, place_owes}
 use Rattle.sc_calm_law.proofs.OwedInstalls.{looks_up}
 use Rattle.sc_calm_law.proofs.OwedEnds.{looked_gone}
 
+-- A replica that is made at its group's birth, as the child of a split is, owes nothing but what a group owes in which none runs.
 pub born_owe : BornReplicasOwe
 born_owe ways ahead me base = omega arith
 
@@ -34,6 +29,7 @@ module _ (ways : Ways) where
       by true = let none = idle in omega (arith, none)
       by false = let none = idle in let same = ap (place_owes ways) (looked_gone ways into r mails off gone) in omega (arith, none, same)
 
+-- A replica that is made of a state that is sent owes less than that mail and what a group owes in which none runs.
 pub made_owe : MadeReplicasOwe
 unfolding made_by
 made_owe ways me from group slot base sets = by base.core.gone refl

@@ -2,25 +2,12 @@
 use Rattle.std.proofs.Common.{◌≡◌, ℕ, ◌+◌, ◌*◌, ◌≤◌, ◌==◌, ◌||◌, not, false, cond, List, [], ◌∷◌, length, sum_by, Option, Some, None, is_some, nat_lt, inl, inr, refl, sym, ◌∙◌, ap, arith}
 use Rattle.std.proofs.lemmas.Bool.{cond_both, cond-true, cond-false, cases_Bool}
 use Rattle.std.proofs.lemmas.List.Sums.{sum_by-cons}
-use Rattle.sc_base.specs.Same.{same_draw}
-use Rattle.sc_base.specs.declared.names.Draw.{Draw}
-use Rattle.sc_cmd.specs.declared.cores.Base.{Base}
-use Rattle.sc_cmd.specs.declared.orders.OrderLine.{OrderLine}
+use Rattle.sc_base.specs.Definitions.{same_draw}
+use Rattle.sc_node_table.specs.Values.{Draw, Base, OrderLine, Refused, AnswerBody, Mail, MailBody, Request, Answer, Prepare, Promise, Accept, Accepted, Nack, Learn, Ask, Install, TxPrepare, TxVote, TxOutcome, TxElsewhere, TxWatch, TxWatched, Told}
 use Rattle.sc_cmd.specs.declared.orders.OrderRefusal.TheVariants.{NotLeader}
-use Rattle.sc_cmd.specs.declared.orders.ToldResult.TheVariants.{Refused}
-use Rattle.sc_mail.specs.declared.bodies.AnswerBody.{AnswerBody}
 use Rattle.sc_mail.specs.declared.bodies.AnswerBody.TheVariants as Says
-use Rattle.sc_mail.specs.declared.bodies.Mail.{Mail}
-use Rattle.sc_mail.specs.declared.bodies.MailBody.{MailBody}
-use Rattle.sc_mail.specs.declared.bodies.MailBody.TheVariants.{Request, Answer, Prepare, Promise, Accept, Accepted, Nack, Learn, Ask, Install, TxPrepare, TxVote, TxOutcome, TxElsewhere, TxWatch, TxWatched, Told}
-use Rattle.sc_node_table.specs.Node.{NodeState, replica_of, with_replica, is_before, with_new, group_of_mail, with_made, unknown, may_come, with_born, with_children, taken_by, routed, on_mail, group_of_order, ordered_of, on_order}
-use Rattle.sc_node_table.specs.Ordering.{ordered_row}
-use Rattle.sc_node_table.specs.Replica.{ReplicaState, Place, Executed, name_of, born_replica, last_slot}
-use Rattle.sc_node_table.specs.Rows.{mailed, made_by}
-use Rattle.sc_node_table.specs.Slots.{slots_ahead}
-use Rattle.sc_calm_law.specs.Laws.{Lowers, MayPump}
-use Rattle.sc_calm_law.specs.Nodes.{node_owes, group_owes, turn_owes, IsTaken, after_mail, IsDelivered, MayMiss, NodesOweAsReplicas, NodesLower, NodesRaiseLittle}
-use Rattle.sc_calm_law.specs.Owed.{Ways, answer_owes, elsewhere_owes, body_owes, mail_owes, replica_owes, idle_owes}
+use Rattle.sc_node_table.specs.Definitions.{NodeState, replica_of, with_replica, is_before, with_new, group_of_mail, with_made, unknown, may_come, with_born, with_children, taken_by, routed, on_mail, group_of_order, ordered_of, on_order, ordered_row, ReplicaState, Place, Executed, name_of, born_replica, last_slot, mailed, made_by, slots_ahead}
+use Rattle.sc_calm_law.specs.Definitions.{Lowers, MayPump, node_owes, group_owes, turn_owes, IsTaken, after_mail, IsDelivered, MayMiss, NodesOweAsReplicas, NodesLower, NodesRaiseLittle, Ways, answer_owes, elsewhere_owes, body_owes, mail_owes, replica_owes, idle_owes}
 use Rattle.sc_calm_law.proofs.OwedMade.{made_owe}
 use Rattle.sc_calm_law.proofs.OwedOrders.{order_raises}
 use Rattle.sc_calm_law.proofs.OwedSums.{sent_owes}
@@ -94,6 +81,7 @@ taken_owes most from group body r node is =
     let put = put_owes most group after.0.0 r node.replicas is.found in
     omega (arith, same, born, put)
 
+-- A mail changes what a node owes as it changes what its replica of the mail's group owes, and sends what that replica sends: the others keep what they owe, and a child that is born owes nothing by itself.
 pub as_replicas : NodesOweAsReplicas
 as_replicas = record {
   owes = taken_owes;
@@ -234,6 +222,7 @@ module _ (ways : Ways) where
       (λ _. (let le = state_lowers from group slot base sets node in let same = ap (turn_owes ways) goes in omega (arith, le, same)))
       (λ _. passed_lowers from group slot base sets node)
 
+-- A mail lowers what its node owes, and is to be delivered: where its replica of the mail's group lowers it, where the mail is no group's or comes from one who sends no such mail, and where the node has no replica of the group, also where it makes one of the state that it is sent.
 pub nodes_lower : NodesLower
 nodes_lower = record {
   taken = taken_lowers;
@@ -260,5 +249,6 @@ refused_raises ways line node none =
     let s = sent_owes ways node.me 0 (Told line.number (Refused (NotLeader None))) [] in
     omega (arith, same, s)
 
+-- An order raises what its node owes by what a transaction with two other groups takes, at most; one for a group of which the node has no replica raises nothing.
 pub raise_little : NodesRaiseLittle
 raise_little = record { ordered = ordered_raises; refused = refused_raises }

@@ -2,24 +2,11 @@
 use Rattle.std.proofs.Common.{◌≡◌, ℕ, ◌+◌, ◌*◌, ◌≤◌, Bool, true, false, true≢false, cond, List, [], ◌∷◌, sum_by, Option, Some, None, is_some, inl, inr, refl, sym, ◌∙◌, ap, arith}
 use Rattle.std.proofs.lemmas.Bool.{cond_both, cond-true, cond-false, cases_Bool}
 use Rattle.std.proofs.lemmas.List.Sums.{sum_by-cons}
-use Rattle.sc_base.specs.Among.{Each}
-use Rattle.sc_base.specs.Same.{same_draw}
-use Rattle.sc_base.specs.declared.names.Draw.{Draw}
-use Rattle.sc_base.proofs.NameLemmas.{draw_is, same_name}
-use Rattle.sc_cmd.specs.declared.cores.Base.{Base}
-use Rattle.sc_cmd.specs.declared.links.Route.{Route}
-use Rattle.sc_cmd.specs.declared.orders.OrderLine.{OrderLine}
-use Rattle.sc_mail.specs.declared.bodies.Mail.{Mail}
-use Rattle.sc_mail.specs.declared.bodies.MailBody.{MailBody}
-use Rattle.sc_node_table.specs.Node.{NodeState, replica_of, with_replica, is_before, with_new, with_born, with_children, taken_by, on_mail, group_of_order, ordered_of, on_order}
-use Rattle.sc_node_table.specs.Ordering.{ordered_row}
-use Rattle.sc_node_table.specs.Replica.{ReplicaState, Place, Executed, name_of, born_replica}
-use Rattle.sc_node_table.specs.Rows.{mailed}
-use Rattle.sc_node_table.specs.Slots.{slots_ahead}
-use Rattle.sc_calm_law.specs.Led.{IsLedMail, LedPartiesLower}
-use Rattle.sc_calm_law.specs.Nodes.{group_owes, IsTaken, after_mail}
-use Rattle.sc_calm_law.specs.Owed.{Ways, body_owes, mail_owes, idle_owes, election}
-use Rattle.sc_calm_law.specs.Parties.{idle_with, Elsewhere, party_owes, party_turn_owes, StandsOnce, IsCalmMail, IsCalmOrder, PartiesLower, PartiesRaiseLittle}
+use Rattle.sc_base.specs.Definitions.{Each, same_draw}
+use Rattle.sc_node_table.specs.Values.{Draw, Base, Route, OrderLine, Mail, MailBody}
+use Rattle.sc_base.proofs.Lemmas.{draw_is, same_name}
+use Rattle.sc_node_table.specs.Definitions.{NodeState, replica_of, with_replica, is_before, with_new, with_born, with_children, taken_by, on_mail, group_of_order, ordered_of, on_order, ordered_row, ReplicaState, Place, Executed, name_of, born_replica, mailed, slots_ahead}
+use Rattle.sc_calm_law.specs.Definitions.{IsLedMail, LedPartiesLower, group_owes, IsTaken, after_mail, Ways, body_owes, mail_owes, idle_owes, election, idle_with, Elsewhere, party_owes, party_turn_owes, StandsOnce, IsCalmMail, IsCalmOrder, PartiesLower, PartiesRaiseLittle}
 use Rattle.sc_calm_law.proofs.OwedNodes.{taken_turn, taken_owes, raise_little}
 
 -- ---- which replica is found after one is changed, and others are born
@@ -205,9 +192,11 @@ module _ (ways : Ways) (elsewhere : Elsewhere) (from : ℕ) (group : Draw) (body
       let all = sums_less (λ name. idle_with (elsewhere name) (replica_of name node.replicas)) (λ name. idle_with (elsewhere name) (replica_of name (on_mail from body node).0.replicas)) (all_less is) groups in
       omega (arith, owes, sends, at, lowers, all)
 
+-- A mail that lowers what is owed at its replica lowers what is owed by the node and by all groups, each of which owes an election once while no replica of it runs or is gone at any node; where another of its group leads or is gone, the replica neither begins to lead nor goes by the mail.
 pub parties_lower : PartiesLower
 parties_lower ways groups elsewhere from group body r node once is = mail_lowers ways elsewhere from group body r node is groups once
 
+-- Where another of its group leads or is gone, a mail by which a replica owes less by itself lowers what is owed by its node and by all groups, also where the replica goes by it: no group needs to be idle.
 pub led_parties_lower : LedPartiesLower
 led_parties_lower ways groups elsewhere from group body r node is = led_lowers ways elsewhere from group body r node is groups
 
@@ -245,5 +234,6 @@ module _ (ways : Ways) (elsewhere : Elsewhere) (line : OrderLine) (r : ReplicaSt
       let own = order_own (elsewhere (group_of_order line.order)) is.alone in
       omega (arith, le, all, now, was, own)
 
+-- An order raises what is owed by its node and by all groups by what a transaction with two other groups takes, at most.
 pub parties_raise_little : PartiesRaiseLittle
 parties_raise_little ways groups elsewhere line r node once is = order_raises ways elsewhere line r node is groups once

@@ -2,21 +2,14 @@
 use Rattle.std.proofs.Common.{◌≡◌, ℕ, ◌≤◌, true, false, true≢false, List, [], ◌∷◌, sum_by, Option, Some, None, refl, sym, ◌∙◌, ap, arith}
 use Rattle.std.specs.Prelude.{is_none}
 use Rattle.std.proofs.lemmas.List.Sums.{sum_by-cons}
-use Rattle.sc_base.specs.Among.{Each}
-use Rattle.sc_mail.specs.declared.bodies.Mail.{Mail}
-use Rattle.sc_actor.specs.declared.actors.Seat.{Seat}
-use Rattle.sc_actor.specs.System.{waiting, kth}
-use Rattle.sc_actor.specs.Walk.{is_quiet}
-use Rattle.sc_actor.proofs.PendingLemmas.{waiting_any}
-use Rattle.sc_orderly_law.specs.Orderly.{IsTidy, is_born}
-use Rattle.sc_orderly_law.specs.Owing.{under_way}
-use Rattle.sc_orderly_law.proofs.Paying.{delivered}
-use Rattle.sc_orderly_law.proofs.Resting.{may-born}
-use Rattle.sc_sound.specs.Players.{Player, receiver_of}
-use Rattle.sc_calm_law.specs.Charts.{players}
-use Rattle.sc_calm_law.specs.Nodes.{IsDelivered}
-use Rattle.sc_calm_law.specs.Owed.{Ways, mail_owes}
-use Rattle.sc_calm_law.specs.Totals.{Rows}
+use Rattle.sc_base.specs.Definitions.{Each}
+use Rattle.sc_node_table.specs.Values.{Mail, Seat}
+use Rattle.sc_actor.specs.Definitions.{waiting, kth, is_quiet}
+use Rattle.sc_actor.proofs.Lemmas.{waiting_any}
+use Rattle.sc_orderly_law.specs.Definitions.{IsTidy, is_born, under_way}
+use Rattle.sc_orderly_law.proofs.Lemmas.{delivered, may-born}
+use Rattle.sc_sound.specs.Definitions.{Player, receiver_of}
+use Rattle.sc_calm_law.specs.Definitions.{players, IsDelivered, Ways, mail_owes, Rows}
 use Rattle.sc_calm_law.proofs.OwedNodes.{body_most}
 
 -- each owes one at least

@@ -6,27 +6,14 @@ use Rattle.std.proofs.lemmas.Bool.{eqb-true, leb-true, leb-false, ltb-true, ltb-
 use Rattle.std.proofs.lemmas.List.{length_push}
 use Rattle.std.proofs.lemmas.List.Sums.{sum_by-cons, sum_by_push}
 use Rattle.std.proofs.Math.Nat.{suc-mul}
-use Rattle.sc_base.specs.Among.{Each}
-use Rattle.sc_base.specs.Same.{same_draw}
-use Rattle.sc_base.specs.declared.names.Draw.{Draw}
-use Rattle.sc_base.specs.declared.ops.Op.{Op}
-use Rattle.sc_base.specs.declared.ops.Reply.{Reply}
-use Rattle.sc_base.proofs.NameLemmas.{draw_is}
-use Rattle.sc_base.specs.Arc.{Arc, end_of}
-use Rattle.sc_cmd.specs.declared.links.Link.{Link}
-use Rattle.sc_cmd.specs.declared.links.Route.{Route}
-use Rattle.sc_lookup.specs.Known.{KnownGroups, way_to, target_in, changed, preferring, passed_on, starting, group_learnt, told_not_mine, told_gone}
-use Rattle.sc_lookup.specs.Ways.{new_way, next_target}
+use Rattle.sc_base.specs.Definitions.{Each, same_draw, Arc, end_of}
+use Rattle.sc_node_table.specs.Values.{Draw, Op, Reply, Link, Route, AnswerBody, Answer}
+use Rattle.sc_base.proofs.Lemmas.{draw_is}
+use Rattle.sc_lookup.specs.Definitions.{KnownGroups, way_to, target_in, changed, preferring, passed_on, starting, group_learnt, told_not_mine, told_gone, new_way, next_target}
 use Rattle.sc_lookup.specs.declared.ways.Way.{Way}
-use Rattle.sc_mail.specs.declared.bodies.AnswerBody.{AnswerBody}
 use Rattle.sc_mail.specs.declared.bodies.AnswerBody.TheVariants as Says
-use Rattle.sc_mail.specs.declared.bodies.MailBody.TheVariants.{Answer}
-use Rattle.sc_client_table.specs.Client.{Client as ClientState, waiting_request}
-use Rattle.sc_client_table.specs.Table.{ClientStep, asked_of, sent_where, chosen_for, request_sent, started, waits_for, was_asked, redirected, got}
-use Rattle.sc_calm_law.specs.Clients.{waiting_one, requests_owe, step_owes, IsInTurn, unknown_one, unknown}
-use Rattle.sc_calm_law.specs.Executing.{AreBounded}
-use Rattle.sc_calm_law.specs.Owed.{Ways, answer_owes}
-use Rattle.sc_calm_law.specs.Reach.{Reach, sent_on, search_owes, client_owes, client_turn_owes, IsUnbegun, LearnsOf, LeavesFor, MayHear, ClientsPay}
+use Rattle.sc_client_table.specs.Definitions.{Client as ClientState, waiting_request, ClientStep, asked_of, sent_where, chosen_for, request_sent, started, waits_for, was_asked, redirected, got}
+use Rattle.sc_calm_law.specs.Definitions.{waiting_one, requests_owe, step_owes, IsInTurn, unknown_one, unknown, AreBounded, Ways, answer_owes, Reach, sent_on, search_owes, client_owes, client_turn_owes, IsUnbegun, LearnsOf, LeavesFor, MayHear, ClientsPay}
 use Rattle.sc_calm_law.proofs.OwedClients.{clients, request_owes}
 use Rattle.sc_calm_law.proofs.OwedKnowing.{set_knows, sent_knows, told_one, gone_one, gone_known}
 
@@ -332,6 +319,7 @@ module _ (ways : Ways) (reach : Reach) (client : ClientState) (bounded : AreBoun
           let was = ap (search_owes ways.most reach client) is.idle in
           omega (arith, idle, was)
 
+-- A client that goes raises nothing that is owed, and each answer lowers it, where a client owes besides for each group that stands and that it does not know, and for each end by which a group that it knows is away from one that stands.
 pub clients_pay : ClientsPay
 clients_pay = record {
   go = λ ways reach client bounded is. go_pays ways reach client bounded is;

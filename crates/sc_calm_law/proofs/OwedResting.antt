@@ -3,32 +3,16 @@ use Rattle.std.proofs.Common.{◌≡◌, ℕ, zero, suc, ◌+◌, ◌*◌, ◌�
 use Rattle.std.specs.Prelude.{slice_get, is_none}
 use Rattle.std.proofs.lemmas.Bool.{ltb-true, ltb-false}
 use Rattle.std.proofs.lemmas.List.Sums.{sum_by-cons}
-use Rattle.sc_base.specs.Among.{Each}
-use Rattle.sc_cmd.specs.declared.orders.OrderLine.{OrderLine}
-use Rattle.sc_mail.specs.declared.bodies.Mail.{Mail}
-use Rattle.sc_mail.specs.declared.roles.Role.TheVariants.{Node, Client}
-use Rattle.sc_actor.specs.declared.actors.Seat.{Seat}
-use Rattle.sc_actor.specs.declared.rows.Input.{Input}
-use Rattle.sc_actor.specs.Mail.{mails, copies, numbers, is_for}
-use Rattle.sc_actor.specs.Replay.{value, replay, acted, input_of}
-use Rattle.sc_actor.specs.System.{numbers_of}
-use Rattle.sc_actor.specs.Walk.{is_quiet}
-use Rattle.sc_actor.proofs.PendingLemmas.{wide_none}
-use Rattle.sc_orderly_law.specs.Orderly.{IsTidy, mail_with, is_born}
-use Rattle.sc_orderly_law.specs.Owing.{under_way}
-use Rattle.sc_orderly_law.proofs.InTime.{in_time_tidy}
-use Rattle.sc_orderly_law.proofs.Resting.{may-born}
-use Rattle.sc_orderly_law.proofs.Timing.{ends_quiet}
-use Rattle.sc_node_table.specs.Replica.{ReplicaState}
+use Rattle.sc_base.specs.Definitions.{Each}
+use Rattle.sc_node_table.specs.Values.{OrderLine, Mail, Node, Client, Seat, Input}
+use Rattle.sc_actor.specs.Definitions.{mails, copies, numbers, is_for, value, replay, acted, input_of, numbers_of, is_quiet}
+use Rattle.sc_actor.proofs.Lemmas.{wide_none}
+use Rattle.sc_orderly_law.specs.Definitions.{IsTidy, mail_with, is_born, under_way}
+use Rattle.sc_orderly_law.proofs.Lemmas.{in_time_tidy, may-born, ends_quiet}
+use Rattle.sc_node_table.specs.Definitions.{ReplicaState}
 use Rattle.sc_client_table.proofs.TurnLemmas.{sends_in_turn}
-use Rattle.sc_sound.specs.Players.{Player, player_table, receiver_of}
-use Rattle.sc_calm_law.specs.Charts.{players, Chart, player_owes, run_owes}
-use Rattle.sc_calm_law.specs.Clients.{waiting_one}
-use Rattle.sc_calm_law.specs.Owed.{command_owes, mail_owes, flights_owe, ready_owes, replica_owes}
-use Rattle.sc_calm_law.specs.Quiet.{IsAtRest}
-use Rattle.sc_calm_law.specs.Reach.{search_owes}
-use Rattle.sc_calm_law.specs.Resting.{IsResting, birth_owes, births_owe, RestingOwesLittle, KeptCalmEndsQuiet}
-use Rattle.sc_calm_law.specs.Totals.{Rows}
+use Rattle.sc_sound.specs.Definitions.{Player, player_table, receiver_of}
+use Rattle.sc_calm_law.specs.Definitions.{players, Chart, player_owes, run_owes, waiting_one, command_owes, mail_owes, flights_owe, ready_owes, replica_owes, IsAtRest, search_owes, IsResting, birth_owes, births_owe, RestingOwesLittle, KeptCalmEndsQuiet, Rows}
 use Rattle.sc_calm_law.proofs.OwedCharts.{led_idle}
 use Rattle.sc_calm_law.proofs.OwedKeeping.{kept_calm}
 
@@ -128,6 +112,7 @@ module _ (first chart : Chart) (most : chart.ways.most ≡ first.ways.most) (rea
       let b = sum_by-cons (λ (other : Seat Player). birth_owes first other.actor) seat seats in
       omega (arith, more, one, same, a, b)
 
+-- In a quiet journal that rests, no more is owed than clients owe at their births.
 pub resting_owes_little : RestingOwesLittle
 resting_owes_little words births first chart rows timely quiet is =
     let rest = all_rest first chart is.most is.reach rows births is.players in
@@ -135,6 +120,7 @@ resting_owes_little words births first chart rows timely quiet is =
     let mail = ap (sum_by (mail_owes chart.ways)) (quiet_mail words births rows (in_time_tidy (players words births) rows timely) quiet) in
     omega (arith, rest, groups, mail)
 
+-- Where rows keep calm and quiet journals rest, no line of deliveries is cut off that has room for what is owed at birth and what one order raises, if orders stand alone between such lines.
 pub kept_ends_quiet : KeptCalmEndsQuiet
 kept_ends_quiet words births lines charts most journal apart keep rests spaced room within lawful =
     ends_quiet (players words births) lines most (λ rows. run_owes (charts rows) (players words births) rows) (births_owe (charts []) births) (242 + 4 * (charts []).ways.most)

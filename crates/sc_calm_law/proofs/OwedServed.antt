@@ -1,22 +1,13 @@
 -- A leader at which calls alone are under way, and the group serves them: a vote lowers what is owed.
 use Rattle.std.proofs.Common.{◌≡◌, ℕ, ◌≤◌, ◌&&◌, eqb, ltb, Bool, true, false, cond, List, [], ◌∷◌, length, Option, Some, None, refl, sym, ◌∙◌, ap, subst}
 use Rattle.std.proofs.lemmas.Bool.{cond-true, cond-false, eq-eqb}
-use Rattle.sc_base.specs.Among.{Each}
-use Rattle.sc_base.specs.declared.ops.Op.{Op}
-use Rattle.sc_cmd.specs.declared.commands.Command.{Command}
-use Rattle.sc_cmd.specs.declared.commands.Command.TheVariants.{Noop, Call, Join, Leave, Split, Begin, Prepared, RecordVote, GiveUp, Finish, Watched, RecordWatch}
-use Rattle.sc_cmd.specs.declared.cores.Core.{Core}
-use Rattle.sc_base.specs.Roster.{is_member}
-use Rattle.sc_machine_table.specs.Group.{Group}
-use Rattle.sc_paxos_words.specs.declared.flights.Flight.{Flight}
-use Rattle.sc_paxos_words.specs.Leaders.{flight_at, without_flight}
-use Rattle.sc_node_table.specs.Execute.{entered, looked, executed_one, has_room, next_ready}
-use Rattle.sc_node_table.specs.Replica.{ReplicaState, Place, next, members}
-use Rattle.sc_node_table.specs.Slots.{at_slot, with_slot, without_slot}
-use Rattle.sc_law_lemmas.specs.Steps.{IfThere}
-use Rattle.sc_calm_law.specs.Executing.{AreBounded, IsServed, IsServedCall, ServesAll, IsPaid, MayGoOn, ArePaid, AllPaid}
-use Rattle.sc_calm_law.specs.Laws.{IsCounting, readied_at, DecidesFreely}
-use Rattle.sc_calm_law.specs.Owed.{Ways}
+use Rattle.sc_base.specs.Definitions.{Each, is_member}
+use Rattle.sc_node_table.specs.Values.{Op, Command, Noop, Call, Join, Leave, Split, Begin, Prepared, RecordVote, GiveUp, Finish, Watched, RecordWatch, Core, Flight}
+use Rattle.sc_machine_table.specs.Definitions.{Group}
+use Rattle.sc_paxos_words.specs.Definitions.{flight_at, without_flight}
+use Rattle.sc_node_table.specs.Definitions.{entered, looked, executed_one, has_room, next_ready, ReplicaState, Place, next, members, at_slot, with_slot, without_slot}
+use Rattle.sc_law_lemmas.specs.Definitions.{IfThere}
+use Rattle.sc_calm_law.specs.Definitions.{AreBounded, IsServed, IsServedCall, ServesAll, IsPaid, MayGoOn, ArePaid, AllPaid, IsCounting, readied_at, DecidesFreely, Ways}
 use Rattle.sc_calm_law.proofs.OwedCounted.{counted_ends, left_same, looked_same}
 use Rattle.sc_calm_law.proofs.OwedCalls.{call_core, call_leads, call_said}
 use Rattle.sc_calm_law.proofs.OwedExecuting.{near, after_counting, execution_owes}
@@ -124,7 +115,7 @@ one_paid es (Finish tx outcome) place serves at served more = absurd served
 one_paid es (Watched tx watch) place serves at served more = absurd served
 one_paid es (RecordWatch tx vote by) place serves at served more = absurd served
 
-ready_is : (r : ReplicaState) (command : Command) → next_ready r ≡ Some command → at_slot r.ready (next r) ≡ Some command
+pub ready_is : (r : ReplicaState) (command : Command) → next_ready r ≡ Some command → at_slot r.ready (next r) ≡ Some command
 ready_is r command e = by (r.running && has_room r) e
   where
     by : (b : Bool) → cond b (at_slot r.ready (next r)) None ≡ Some command → at_slot r.ready (next r) ≡ Some command

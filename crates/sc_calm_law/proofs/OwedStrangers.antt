@@ -1,31 +1,13 @@
 -- A node among others, and mail that no replica of it takes: it stays as it is, or makes a replica.
 use Rattle.std.proofs.Common.{◌≡◌, ℕ, ◌+◌, ◌-◌, ◌^◌, ◌≤◌, ◌==◌, ◌||◌, not, eqb, Bool, true, false, true≢false, cond, List, [], ◌∷◌, length, Option, Some, None, nat_lt, inl, inr, refl, sym, ◌∙◌, ap, arith}
 use Rattle.std.proofs.lemmas.Bool.{cond_both, cond-true, cond-false, cases_Bool}
-use Rattle.sc_base.specs.Same.{same_draw}
-use Rattle.sc_base.specs.declared.names.Ballot.{Ballot}
-use Rattle.sc_base.specs.declared.names.Draw.{Draw}
-use Rattle.sc_base.proofs.NameLemmas.{draw_is, same_name}
-use Rattle.sc_cmd.specs.declared.cores.Base.{Base}
-use Rattle.sc_cmd.specs.declared.links.Route.{Route}
-use Rattle.sc_machine_table.specs.Group.{Group}
-use Rattle.sc_mail.specs.declared.bodies.Mail.{Mail}
-use Rattle.sc_mail.specs.declared.bodies.MailBody.{MailBody}
-use Rattle.sc_mail.specs.declared.bodies.MailBody.TheVariants.{Request, Answer, Prepare, Promise, Accept, Accepted, Nack, Learn, Ask, Install, TxPrepare, TxVote, TxOutcome, TxElsewhere, TxWatch, TxWatched, Told}
-use Rattle.sc_base.specs.Roster.{is_member, least_of}
-use Rattle.sc_paxos_words.specs.Leaders.{new_leader}
-use Rattle.sc_node_table.specs.Election.{open_nodes, elected}
-use Rattle.sc_node_table.specs.Execute.{is_among, looked_for, looked}
-use Rattle.sc_node_table.specs.Install.{named}
-use Rattle.sc_node_table.specs.Mails.{sent_all}
-use Rattle.sc_node_table.specs.Node.{NodeState, replica_of, is_before, with_new, group_of_mail, with_made, unknown, may_come, taken_by, routed, on_mail}
-use Rattle.sc_node_table.specs.Replica.{ReplicaState, Place, name_of, next, members, forgotten, installed_replica, last_slot}
-use Rattle.sc_node_table.specs.Rows.{looked_up, made_by}
-use Rattle.sc_node_table.specs.Slots.{slots_ahead}
-use Rattle.sc_calm_law.specs.Led.{led_owes}
-use Rattle.sc_calm_law.specs.Nodes.{IsDelivered, MayMiss}
-use Rattle.sc_calm_law.specs.Owed.{Ways}
-use Rattle.sc_calm_law.specs.Parties.{idle_with, Elsewhere, groups_owe, party_owes, party_turn_owes, StandsOnce}
-use Rattle.sc_calm_law.specs.Strangers.{PartyLowers, IsMadeBehind, StrangersLower}
+use Rattle.sc_base.specs.Definitions.{same_draw, is_member, least_of}
+use Rattle.sc_node_table.specs.Values.{Ballot, Draw, Base, Route, Mail, MailBody, Request, Answer, Prepare, Promise, Accept, Accepted, Nack, Learn, Ask, Install, TxPrepare, TxVote, TxOutcome, TxElsewhere, TxWatch, TxWatched, Told}
+use Rattle.sc_base.proofs.Lemmas.{draw_is, same_name}
+use Rattle.sc_machine_table.specs.Definitions.{Group}
+use Rattle.sc_paxos_words.specs.Definitions.{new_leader}
+use Rattle.sc_node_table.specs.Definitions.{open_nodes, elected, is_among, looked_for, looked, named, sent_all, NodeState, replica_of, is_before, with_new, group_of_mail, with_made, unknown, may_come, taken_by, routed, on_mail, ReplicaState, Place, name_of, next, members, forgotten, installed_replica, last_slot, looked_up, made_by, slots_ahead}
+use Rattle.sc_calm_law.specs.Definitions.{led_owes, IsDelivered, MayMiss, Ways, idle_with, Elsewhere, groups_owe, party_owes, party_turn_owes, StandsOnce, PartyLowers, IsMadeBehind, StrangersLower}
 use Rattle.sc_calm_law.proofs.OwedLed.{looked_led}
 use Rattle.sc_calm_law.proofs.OwedMade.{installed_idle, made_owe}
 use Rattle.sc_calm_law.proofs.OwedNodes.{new_owes, nodes_lower}
@@ -99,7 +81,7 @@ made_led ways me from group slot base sets off =
     omega (arith, le, none)
 
 -- one more is found under its name, where none was
-new_is : (group : Draw) (new : ReplicaState) (replicas : List ReplicaState) → name_of new ≡ group → replica_of group replicas ≡ None → replica_of group (with_new new replicas) ≡ Some new
+pub new_is : (group : Draw) (new : ReplicaState) (replicas : List ReplicaState) → name_of new ≡ group → replica_of group replicas ≡ None → replica_of group (with_new new replicas) ≡ Some new
 new_is group new [] n e = cond-true (same_draw (name_of new) group) (Some new) None (same_name (name_of new) group n)
 new_is group new (x ∷ replicas) n e =
     elim (cases_Bool (same_draw (name_of x) group)) [
@@ -224,6 +206,7 @@ module _ (ways : Ways) (groups : List Draw) (elsewhere : Elsewhere) where
         omega (arith, same, le)))
         (λ _. stays)
 
+-- Mail that no replica of a node takes lowers what is owed by the node and by all groups: it is for no group, comes from one who sends none such, or is for a group of which the node has no replica, also where it makes one of a state that it is sent, which does not lead where another of its group does.
 pub strangers_lower : StrangersLower
 strangers_lower = record {
   stray = stray_lowers;

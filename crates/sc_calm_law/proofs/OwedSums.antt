@@ -2,15 +2,10 @@
 use Rattle.std.proofs.Common.{◌≡◌, ℕ, suc, ◌+◌, ◌*◌, ◌≤◌, eqb, ltb, Bool, true, false, cond, List, [], ◌∷◌, length, sum_by, Some, ap, arith}
 use Rattle.std.proofs.lemmas.List.Sums.{sum_by_push, sum_by-cons}
 use Rattle.std.proofs.Math.Nat.{suc-mul}
-use Rattle.sc_cmd.specs.declared.commands.Command.{Command}
-use Rattle.sc_cmd.specs.declared.commands.Command.TheVariants.{Noop, Call, Join, Leave, Split, Begin, Prepared, RecordVote, GiveUp, Finish, Watched, RecordWatch}
-use Rattle.sc_mail.specs.declared.bodies.Mail.{Mail}
-use Rattle.sc_mail.specs.declared.bodies.MailBody.{MailBody}
-use Rattle.sc_paxos_words.specs.declared.flights.Flight.{Flight}
-use Rattle.sc_paxos_words.specs.Leaders.{without_flight}
-use Rattle.sc_node_table.specs.Mails.{sent, sent_all}
-use Rattle.sc_node_table.specs.Slots.{at_slot, with_slot, without_slot}
-use Rattle.sc_calm_law.specs.Owed.{Ways, command_owes, offered_owes, body_owes, mail_owes, flights_owe, ready_owes}
+use Rattle.sc_node_table.specs.Values.{Command, Noop, Call, Join, Leave, Split, Begin, Prepared, RecordVote, GiveUp, Finish, Watched, RecordWatch, Mail, MailBody, Flight}
+use Rattle.sc_paxos_words.specs.Definitions.{without_flight}
+use Rattle.sc_node_table.specs.Definitions.{sent, sent_all, at_slot, with_slot, without_slot}
+use Rattle.sc_calm_law.specs.Definitions.{Ways, command_owes, offered_owes, body_owes, mail_owes, flights_owe, ready_owes}
 
 -- each command owes a round of agreement and an answer at least
 pub command_most : (most : ℕ) (command : Command) → 27 ≤ command_owes most command

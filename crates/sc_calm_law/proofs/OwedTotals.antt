@@ -4,23 +4,13 @@ use Rattle.std.specs.Prelude.{is_some}
 use Rattle.std.specs.List.{list_any}
 use Rattle.std.proofs.lemmas.Bool.{eqb-true, and_parts, or_parts, not-true}
 use Rattle.std.proofs.lemmas.List.Sums.{sum_by-cons}
-use Rattle.sc_base.specs.declared.names.Draw.{Draw}
-use Rattle.sc_cmd.specs.declared.links.Route.{Route}
-use Rattle.sc_cmd.specs.declared.orders.OrderLine.{OrderLine}
-use Rattle.sc_mail.specs.declared.roles.Role.TheVariants.{Node}
-use Rattle.sc_actor.specs.declared.actors.Seat.{Seat}
-use Rattle.sc_actor.specs.declared.rows.Event.{Event}
-use Rattle.sc_actor.specs.Mail.{mails}
-use Rattle.sc_actor.specs.Replay.{value, acted, input_of}
-use Rattle.sc_actor.specs.System.{are_apart, row_of}
-use Rattle.sc_actor.proofs.ReplayLemmas.{value-snoc}
-use Rattle.sc_node_table.specs.Node.{NodeState, replica_of}
-use Rattle.sc_node_table.specs.Replica.{ReplicaState}
-use Rattle.sc_orderly_law.proofs.Seats.{one_changes}
-use Rattle.sc_sound.specs.Players.{Player, player_table}
-use Rattle.sc_calm_law.specs.Owed.{idle_owes, election}
-use Rattle.sc_calm_law.specs.Parties.{idle_with, Elsewhere, groups_owe}
-use Rattle.sc_calm_law.specs.Totals.{Rows, is_leading, leads, is_led, led_elsewhere, group_idles, players_owe, node_part, TotalsChangeAsParties}
+use Rattle.sc_node_table.specs.Values.{Draw, Route, OrderLine, Node, Seat, Event}
+use Rattle.sc_actor.specs.Definitions.{mails, value, acted, input_of, are_apart, row_of}
+use Rattle.sc_actor.proofs.Lemmas.{value-snoc}
+use Rattle.sc_node_table.specs.Definitions.{NodeState, replica_of, ReplicaState}
+use Rattle.sc_orderly_law.proofs.Lemmas.{one_changes}
+use Rattle.sc_sound.specs.Definitions.{Player, player_table}
+use Rattle.sc_calm_law.specs.Definitions.{idle_owes, election, idle_with, Elsewhere, groups_owe, Rows, is_leading, leads, is_led, led_elsewhere, group_idles, players_owe, node_part, TotalsChangeAsParties}
 
 -- ---- any of some seats, of which one stands apart
 
@@ -151,6 +141,7 @@ module _ (births : List (Seat Player)) (apart : are_apart births ≡ true) (rows
       let after = groups_after groups in
       omega (arith, sums, before, after)
 
+-- A row of a node changes what all nodes and groups owe as it changes what the node owes among the others, where a group is led elsewhere if its replica runs or is gone at another node.
 pub totals_change : TotalsChangeAsParties
 totals_change ways groups births rows seat event before after apart born was is =
     let all = players_change births apart rows seat event born (node_part ways.most) groups in

@@ -1,58 +1,18 @@
 -- What the entries of splits and transactions say, and whom they add.
 use Rattle.std.proofs.Common.{◌≡◌, ℕ, ◌+◌, ◌*◌, ◌≤◌, not, Bool, true, false, true≢false, cond, List, [], ◌∷◌, ◌++◌, length, take, drop, sum_by, Option, Some, None, inl, inr, refl, sym, ◌∙◌, ap, subst, arith, take-append-drop}
 use Rattle.std.specs.List.{filter}
-use Rattle.sc_base.specs.Among.{Among}
-use Rattle.sc_base.specs.Same.{same_draw}
-use Rattle.sc_base.specs.declared.names.Draw.{Draw}
-use Rattle.sc_cmd.specs.Cores.{is_alone}
-use Rattle.sc_cmd.specs.Effects.{is_changed, decided_in, cast_in}
-use Rattle.sc_cmd.specs.declared.bodies.Body.{Body}
+use Rattle.sc_base.specs.Definitions.{Among, same_draw, is_member, with_member, least_of, united}
+use Rattle.sc_node_table.specs.Values.{Draw, Body, Offer, Watch, Command, Noop, Call, Join, Leave, Split, Begin, Prepared, RecordVote, GiveUp, Finish, Watched, RecordWatch, Core, Lock, Free, Coordinating, Promised, Watching, Effect, Link, Route, OrderRefusal, ToldResult, Frozen, Heard, No, Outcome, Past, Vote, AnswerBody, Mail, TxPrepare, TxVote, TxOutcome, TxWatched}
+use Rattle.sc_cmd.specs.Definitions.{is_alone, is_changed, decided_in, cast_in}
 use Rattle.sc_cmd.specs.declared.bodies.Body.TheVariants as At
-use Rattle.sc_cmd.specs.declared.bodies.Offer.{Offer}
-use Rattle.sc_cmd.specs.declared.bodies.Watch.{Watch}
-use Rattle.sc_cmd.specs.declared.commands.Command.{Command}
-use Rattle.sc_cmd.specs.declared.commands.Command.TheVariants.{Noop, Call, Join, Leave, Split, Begin, Prepared, RecordVote, GiveUp, Finish, Watched, RecordWatch}
-use Rattle.sc_cmd.specs.declared.cores.Core.{Core}
-use Rattle.sc_cmd.specs.declared.cores.Lock.{Lock}
-use Rattle.sc_cmd.specs.declared.cores.Lock.TheVariants.{Free, Coordinating, Promised, Watching}
-use Rattle.sc_cmd.specs.declared.effects.Effect.{Effect}
 use Rattle.sc_cmd.specs.declared.effects.Effect.TheVariants as Was
-use Rattle.sc_cmd.specs.declared.links.Link.{Link}
-use Rattle.sc_cmd.specs.declared.links.Route.{Route}
-use Rattle.sc_cmd.specs.declared.orders.OrderRefusal.{OrderRefusal}
 use Rattle.sc_cmd.specs.declared.orders.OrderRefusal.TheVariants.{NotLeader}
-use Rattle.sc_cmd.specs.declared.orders.ToldResult.{ToldResult}
-use Rattle.sc_cmd.specs.declared.votes.Frozen.{Frozen}
-use Rattle.sc_cmd.specs.declared.votes.Heard.{Heard}
-use Rattle.sc_cmd.specs.declared.votes.No.{No}
-use Rattle.sc_cmd.specs.declared.votes.Outcome.{Outcome}
 use Rattle.sc_cmd.specs.declared.votes.Outcome.TheVariants as Is
-use Rattle.sc_cmd.specs.declared.votes.Past.{Past}
 use Rattle.sc_cmd.specs.declared.votes.Past.TheVariants as Cast
-use Rattle.sc_cmd.specs.declared.votes.Vote.{Vote}
 use Rattle.sc_cmd.specs.declared.votes.Vote.TheVariants as Says
-use Rattle.sc_mail.specs.declared.bodies.AnswerBody.{AnswerBody}
-use Rattle.sc_mail.specs.declared.bodies.Mail.{Mail}
-use Rattle.sc_mail.specs.declared.bodies.MailBody.TheVariants.{TxPrepare, TxVote, TxOutcome, TxWatched}
-use Rattle.sc_base.specs.Roster.{is_member, with_member, least_of}
-use Rattle.sc_base.specs.Union.{united}
-use Rattle.sc_machine_table.specs.Finishes.{gained_group, lost_group, welcomed_group, participant_after, settled_in, finished}
-use Rattle.sc_machine_table.specs.Group.{Group}
-use Rattle.sc_machine_table.specs.Machine.{applied, ordered_by, split_group}
-use Rattle.sc_machine_table.specs.Orders.{refusal_of, ordered}
-use Rattle.sc_machine_table.specs.Plans.{frozen_of, closing_plan, repart_plan, migrate_plan}
-use Rattle.sc_machine_table.specs.Splits.{staying, has_named, left_group}
-use Rattle.sc_machine_table.specs.Transactions.{begun_group, decided_group, heard_group, committed, granted, participant_answered, asks_watcher, vote_recorded}
-use Rattle.sc_machine_table.specs.Votes.{has_voted, voted_on, vote_of, watch_vote_of}
-use Rattle.sc_node_table.specs.Mails.{sent}
-use Rattle.sc_node_table.specs.Execute.{entered, order_result, told_effect, told_call, announced, answer_of}
-use Rattle.sc_node_table.specs.Pump.{is_act}
-use Rattle.sc_node_table.specs.Questions.{offer_of, asked_link, question, asked_first}
-use Rattle.sc_node_table.specs.Replica.{ReplicaState, Place, members, forgotten}
-use Rattle.sc_node_table.specs.Spoken.{before_of, asked_on, vote_sent, watch_sent, released_to, vote_answered, watch_answered_by, told_begun, went_on, spoken_mails, spoken}
-use Rattle.sc_calm_law.specs.Executing.{AreBounded}
-use Rattle.sc_calm_law.specs.Laws.{said_place, newcomers}
-use Rattle.sc_calm_law.specs.Owed.{Ways, mail_owes}
+use Rattle.sc_machine_table.specs.Definitions.{gained_group, lost_group, welcomed_group, participant_after, settled_in, finished, Group, applied, ordered_by, split_group, refusal_of, ordered, frozen_of, closing_plan, repart_plan, migrate_plan, staying, has_named, left_group, begun_group, decided_group, heard_group, committed, granted, participant_answered, asks_watcher, vote_recorded, has_voted, voted_on, vote_of, watch_vote_of}
+use Rattle.sc_node_table.specs.Definitions.{sent, entered, order_result, told_effect, told_call, announced, answer_of, is_act, offer_of, asked_link, question, asked_first, ReplicaState, Place, members, forgotten, before_of, asked_on, vote_sent, watch_sent, released_to, vote_answered, watch_answered_by, told_begun, went_on, spoken_mails, spoken}
+use Rattle.sc_calm_law.specs.Definitions.{AreBounded, said_place, newcomers, Ways, mail_owes}
 use Rattle.sc_calm_law.proofs.OwedSums.{sent_owes}
 use Rattle.sc_calm_law.proofs.OwedLearnt.{filter_short, begun_owes}
 use Rattle.sc_calm_law.proofs.OwedChanges.{among_member, same_new, one_new, entered_members, ordered_members}

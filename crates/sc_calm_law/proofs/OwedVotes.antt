@@ -2,20 +2,11 @@
 use Rattle.std.proofs.Common.{◌≡◌, ℕ, ◌+◌, ◌≤◌, ◌&&◌, eqb, Bool, true, false, cond, List, [], ◌∷◌, length, Option, Some, None, refl, ap, arith}
 use Rattle.std.proofs.lemmas.Bool.{eqb-true, and_parts}
 use Rattle.std.proofs.lemmas.List.Sums.{sum_by-cons}
-use Rattle.sc_base.specs.declared.names.Ballot.{Ballot}
-use Rattle.sc_base.specs.Same.{same_ballot}
-use Rattle.sc_cmd.specs.declared.commands.Command.{Command}
-use Rattle.sc_mail.specs.declared.bodies.Mail.{Mail}
-use Rattle.sc_base.specs.Majority.{is_majority}
-use Rattle.sc_paxos_words.specs.declared.answers.Counted.TheVariants.{Chosen, NotYet}
-use Rattle.sc_paxos_words.specs.declared.flights.Flight.{Flight}
-use Rattle.sc_paxos_words.specs.Leaders.{flight_at, without_flight, without_flight_at}
-use Rattle.sc_paxos_words.specs.Votes.{kept_voters, voters_after, with_voters, tallied, vote_at}
-use Rattle.sc_node_table.specs.Execute.{has_room, executed}
-use Rattle.sc_node_table.specs.Replica.{ReplicaState, Place, Executed, childless, next, set_at}
-use Rattle.sc_node_table.specs.Voting.{readied, vote_tallied, voted, accepted_row}
-use Rattle.sc_calm_law.specs.Laws.{readied_at, DecidesFreely}
-use Rattle.sc_calm_law.specs.Owed.{Ways, offered_owes, flights_owe, place_owes}
+use Rattle.sc_node_table.specs.Values.{Ballot, Command, Mail, Chosen, NotYet, Flight}
+use Rattle.sc_base.specs.Definitions.{same_ballot, is_majority}
+use Rattle.sc_paxos_words.specs.Definitions.{flight_at, without_flight, without_flight_at, kept_voters, voters_after, with_voters, tallied, vote_at}
+use Rattle.sc_node_table.specs.Definitions.{has_room, executed, ReplicaState, Place, Executed, childless, next, set_at, readied, vote_tallied, voted, accepted_row}
+use Rattle.sc_calm_law.specs.Definitions.{readied_at, DecidesFreely, Ways, offered_owes, flights_owe, place_owes}
 use Rattle.sc_calm_law.proofs.OwedSums.{with_slot_owes}
 
 -- ---- what is in flight

@@ -1,10 +1,11 @@
 -- What replicas are at birth, computed: nothing is under way, and the first member leads.
 use Rattle.std.proofs.Common.{◌&&◌, not, eq-eqb, true, Some, refl, ◌∙◌, ap}
-use Rattle.sc_paxos_words.specs.Ballots.{below}
-use Rattle.sc_paxos_words.proofs.BallotLemmas.{at_least_itself}
-use Rattle.sc_node_table.specs.Replica.{first_ballot}
-use Rattle.sc_calm_law.specs.Quiet.{ReplicasBeginAtRest, FirstMembersLead}
+use Rattle.sc_paxos_words.specs.Definitions.{below}
+use Rattle.sc_paxos_words.proofs.Lemmas.{at_least_itself}
+use Rattle.sc_node_table.specs.Definitions.{first_ballot}
+use Rattle.sc_calm_law.specs.Definitions.{ReplicasBeginAtRest, FirstMembersLead}
 
+-- At birth a replica is at rest, as in a quiet journal: it waits for nothing, nothing is in flight or ready, and it has promised no later ballot than its own.
 pub begin_at_rest : ReplicasBeginAtRest
 begin_at_rest ahead me base free = (
   record { free = free; acts = refl; calls = refl; waits = refl; flights = refl; ready = refl },
@@ -12,6 +13,7 @@ begin_at_rest ahead me base free = (
   record { promised = at_least_itself (first_ballot base.core); top = at_least_itself (first_ballot base.core); accepted = tt },
 )
 
+-- At birth the first member of a group leads, as one leads in a quiet journal.
 pub first_leads : FirstMembersLead
 first_leads ahead me base some first mine = record {
   running = eq-eqb base.core.first me first;

@@ -1,10 +1,7 @@
 -- What a replica owes when it is made.
 use Rattle.std.specs.Prelude.{◌≡◌, ℕ, ◌+◌, ◌≤◌, ◌==◌, false, List, []}
-use Rattle.sc_base.specs.declared.names.Draw.{Draw}
-use Rattle.sc_cmd.specs.declared.cores.Base.{Base}
-use Rattle.sc_mail.specs.declared.bodies.MailBody.TheVariants.{Install}
-use Rattle.sc_node_table.specs.Replica.{born_replica}
-use Rattle.sc_node_table.specs.Rows.{made_by}
+use Rattle.sc_node_table.specs.Values.{Draw, Base, Install}
+use Rattle.sc_node_table.specs.Definitions.{born_replica, made_by}
 use Rattle.sc_calm_law.specs.Owed.{Ways, body_owes, idle_owes, place_owes}
 
 -- at its group's birth, as at the split that makes it: nothing but what its group owes where its first member is another node

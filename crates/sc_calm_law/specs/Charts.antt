@@ -1,15 +1,10 @@
 -- What all players, groups and mail under way owe after some rows, by a chart that may change with the rows.
 use Rattle.std.specs.Prelude.{◌≡◌, ℕ, ◌+◌, ◌≤◌, true, List, ◌++◌, sum_by}
-use Rattle.sc_base.specs.Among.{Each}
-use Rattle.sc_base.specs.declared.names.Draw.{Draw}
-use Rattle.sc_cmd.specs.declared.orders.OrderLine.{OrderLine}
-use Rattle.sc_mail.specs.declared.bodies.Mail.{Mail}
-use Rattle.sc_mail.specs.declared.roles.Role.TheVariants.{Node, Client}
-use Rattle.sc_actor.specs.declared.actors.Seat.{Seat}
-use Rattle.sc_actor.specs.Replay.{value}
-use Rattle.sc_actor.specs.System.{System, system}
-use Rattle.sc_orderly_law.specs.Owing.{under_way}
-use Rattle.sc_sound.specs.Players.{Player, player_table, receiver_of}
+use Rattle.sc_base.specs.Definitions.{Each}
+use Rattle.sc_node_table.specs.Values.{Draw, OrderLine, Mail, Node, Client, Seat}
+use Rattle.sc_actor.specs.Definitions.{value, System, system}
+use Rattle.sc_orderly_law.specs.Definitions.{under_way}
+use Rattle.sc_sound.specs.Definitions.{Player, player_table, receiver_of}
 use Rattle.sc_calm_law.specs.Nodes.{node_owes}
 use Rattle.sc_calm_law.specs.Owed.{Ways, mail_owes}
 use Rattle.sc_calm_law.specs.Reach.{Reach, client_owes}

@@ -1,18 +1,11 @@
 -- What the rows of a client owe in a calm journal.
 use Rattle.std.specs.Prelude.{◌≡◌, ℕ, ◌+◌, ◌-◌, ◌*◌, ◌≤◌, true, List, [], ◌∷◌, length, sum_by, if◌then◌else◌, Option, Some, None, is_some, ◌⊎◌}
-use Rattle.sc_base.specs.Among.{Among}
-use Rattle.sc_base.specs.Arc.{Arc}
-use Rattle.sc_base.specs.declared.names.Draw.{Draw}
-use Rattle.sc_base.specs.declared.ops.Reply.{Reply}
-use Rattle.sc_cmd.specs.declared.links.Link.{Link}
-use Rattle.sc_cmd.specs.declared.links.Route.{Route}
-use Rattle.sc_lookup.specs.Known.{KnownGroups, way_to, target_in}
-use Rattle.sc_lookup.specs.Ways.{new_way}
+use Rattle.sc_base.specs.Definitions.{Among, Arc}
+use Rattle.sc_node_table.specs.Values.{Draw, Reply, Link, Route, Answer}
+use Rattle.sc_lookup.specs.Definitions.{KnownGroups, way_to, target_in, new_way}
 use Rattle.sc_lookup.specs.declared.ways.Way.{Way}
 use Rattle.sc_mail.specs.declared.bodies.AnswerBody.TheVariants as Says
-use Rattle.sc_mail.specs.declared.bodies.MailBody.TheVariants.{Answer}
-use Rattle.sc_client_table.specs.Client.{Client as ClientState}
-use Rattle.sc_client_table.specs.Table.{ClientStep, started, waits_for, was_asked, got}
+use Rattle.sc_client_table.specs.Definitions.{Client as ClientState, ClientStep, started, waits_for, was_asked, got}
 use Rattle.sc_calm_law.specs.Executing.{AreBounded}
 use Rattle.sc_calm_law.specs.Owed.{Ways, answer_owes, mail_owes}
 

@@ -1,30 +1,14 @@
 -- What the entries that a leader executes one after another have to be, so that they raise nothing.
 use Rattle.std.specs.Prelude.{◌≡◌, ℕ, ◌≤◌, true, false, List, [], ◌∷◌, length, None, Some, ◌⊎◌}
-use Rattle.sc_base.specs.Among.{Each}
-use Rattle.sc_base.specs.declared.names.Ballot.{Ballot}
-use Rattle.sc_base.specs.declared.names.Draw.{Draw}
-use Rattle.sc_base.specs.declared.ops.Op.{Op}
-use Rattle.sc_ideal.specs.IdealStore.{key_of, holds_key}
-use Rattle.sc_cmd.specs.declared.commands.Command.{Command}
-use Rattle.sc_cmd.specs.declared.commands.Command.TheVariants.{Noop, Call, Join, Leave, Split, Begin, Prepared, RecordVote, GiveUp, Finish, Watched, RecordWatch}
-use Rattle.sc_cmd.specs.declared.cores.Core.{Core}
-use Rattle.sc_cmd.specs.declared.cores.Lock.TheVariants.{Free}
-use Rattle.sc_cmd.specs.declared.links.Route.{Route}
-use Rattle.sc_cmd.specs.declared.votes.Past.{Past}
+use Rattle.sc_base.specs.Definitions.{Each, is_member}
+use Rattle.sc_node_table.specs.Values.{Ballot, Draw, Op, Command, Noop, Call, Join, Leave, Split, Begin, Prepared, RecordVote, GiveUp, Finish, Watched, RecordWatch, Core, Free, Route, Past, Accepted, Flight}
+use Rattle.sc_ideal.specs.Definitions.{key_of, holds_key}
 use Rattle.sc_cmd.specs.declared.votes.Past.TheVariants as Cast
-use Rattle.sc_cmd.specs.Cores.{is_alone}
-use Rattle.sc_cmd.specs.Effects.{is_changed}
-use Rattle.sc_mail.specs.declared.bodies.MailBody.TheVariants.{Accepted}
-use Rattle.sc_base.specs.Roster.{is_member}
-use Rattle.sc_machine_table.specs.Machine.{applied}
-use Rattle.sc_paxos_words.specs.declared.flights.Flight.{Flight}
-use Rattle.sc_paxos_words.specs.Leaders.{without_flight}
-use Rattle.sc_node_table.specs.Pump.{serves_calls}
-use Rattle.sc_node_table.specs.Execute.{entered, executed_one, next_ready}
-use Rattle.sc_node_table.specs.Replica.{ReplicaState, Place, next, members}
-use Rattle.sc_node_table.specs.Slots.{without_slot}
-use Rattle.sc_node_table.specs.Spoken.{before_of}
-use Rattle.sc_law_lemmas.specs.Steps.{IfThere}
+use Rattle.sc_cmd.specs.Definitions.{is_alone, is_changed}
+use Rattle.sc_machine_table.specs.Definitions.{applied}
+use Rattle.sc_paxos_words.specs.Definitions.{without_flight}
+use Rattle.sc_node_table.specs.Definitions.{serves_calls, entered, executed_one, next_ready, ReplicaState, Place, next, members, without_slot, before_of}
+use Rattle.sc_law_lemmas.specs.Definitions.{IfThere}
 use Rattle.sc_calm_law.specs.Laws.{newcomers, IsCounting, LeadsOn, StopsAfter, MayPump, Lowers, readied_at, ExecutesFreely}
 use Rattle.sc_calm_law.specs.Owed.{Ways}
 
@@ -113,11 +97,6 @@ AllPaid command place = IsPaid command place.0 × ArePaid (executed_one true com
 -- such entries raise nothing, with all that is offered after them
 abbrev pub ExecutionsRaiseNothing : Type 0
 ExecutionsRaiseNothing = (ways : Ways) (command : Command) (place : Place) → AreBounded ways → AllPaid command place → ExecutesFreely ways command place
-
--- an entry behind which nothing is ready need only be one itself, and leave at most nine members
-abbrev pub LoneEntriesArePaid : Type 0
-LoneEntriesArePaid =
-    (command : Command) (place : Place) → IsPaid command place.0 → without_slot place.0.ready (next place.0) ≡ [] → MayPump place.0 → LeavesFew command place.0 → AllPaid command place
 
 -- a vote at a leader that serves calls alone lowers what is owed, with all that it executes then
 abbrev pub CallVotesLower : Type 0

@@ -1,38 +1,12 @@
 -- What is proved of what rows of a calm journal owe.
 use Rattle.std.specs.Prelude.{◌≡◌, ℕ, ◌+◌, ◌*◌, ◌≤◌, not, true, false, List, [], length, filter, sum_by, Option, None, Some}
-use Rattle.sc_base.specs.Among.{Each}
-use Rattle.sc_cmd.specs.declared.commands.Command.{Command}
-use Rattle.sc_base.specs.Drawing.{Drawer}
-use Rattle.sc_base.specs.declared.names.Ballot.{Ballot}
-use Rattle.sc_base.specs.declared.names.Draw.{Draw}
-use Rattle.sc_base.specs.declared.ops.Op.{Op}
-use Rattle.sc_cmd.specs.declared.bodies.Offer.{Offer}
-use Rattle.sc_cmd.specs.declared.bodies.Watch.{Watch}
-use Rattle.sc_cmd.specs.declared.bodies.Body.{Body}
-use Rattle.sc_cmd.specs.declared.cores.Base.{Base}
-use Rattle.sc_cmd.specs.declared.cores.Lock.TheVariants.{Coordinating}
-use Rattle.sc_cmd.specs.declared.votes.Heard.{Heard}
-use Rattle.sc_node_table.specs.Questions.{question}
-use Rattle.sc_cmd.specs.declared.orders.OrderLine.{OrderLine}
-use Rattle.sc_cmd.specs.declared.votes.Outcome.{Outcome}
-use Rattle.sc_cmd.specs.declared.votes.Past.{Past}
-use Rattle.sc_cmd.specs.declared.votes.Vote.{Vote}
-use Rattle.sc_mail.specs.declared.bodies.MailBody.{MailBody}
-use Rattle.sc_mail.specs.declared.bodies.MailBody.TheVariants.{Request, Prepare, Promise, Accept, Accepted, Nack, Learn, Install, TxElsewhere, TxPrepare, TxVote, TxOutcome, TxWatch, TxWatched}
-use Rattle.sc_node_table.specs.Ordering.{ordered_row}
-use Rattle.sc_node_table.specs.Rows.{mailed}
-use Rattle.sc_cmd.specs.declared.commands.Command.TheVariants.{Noop, Call, Join, Leave, Split, Begin, Prepared, RecordVote, GiveUp, Finish, Watched, RecordWatch}
+use Rattle.sc_base.specs.Definitions.{Each, Drawer, is_member}
+use Rattle.sc_node_table.specs.Values.{Command, Ballot, Draw, Op, Offer, Watch, Body, Base, Coordinating, Heard, OrderLine, Outcome, Past, Vote, MailBody, Request, Prepare, Promise, Accept, Accepted, Nack, Learn, Install, TxElsewhere, TxPrepare, TxVote, TxOutcome, TxWatch, TxWatched, Noop, Call, Join, Leave, Split, Begin, Prepared, RecordVote, GiveUp, Finish, Watched, RecordWatch, Flight}
+use Rattle.sc_node_table.specs.Definitions.{question, ordered_row, mailed, at_slot, with_slot, without_slot, before_of, spoken, entered, announced, executed_one, has_room, executed, pumped, ReplicaState, Place, name_of, next, members}
 use Rattle.sc_paxos_words.specs.declared.answers.Must.TheVariants.{Free as Open}
-use Rattle.sc_paxos_words.specs.declared.flights.Flight.{Flight}
-use Rattle.sc_paxos_words.specs.Leaders.{must, flight_at, without_flight, without_flight_at}
-use Rattle.sc_base.specs.Roster.{is_member}
-use Rattle.sc_machine_table.specs.Machine.{applied}
-use Rattle.sc_node_table.specs.Slots.{at_slot, with_slot, without_slot}
-use Rattle.sc_node_table.specs.Spoken.{before_of, spoken}
-use Rattle.sc_node_table.specs.Execute.{entered, announced, executed_one, has_room, executed}
-use Rattle.sc_node_table.specs.Pump.{pumped}
-use Rattle.sc_node_table.specs.Replica.{ReplicaState, Place, name_of, next, members}
-use Rattle.sc_law_lemmas.specs.Steps.{GoesOn}
+use Rattle.sc_paxos_words.specs.Definitions.{must, flight_at, without_flight, without_flight_at}
+use Rattle.sc_machine_table.specs.Definitions.{applied}
+use Rattle.sc_law_lemmas.specs.Definitions.{GoesOn}
 use Rattle.sc_calm_law.specs.Owed.{Ways, offered_owes, asked_owes, body_owes, mail_owes, place_owes}
 
 -- no report binds the leader at an open slot

@@ -1,14 +1,7 @@
 -- What a replica owes where another of its group leads or is gone: all but what its group owes.
 use Rattle.std.specs.Prelude.{◌≡◌, ℕ, ◌+◌, ◌≤◌, true, false, List, [], sum_by, Some}
-use Rattle.sc_base.specs.declared.names.Draw.{Draw}
-use Rattle.sc_cmd.specs.declared.commands.Command.{Command}
-use Rattle.sc_cmd.specs.declared.links.Route.{Route}
-use Rattle.sc_mail.specs.declared.bodies.MailBody.{MailBody}
-use Rattle.sc_mail.specs.declared.bodies.MailBody.TheVariants.{Learn}
-use Rattle.sc_node_table.specs.Execute.{entered, executed_one}
-use Rattle.sc_node_table.specs.Node.{NodeState, on_mail}
-use Rattle.sc_node_table.specs.Replica.{ReplicaState, Place, name_of, next}
-use Rattle.sc_node_table.specs.Rows.{mailed}
+use Rattle.sc_node_table.specs.Values.{Draw, Command, Route, MailBody, Learn}
+use Rattle.sc_node_table.specs.Definitions.{entered, executed_one, NodeState, on_mail, ReplicaState, Place, name_of, next, mailed}
 use Rattle.sc_calm_law.specs.Nodes.{IsTaken, after_mail}
 use Rattle.sc_calm_law.specs.Owed.{Ways, body_owes, mail_owes, replica_owes}
 use Rattle.sc_calm_law.specs.Parties.{Elsewhere, party_owes, party_turn_owes}

@@ -13,3 +13,4 @@ pub mod Reach
 pub mod Resting
 pub mod Strangers
 pub mod Totals
+pub mod Definitions

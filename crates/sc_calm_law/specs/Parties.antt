@@ -1,13 +1,8 @@
 -- What a node owes among others, with what each group owes once in which none runs.
 use Rattle.std.specs.Prelude.{◌≡◌, ℕ, ◌+◌, ◌*◌, ◌≤◌, Bool, true, false, List, [], ◌∷◌, sum_by, Option, Some, None, ◌⊎◌}
-use Rattle.sc_base.specs.Among.{Each}
-use Rattle.sc_base.specs.declared.names.Draw.{Draw}
-use Rattle.sc_cmd.specs.declared.orders.OrderLine.{OrderLine}
-use Rattle.sc_mail.specs.declared.bodies.Mail.{Mail}
-use Rattle.sc_mail.specs.declared.bodies.MailBody.{MailBody}
-use Rattle.sc_node_table.specs.Node.{NodeState, replica_of, on_mail, group_of_order, on_order}
-use Rattle.sc_node_table.specs.Ordering.{ordered_row}
-use Rattle.sc_node_table.specs.Replica.{ReplicaState, name_of}
+use Rattle.sc_base.specs.Definitions.{Each}
+use Rattle.sc_node_table.specs.Values.{Draw, OrderLine, Mail, MailBody}
+use Rattle.sc_node_table.specs.Definitions.{NodeState, replica_of, on_mail, group_of_order, on_order, ordered_row, ReplicaState, name_of}
 use Rattle.sc_calm_law.specs.Laws.{Lowers, MayPump}
 use Rattle.sc_calm_law.specs.Nodes.{node_owes, group_owes, IsTaken, after_mail}
 use Rattle.sc_calm_law.specs.Owed.{Ways, body_owes, mail_owes, election}

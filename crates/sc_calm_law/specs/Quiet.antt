@@ -1,15 +1,10 @@
 -- What holds of nodes and clients in a quiet journal of a calm scenario.
 use Rattle.std.specs.Prelude.{◌≡◌, ℕ, ◌<◌, ◌≤◌, Bool, true, false, List, [], length, Option, Some, None, ◌⊎◌}
-use Rattle.sc_base.specs.Among.{Among, Each}
-use Rattle.sc_base.specs.Arc.{end_of}
-use Rattle.sc_base.specs.declared.names.Draw.{Draw}
-use Rattle.sc_cmd.specs.declared.cores.Base.{Base}
-use Rattle.sc_cmd.specs.declared.cores.Lock.TheVariants.{Free}
-use Rattle.sc_cmd.specs.declared.links.Route.{Route}
-use Rattle.sc_base.specs.Roster.{is_member}
-use Rattle.sc_paxos_words.specs.Ballots.{below}
-use Rattle.sc_client_table.specs.Client.{Client as ClientState, born_client}
-use Rattle.sc_node_table.specs.Replica.{ReplicaState, next, members, settled, born_replica}
+use Rattle.sc_base.specs.Definitions.{Among, Each, end_of, is_member}
+use Rattle.sc_node_table.specs.Values.{Draw, Base, Free, Route}
+use Rattle.sc_paxos_words.specs.Definitions.{below}
+use Rattle.sc_client_table.specs.Definitions.{Client as ClientState, born_client}
+use Rattle.sc_node_table.specs.Definitions.{ReplicaState, next, members, settled, born_replica}
 use Rattle.sc_calm_law.specs.Laws.{IsUnbound}
 
 -- the replica of a group at a node, if it has one

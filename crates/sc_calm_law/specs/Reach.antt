@@ -1,15 +1,11 @@
 -- What a client owes for groups that it does not know, and that its rows lower what it owes.
 use Rattle.std.specs.Prelude.{◌≡◌, ℕ, ◌+◌, ◌*◌, ◌≤◌, nat_lt, true, List, [], ◌∷◌, length, sum_by, Option, Some, None, if◌then◌else◌}
-use Rattle.sc_base.specs.Among.{Among, Each}
-use Rattle.sc_base.specs.declared.names.Draw.{Draw}
-use Rattle.sc_lookup.specs.Known.{KnownGroups, way_to}
+use Rattle.sc_base.specs.Definitions.{Among, Each}
+use Rattle.sc_node_table.specs.Values.{Draw, AnswerBody, MailBody, Answer}
+use Rattle.sc_lookup.specs.Definitions.{KnownGroups, way_to}
 use Rattle.sc_lookup.specs.declared.ways.Way.{Way}
-use Rattle.sc_mail.specs.declared.bodies.AnswerBody.{AnswerBody}
 use Rattle.sc_mail.specs.declared.bodies.AnswerBody.TheVariants as Says
-use Rattle.sc_mail.specs.declared.bodies.MailBody.{MailBody}
-use Rattle.sc_mail.specs.declared.bodies.MailBody.TheVariants.{Answer}
-use Rattle.sc_client_table.specs.Client.{Client as ClientState}
-use Rattle.sc_client_table.specs.Table.{ClientStep, started, waits_for, was_asked, got}
+use Rattle.sc_client_table.specs.Definitions.{Client as ClientState, ClientStep, started, waits_for, was_asked, got}
 use Rattle.sc_calm_law.specs.Clients.{requests_owe, AsksWithin, IsInTurn, unknown}
 use Rattle.sc_calm_law.specs.Executing.{AreBounded}
 use Rattle.sc_calm_law.specs.Owed.{Ways, answer_owes, mail_owes}

@@ -1,17 +1,10 @@
 -- What is owed in quiet journals that rest, and that calm journals which keep what they need end quiet.
 use Rattle.std.specs.Prelude.{◌≡◌, ℕ, ◌+◌, ◌*◌, ◌≤◌, nat_lt, true, false, List, [], length, sum_by, None, if◌then◌else◌}
-use Rattle.sc_base.specs.Among.{Each}
-use Rattle.sc_cmd.specs.declared.orders.OrderLine.{OrderLine}
-use Rattle.sc_mail.specs.declared.roles.Role.TheVariants.{Node, Client}
-use Rattle.sc_actor.specs.declared.actors.Seat.{Seat}
-use Rattle.sc_actor.specs.declared.schedules.Line.{Line}
-use Rattle.sc_actor.specs.Replay.{value}
-use Rattle.sc_actor.specs.System.{are_apart}
-use Rattle.sc_actor.specs.Walk.{IsLawful, is_quiet, unsettled}
-use Rattle.sc_orderly_law.specs.Owing.{HasRoom}
-use Rattle.sc_orderly_law.specs.Orderly.{deliveries}
-use Rattle.sc_orderly_law.specs.Timely.{AreSpaced, Nothing, AreInTime, orders_given}
-use Rattle.sc_sound.specs.Players.{Player, player_table}
+use Rattle.sc_base.specs.Definitions.{Each}
+use Rattle.sc_node_table.specs.Values.{OrderLine, Node, Client, Seat, Line}
+use Rattle.sc_actor.specs.Definitions.{value, are_apart, IsLawful, is_quiet, unsettled}
+use Rattle.sc_orderly_law.specs.Definitions.{HasRoom, deliveries, AreSpaced, Nothing, AreInTime, orders_given}
+use Rattle.sc_sound.specs.Definitions.{Player, player_table}
 use Rattle.sc_calm_law.specs.Charts.{players, Chart, run_owes}
 use Rattle.sc_calm_law.specs.Keeping.{KeepCalm}
 use Rattle.sc_calm_law.specs.Quiet.{IsAtRest}

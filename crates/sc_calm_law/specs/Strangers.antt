@@ -1,11 +1,7 @@
 -- What a node and all groups owe by mail that no replica of the node takes.
 use Rattle.std.specs.Prelude.{◌≡◌, ℕ, ◌+◌, ◌≤◌, true, false, List, Some, None}
-use Rattle.sc_base.specs.declared.names.Draw.{Draw}
-use Rattle.sc_cmd.specs.declared.cores.Base.{Base}
-use Rattle.sc_mail.specs.declared.bodies.MailBody.{MailBody}
-use Rattle.sc_mail.specs.declared.bodies.MailBody.TheVariants.{Install}
-use Rattle.sc_node_table.specs.Node.{NodeState, replica_of, group_of_mail, may_come, on_mail}
-use Rattle.sc_node_table.specs.Rows.{made_by}
+use Rattle.sc_node_table.specs.Values.{Draw, Base, MailBody, Install}
+use Rattle.sc_node_table.specs.Definitions.{NodeState, replica_of, group_of_mail, may_come, on_mail, made_by}
 use Rattle.sc_calm_law.specs.Nodes.{IsDelivered, MayMiss}
 use Rattle.sc_calm_law.specs.Owed.{Ways, body_owes}
 use Rattle.sc_calm_law.specs.Parties.{Elsewhere, party_owes, party_turn_owes, StandsOnce}

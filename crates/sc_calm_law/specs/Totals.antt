@@ -1,18 +1,10 @@
 -- What all nodes and groups owe after some rows.
 use Rattle.std.specs.Prelude.{◌≡◌, ℕ, ◌+◌, ◌==◌, ◌&&◌, ◌||◌, not, Bool, true, false, List, [], ◌∷◌, ◌++◌, sum_by, find, Option, Some, None, is_some, if◌then◌else◌}
 use Rattle.std.specs.List.{list_any}
-use Rattle.sc_base.specs.declared.names.Draw.{Draw}
-use Rattle.sc_cmd.specs.declared.orders.OrderLine.{OrderLine}
-use Rattle.sc_mail.specs.declared.bodies.Mail.{Mail}
-use Rattle.sc_mail.specs.declared.roles.Role.TheVariants.{Node, Client}
-use Rattle.sc_actor.specs.declared.actors.Seat.{Seat}
-use Rattle.sc_actor.specs.declared.rows.Event.{Event}
-use Rattle.sc_actor.specs.declared.rows.Row.{Row}
-use Rattle.sc_actor.specs.Replay.{value}
-use Rattle.sc_actor.specs.System.{are_apart, row_of}
-use Rattle.sc_node_table.specs.Node.{NodeState, replica_of}
-use Rattle.sc_node_table.specs.Replica.{ReplicaState}
-use Rattle.sc_sound.specs.Players.{Player, player_table}
+use Rattle.sc_node_table.specs.Values.{Draw, OrderLine, Mail, Node, Client, Seat, Event, Row}
+use Rattle.sc_actor.specs.Definitions.{value, are_apart, row_of}
+use Rattle.sc_node_table.specs.Definitions.{NodeState, replica_of, ReplicaState}
+use Rattle.sc_sound.specs.Definitions.{Player, player_table}
 use Rattle.sc_calm_law.specs.Nodes.{node_owes}
 use Rattle.sc_calm_law.specs.Owed.{Ways, election}
 use Rattle.sc_calm_law.specs.Parties.{Elsewhere, party_owes}

@@ -2,40 +2,23 @@
 use Rattle.std.proofs.Common.{◌≡◌, ℕ, ◌+◌, ◌≤◌, ◌&&◌, suc, true, true≢false, List, [], ◌∷◌, ◌++◌, length, take, Option, Some, None, refl, sym, ◌∙◌, ap, subst, arith}
 use Rattle.std.proofs.lemmas.Bool.{and_parts, cond_both}
 use Rattle.std.proofs.lemmas.List.{length_push, take-take}
-use Rattle.sc_base.specs.Among.{Among, Each}
-use Rattle.sc_cmd.specs.declared.commands.Command.{Command}
-use Rattle.sc_cmd.specs.declared.cores.Base.{Base}
-use Rattle.sc_mail.specs.declared.bodies.Mail.{Mail}
-use Rattle.sc_machine_table.specs.Group.{Group, group_of}
-use Rattle.sc_machine_table.specs.Machine.{applied}
-use Rattle.sc_machine_table.specs.Logs.{state_after}
-use Rattle.sc_machine_table.proofs.LogLemmas.{state_push}
-use Rattle.sc_base.specs.Roster.{IsRoster}
-use Rattle.sc_paxos_words.specs.Leaders.{without_flight_at}
-use Rattle.sc_paxos_words.proofs.ListLemmas.{Each-among}
-use Rattle.sc_paxos_law.specs.Chosen.{needed, members_of, IsLog}
-use Rattle.sc_paxos_law.specs.Lawful.{IsLawfulHistory}
-use Rattle.sc_paxos_law.proofs.Law.{earlier, longer_log}
-use Rattle.sc_node_table.specs.Election.{ended}
-use Rattle.sc_node_table.specs.Execute.{entered, learnt_to, welcomed, landed, left, looked, executed_one, has_room, next_ready}
-use Rattle.sc_node_table.specs.Replica.{ReplicaState, Place, name_of, next, members, forgotten}
-use Rattle.sc_node_table.specs.Slots.{slots_ahead, rest_of, at_slot, without_slot}
-use Rattle.sc_node_table.specs.Spoken.{before_of, spoken}
-use Rattle.sc_sound.specs.Players.{Ahead}
-use Rattle.sc_hist_law.proofs.Logs.{state_same}
-use Rattle.sc_law_lemmas.specs.Steps.{IfThere}
-use Rattle.sc_law_lemmas.proofs.Entries.{entered_next}
-use Rattle.sc_following_law.specs.Following.{Sets, members_at}
-use Rattle.sc_following_law.specs.Counted.{IsNext}
-use Rattle.sc_following_law.specs.Executed.{AreNext}
-use Rattle.sc_following_law.specs.Leading.{AreEntries}
-use Rattle.sc_following_law.specs.Offers.{AreAt}
-use Rattle.sc_following_law.proofs.Counted.{told_state, landed_is, entered_keeps, ends}
-use Rattle.sc_following_law.proofs.Spoken.{announced_keeps, spoken_same}
-use Rattle.sc_group_law.proofs.Growth.{IsLearnt, by_own_log}
-use Rattle.sc_group_law.proofs.Invariant.{Steps, rule, first, birth, AreSets}
-use Rattle.sc_group_law.proofs.Parts.{Each-without_slot, slot_among, rest_length}
-use Rattle.sc_whole_law.proofs.Members.{members_stay_rosters}
+use Rattle.sc_base.specs.Definitions.{Among, Each, IsRoster}
+use Rattle.sc_node_table.specs.Values.{Command, Base, Mail}
+use Rattle.sc_machine_table.specs.Definitions.{Group, group_of, applied, state_after}
+use Rattle.sc_machine_table.proofs.Lemmas.{state_push}
+use Rattle.sc_paxos_words.specs.Definitions.{without_flight_at}
+use Rattle.sc_paxos_words.proofs.Lemmas.{Each-among}
+use Rattle.sc_paxos_law.specs.Definitions.{needed, members_of, IsLog, IsLawfulHistory}
+use Rattle.sc_paxos_law.proofs.Lemmas.{earlier, longer_log}
+use Rattle.sc_node_table.specs.Definitions.{ended, entered, learnt_to, welcomed, landed, left, looked, executed_one, has_room, next_ready, ReplicaState, Place, name_of, next, members, forgotten, slots_ahead, at_slot, without_slot, before_of, spoken}
+use Rattle.sc_sound.specs.Definitions.{Ahead}
+use Rattle.sc_hist_law.proofs.Lemmas.{state_same}
+use Rattle.sc_law_lemmas.specs.Definitions.{IfThere}
+use Rattle.sc_law_lemmas.proofs.Lemmas.{entered_next}
+use Rattle.sc_following_law.specs.Definitions.{Sets, members_at, IsNext, AreNext, AreEntries, AreAt}
+use Rattle.sc_following_law.proofs.Lemmas.{told_state, landed_is, entered_keeps, ends, announced_keeps, spoken_same, are_next as are_later, entered_sets}
+use Rattle.sc_group_law.proofs.Lemmas.{IsLearnt, by_own_log, Steps, rule, first, birth, AreSets, Each-without_slot, slot_among, rest_length}
+use Rattle.sc_whole_law.proofs.Lemmas.{members_stay_rosters}
 
 -- what an entry makes of the group
 entered_group : (command : Command) (r : ReplicaState) → (entered command r).group ≡ (applied r.group command).0
@@ -49,18 +32,6 @@ next_ready_is r c e =
     (λ t k. (slot_among r.ready (next r) c k, (and_parts r.running (has_room r) t).0)) (λ _ k. cc) e
 
 -- ---- the members of the open slots, with one more
-
-are_push : (at : Sets) (slot : ℕ) (sets : List (List ℕ)) (set : List ℕ) → AreAt at slot sets → at (slot + length sets) ≡ set → AreAt at slot (sets ++ set ∷ [])
-are_push at slot [] set are e = (ap at (omega arith) ∙ e, tt)
-are_push at slot (s ∷ sets) set are e = (are.0, are_push at (slot + 1) sets set are.1 (ap at (omega arith) ∙ e))
-
-are_later : (at : Sets) (slot : ℕ) (sets : List (List ℕ)) (set : List ℕ) → AreAt at slot sets → length sets ≡ slots_ahead → at (slot + slots_ahead) ≡ set → AreAt at (slot + 1) (rest_of sets ++ set ∷ [])
-are_later at slot [] set are len e = absurd (omega (arith, len))
-are_later at slot (s ∷ sets) set are len e = are_push at (slot + 1) sets set are.1 (ap at (omega (arith, len)) ∙ e)
-
-entered_sets : (command : Command) (r : ReplicaState) → (entered command r).sets ≡ rest_of r.sets ++ members (entered command r) ∷ []
-unfolding entered forgotten
-entered_sets command r = refl
 
 -- some steps of a group, each log of which is a front of one
 module _ (ahead : Ahead) (open_slots : ahead.slots ≡ slots_ahead) (base : Base) (roster : IsRoster base.core.members) (h : Steps) (lawful : IsLawfulHistory (rule ahead base) (first ahead base) h) (all : List Command)

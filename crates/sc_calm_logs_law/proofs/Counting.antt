@@ -1,45 +1,18 @@
 -- A majority of votes that a leader has counted makes its command the log's.
-use Rattle.std.proofs.Common.{◌≡◌, ℕ, ◌≤◌, ◌||◌, nat_lt, true, eqb, List, [], ◌∷◌, length, filter, Option, Some, None, refl, sym, ap, subst}
+use Rattle.std.proofs.Common.{◌≡◌, ℕ, ◌≤◌, ◌||◌, true, eqb, List, [], ◌∷◌, length, Option, Some, None, refl, sym, ap, subst}
 use Rattle.std.proofs.lemmas.Bool.{eqb-true, ltb-true, cond_both}
-use Rattle.sc_base.specs.Among.{Among, Each}
-use Rattle.sc_base.specs.Same.{same_ballot}
-use Rattle.sc_base.specs.declared.names.Ballot.{Ballot}
-use Rattle.sc_base.proofs.NameLemmas.{ballot_is}
-use Rattle.sc_cmd.specs.declared.commands.Command.{Command}
-use Rattle.sc_cmd.specs.declared.cores.Base.{Base}
-use Rattle.sc_base.specs.Majority.{is_majority}
-use Rattle.sc_base.specs.Roster.{is_member, with_member}
-use Rattle.sc_paxos_words.specs.declared.answers.Counted.{Counted}
-use Rattle.sc_paxos_words.specs.declared.answers.Counted.TheVariants.{Chosen, NotYet}
-use Rattle.sc_paxos_words.specs.declared.flights.Flight.{Flight}
-use Rattle.sc_paxos_words.specs.Leaders.{LeaderState, flight_at}
-use Rattle.sc_paxos_words.specs.Votes.{kept_voters, add_voter, voters_after, vote_at, counted}
-use Rattle.sc_paxos_words.proofs.ListLemmas.{Each-among, Each-weaker, Each-append, Each-filter, find_found}
-use Rattle.sc_paxos_law.specs.Steps.{Offered, Accepted}
-use Rattle.sc_paxos_law.specs.Chosen.{needed, members_of, IsLog}
-use Rattle.sc_paxos_law.specs.Lawful.{IsLawfulHistory}
-use Rattle.sc_paxos_law.proofs.History.{was_offered, one_offer}
-use Rattle.sc_node_table.specs.Slots.{with_slot}
-use Rattle.sc_sound.specs.Players.{Ahead}
-use Rattle.sc_group_law.proofs.Growth.{IsLearnt}
-use Rattle.sc_group_law.proofs.Invariant.{Steps, rule, first, IsFlying}
+use Rattle.sc_base.specs.Definitions.{Among, Each, same_ballot, is_majority}
+use Rattle.sc_node_table.specs.Values.{Ballot, Command, Base, Counted, Chosen, NotYet, Flight}
+use Rattle.sc_base.proofs.Lemmas.{ballot_is}
+use Rattle.sc_paxos_words.specs.Definitions.{LeaderState, flight_at, kept_voters, voters_after, vote_at, counted}
+use Rattle.sc_paxos_words.proofs.Lemmas.{Each-among, Each-weaker, find_found}
+use Rattle.sc_paxos_law.specs.Definitions.{Offered, Accepted, needed, members_of, IsLog, IsLawfulHistory}
+use Rattle.sc_paxos_law.proofs.Lemmas.{was_offered, one_offer}
+use Rattle.sc_sound.specs.Definitions.{Ahead}
+use Rattle.sc_group_law.proofs.Lemmas.{IsLearnt, Steps, rule, first, IsFlying, each_after}
+pub use Rattle.sc_group_law.proofs.Counting.{each_with_slot}
 
 -- ---- kept voters
-
-each_voter : (P : ℕ → Type 0) (node : ℕ) (o : Option (List ℕ)) → P node → Each P (kept_voters o) → Each P (kept_voters (add_voter node o))
-each_voter P node None p e = (p, tt)
-each_voter P node (Some voters) p e =
-    cond_both (is_member voters node || eqb (length voters) 9) (Some voters) (Some (with_member voters node)) (λ o. Each P (kept_voters o)) (λ _. e)
-    (λ _. Each-append P (filter (λ m. nat_lt m node) voters) (node ∷ filter (λ m. nat_lt node m) voters) (Each-filter P (λ m. nat_lt m node) voters e) (p, Each-filter P (λ m. nat_lt node m) voters e))
-
-each_after : (P : ℕ → Type 0) (members : List ℕ) (node : ℕ) (o : Option (List ℕ)) → P node → Each P (kept_voters o) → Each P (kept_voters (voters_after members node o))
-each_after P members node o p e = cond_both (is_member members node) (add_voter node o) o (λ x. Each P (kept_voters x)) (λ _. each_voter P node o p e) (λ _. e)
-
--- what is ready, with one more
-pub each_with_slot : (P : ℕ × Command → Type 0) (es : List (ℕ × Command)) (slot : ℕ) (c : Command) → Each P es → P (slot, c) → Each P (with_slot es slot c)
-each_with_slot P [] slot c e p = (p, tt)
-each_with_slot P (x ∷ es) slot c e p =
-    cond_both (eqb x.0 slot) _ _ (Each P) (λ _. (p, e.1)) (λ _. cond_both (nat_lt slot x.0) _ _ (Each P) (λ _. (p, e)) (λ _. (e.0, each_with_slot P es slot c e.1 p)))
 
 -- ---- a count
 

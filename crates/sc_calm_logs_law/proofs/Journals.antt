@@ -1,59 +1,26 @@
 -- What of a journal's groups the laws of journals prove, after each of its first rows.
 use Rattle.std.proofs.Common.{◌≡◌, ℕ, ◌≤◌, eqb, List, [], ◌∷◌, ◌++◌, length, map, take, inl, inr, refl, sym, ◌∙◌, ap, subst, arith, append_assoc, append-nil}
-use Rattle.sc_base.specs.Among.{Among, Each}
-use Rattle.sc_base.specs.Same.{same_draw}
-use Rattle.sc_base.specs.declared.names.Ballot.{Ballot}
-use Rattle.sc_base.specs.declared.names.Draw.{Draw}
-use Rattle.sc_base.proofs.NameLemmas.{draw_is}
-use Rattle.sc_cmd.specs.declared.commands.Command.{Command}
-use Rattle.sc_cmd.specs.declared.cores.Base.{Base}
-use Rattle.sc_cmd.specs.declared.links.Route.{Route}
-use Rattle.sc_cmd.specs.declared.orders.OrderLine.{OrderLine}
-use Rattle.sc_mail.specs.declared.bodies.Mail.{Mail}
-use Rattle.sc_mail.specs.declared.roles.Role.TheVariants.{Node, Client}
-use Rattle.sc_base.specs.Roster.{IsRoster}
-use Rattle.sc_actor.specs.declared.actors.Seat.{Seat}
-use Rattle.sc_actor.specs.declared.rows.Row.{Row}
-use Rattle.sc_actor.specs.Mail.{mails}
-use Rattle.sc_actor.specs.Replay.{value}
-use Rattle.sc_actor.proofs.ReplayLemmas.{mails-append}
-use Rattle.sc_actor.proofs.WalkLemmas.{lawful-prefix}
-use Rattle.sc_paxos_words.specs.declared.flights.Flight.{Flight}
-use Rattle.sc_paxos_words.specs.Votes.{kept_voters}
-use Rattle.sc_paxos_words.proofs.ListLemmas.{Each-among, Each-weaker, find_found}
-use Rattle.sc_paxos_law.proofs.Among.{Among-left, Among-right, Among-either, from_map}
-use Rattle.sc_paxos_law.proofs.Decided.{later_logs}
-use Rattle.sc_paxos_law.specs.Chosen.{members_of, IsLog}
+use Rattle.sc_base.specs.Definitions.{Among, Each, same_draw, IsRoster}
+use Rattle.sc_node_table.specs.Values.{Ballot, Draw, Command, Base, Route, OrderLine, Mail, Node, Client, Seat, Row, Flight}
+use Rattle.sc_base.proofs.Lemmas.{draw_is}
+use Rattle.sc_actor.specs.Definitions.{mails, value}
+use Rattle.sc_actor.proofs.Lemmas.{mails-append, lawful-prefix}
+use Rattle.sc_paxos_words.specs.Definitions.{kept_voters}
+use Rattle.sc_paxos_words.proofs.Lemmas.{Each-among, Each-weaker, find_found}
+use Rattle.sc_paxos_law.proofs.Lemmas.{Among-left, Among-right, Among-either, from_map, later_logs}
+use Rattle.sc_paxos_law.specs.Definitions.{members_of, IsLog}
 use Rattle.sc_scenario.specs.declared.scenarios.Scenario.{Scenario}
-use Rattle.sc_node_table.specs.Node.{NodeState}
-use Rattle.sc_node_table.specs.Replica.{ReplicaState, name_of, next}
-use Rattle.sc_node_table.specs.Slots.{numbers_from, slots_ahead}
-use Rattle.sc_sound.specs.GroupsOf.{groups_at}
-use Rattle.sc_sound.specs.Logs.{decided_log}
-use Rattle.sc_sound.specs.Players.{Ahead, Player, Lawful, births, node_seat, client_seat, player_table, system_of, schedule}
-use Rattle.sc_ring_law.specs.Allowed.{Sources}
-use Rattle.sc_log_law.specs.Descent.{Rows}
-use Rattle.sc_log_law.specs.Findings.{AreFound, StayAsTold}
-use Rattle.sc_log_law.specs.InTurn.{DecideInTurn}
-use Rattle.sc_log_law.proofs.Findings.{groups_are_found}
-use Rattle.sc_log_law.proofs.Histories.{told_rows_stay}
-use Rattle.sc_group_law.specs.Steps.{proposer_steps, asked_in, promises_at, steps}
-use Rattle.sc_sound.specs.Accepts.{accepts_at}
-use Rattle.sc_group_law.proofs.Families.{h_of, Part}
-use Rattle.sc_group_law.proofs.Growth.{grown_learnt, IsLearnt}
-use Rattle.sc_group_law.proofs.Holding.{Holds as Held, held}
-use Rattle.sc_group_law.proofs.Invariant.{Steps, rule, IsFlying, IsReplica, AreSets, next_after}
-use Rattle.sc_group_law.proofs.Names.{IsOneOf}
-use Rattle.sc_group_law.proofs.Projected.{steps-push}
-use Rattle.sc_group_law.proofs.Replies.{front_is}
-use Rattle.sc_group_law.proofs.RowSteps.{among_numbers}
-use Rattle.sc_whole_law.specs.Begins.{BeginsWell}
-use Rattle.sc_whole_law.specs.Orders.{OrdersAreAllowed}
-use Rattle.sc_whole_law.specs.Parameters.{MayQueue, IsHeardAt}
-use Rattle.sc_whole_law.proofs.Journals.{holds}
-use Rattle.sc_whole_law.proofs.Turning.{Holds}
-use Rattle.sc_following_law.specs.Offers.{AreAt}
-use Rattle.sc_calm_logs_law.specs.Logged.{HasReplica}
+use Rattle.sc_node_table.specs.Definitions.{NodeState, ReplicaState, name_of, next, numbers_from, slots_ahead}
+use Rattle.sc_sound.specs.Definitions.{groups_at, decided_log, Ahead, Player, Lawful, births, node_seat, client_seat, player_table, system_of, schedule, accepts_at}
+use Rattle.sc_ring_law.specs.Definitions.{Sources}
+use Rattle.sc_log_law.specs.Definitions.{Rows, AreFound, StayAsTold, DecideInTurn}
+use Rattle.sc_log_law.proofs.Lemmas.{groups_are_found, told_rows_stay}
+use Rattle.sc_group_law.specs.Definitions.{proposer_steps, asked_in, promises_at, steps}
+use Rattle.sc_group_law.proofs.Lemmas.{h_of, Part, grown_learnt, IsLearnt, Holds as Held, held, Steps, rule, IsFlying, IsReplica, AreSets, next_after, IsOneOf, steps-push, front_is, among_numbers}
+use Rattle.sc_whole_law.specs.Definitions.{BeginsWell, OrdersAreAllowed, MayQueue, IsHeardAt}
+use Rattle.sc_whole_law.proofs.Lemmas.{holds, Holds, fewer_orders}
+use Rattle.sc_following_law.specs.Definitions.{AreAt}
+use Rattle.sc_calm_logs_law.specs.Definitions.{HasReplica}
 use Rattle.sc_calm_logs_law.proofs.Along.{IsAlong, are_at}
 
 -- ---- the steps of more rows
@@ -88,16 +55,6 @@ more_steps group rows (row ∷ more) =
 pub grown_flying : (ahead : Ahead) (base : Base) (newer h : Steps) (ballot : Ballot) (flights : List (Flight Command)) → Each (IsFlying ahead base h ballot) flights → Each (IsFlying ahead base (newer ++ h) ballot) flights
 grown_flying ahead base newer h ballot flights all =
     Each-weaker (IsFlying ahead base h ballot) (IsFlying ahead base (newer ++ h) ballot) (λ f p. (Among-right _ newer h p.0, Each-weaker _ _ (λ n a. Among-right _ newer h a) (kept_voters f.voters) p.1)) flights all
-
--- what is asked of a journal's orders is asked of those of its first part
-fewer_orders : (sources : Sources) (ahead : Ahead) (scenario : Scenario) (rows more : Rows) → OrdersAreAllowed sources ahead scenario (rows ++ more) → OrdersAreAllowed sources ahead scenario rows
-fewer_orders sources ahead scenario rows more orders = record {
-  told = λ before row later e. orders.told before row (later ++ more) (longer before row later e);
-  wished = λ before row later e. orders.wished before row (later ++ more) (longer before row later e);
-}
-  where
-    longer : (before : Rows) (row : Row Mail OrderLine) (later : Rows) → rows ≡ before ++ row ∷ later → rows ++ more ≡ before ++ row ∷ (later ++ more)
-    longer before row later e = ap (λ xs. xs ++ more) e ∙ append_assoc before (row ∷ later) more
 
 module _ (sources : Sources) (ahead : Ahead) (words : ℕ → ℕ → ℕ × ℕ) (scenario : Scenario) (route : Route) (b : BeginsWell sources ahead scenario route) (journal : Rows) (orders : OrdersAreAllowed sources ahead scenario journal) (lawful : Lawful ahead words scenario journal) where
   abbrev bases : Rows → List Base

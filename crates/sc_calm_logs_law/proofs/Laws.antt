@@ -1,49 +1,25 @@
 -- The laws of this crate, of lawful journals of valid scenarios.
 use Rattle.std.proofs.Common.{◌≡◌, ℕ, ◌+◌, ◌<◌, ◌≤◌, true, List, [], ◌++◌, length, take, Some, refl, sym, ◌∙◌, ap, subst, arith}
-use Rattle.sc_base.specs.declared.names.Ballot.{Ballot}
-use Rattle.sc_base.specs.Among.{Each}
-use Rattle.sc_base.proofs.NameLemmas.{same_name}
-use Rattle.sc_cmd.specs.declared.commands.Command.{Command}
-use Rattle.sc_cmd.specs.declared.cores.Base.{Base}
-use Rattle.sc_cmd.specs.declared.links.Route.{Route}
-use Rattle.sc_mail.specs.declared.bodies.Mail.{Mail}
-use Rattle.sc_mail.specs.declared.bodies.MailBody.{MailBody}
-use Rattle.sc_mail.specs.declared.bodies.MailBody.TheVariants.{Accepted as AcceptedMail, Learn, Install}
-use Rattle.sc_machine_table.specs.Group.{Group}
-use Rattle.sc_base.specs.Roster.{IsRoster}
-use Rattle.sc_actor.specs.declared.actors.Seat.{Seat}
-use Rattle.sc_actor.specs.Mail.{mails, numbered}
-use Rattle.sc_paxos_law.specs.Chosen.{needed, IsLog}
-use Rattle.sc_paxos_law.specs.Lawful.{IsLawfulHistory}
-use Rattle.sc_paxos_law.proofs.Law.{earlier}
-use Rattle.sc_scenario.specs.Valid.{ValidScenariosAreBounded}
+use Rattle.sc_node_table.specs.Values.{Ballot, Command, Base, Route, Mail, MailBody, Accepted as AcceptedMail, Learn, Install, Seat}
+use Rattle.sc_base.specs.Definitions.{Each, IsRoster}
+use Rattle.sc_base.proofs.Lemmas.{same_name}
+use Rattle.sc_machine_table.specs.Definitions.{Group}
+use Rattle.sc_actor.specs.Definitions.{mails, numbered}
+use Rattle.sc_paxos_law.specs.Definitions.{needed, IsLog, IsLawfulHistory}
+use Rattle.sc_paxos_law.proofs.Lemmas.{earlier}
+use Rattle.sc_scenario.specs.Definitions.{ValidScenariosAreBounded}
 use Rattle.sc_scenario.specs.declared.scenarios.Scenario.{Scenario}
-use Rattle.sc_node_table.specs.Execute.{entered}
-use Rattle.sc_node_table.specs.Node.{NodeState}
-use Rattle.sc_node_table.specs.Replica.{ReplicaState, next}
-use Rattle.sc_node_table.specs.Slots.{slots_ahead, with_slot}
-use Rattle.sc_sound.specs.Logs.{decided_log}
-use Rattle.sc_sound.specs.Players.{Ahead, Player, route_of}
-use Rattle.sc_hist_law.proofs.Logs.{state_same}
-use Rattle.sc_log_law.specs.Descent.{Rows}
-use Rattle.sc_ring_law.specs.Allowed.{Sources}
-use Rattle.sc_names_law.specs.Laws.{OtherNamesAreFree, TakenOrdersAreAllowed, TakenWishesAreAllowed, WishesAreAtPositions}
-use Rattle.sc_names_law.specs.Owners.{owner_in}
-use Rattle.sc_group_law.proofs.Families.{h_of}
-use Rattle.sc_group_law.proofs.Growth.{IsLearnt}
-use Rattle.sc_group_law.proofs.Invariant.{Steps, rule, first, birth, IsState, IsTrue}
-use Rattle.sc_group_law.proofs.RowSteps.{number_among}
-use Rattle.sc_whole_law.specs.Begins.{BeginsWell, section_op}
-use Rattle.sc_whole_law.specs.Orders.{OrdersAreAllowed}
-use Rattle.sc_whole_law.specs.Parameters.{MayQueue, IsHeardAt}
-use Rattle.sc_whole_law.specs.StartLaws.{ValidScenariosBeginWell}
-use Rattle.sc_whole_law.proofs.Scheduled.{orders_allowed}
-use Rattle.sc_following_law.specs.Counted.{IsNext}
-use Rattle.sc_following_law.specs.Executed.{AreNext}
-use Rattle.sc_following_law.specs.Leading.{DecidesNext}
-use Rattle.sc_following_law.specs.Offers.{AreAt}
-use Rattle.sc_calm_logs_law.specs.Logged.{logged_sets, IsGroupOf, HasReplica, IsLogged, IsLoggedState, SlotsHaveRosters, ReplicasAreLogged, CommandsComeNext, StatesAreLogged}
-use Rattle.sc_calm_logs_law.specs.Nodes.{BringsNodes, HasNodes, EntriesBringNodes, MembersAreNodes}
+use Rattle.sc_node_table.specs.Definitions.{entered, NodeState, ReplicaState, next, slots_ahead, with_slot}
+use Rattle.sc_sound.specs.Definitions.{decided_log, Ahead, Player, route_of}
+use Rattle.sc_hist_law.proofs.Lemmas.{state_same}
+use Rattle.sc_log_law.specs.Definitions.{Rows}
+use Rattle.sc_ring_law.specs.Definitions.{Sources}
+use Rattle.sc_names_law.specs.Definitions.{OtherNamesAreFree, TakenOrdersAreAllowed, TakenWishesAreAllowed, WishesAreAtPositions, owner_in}
+use Rattle.sc_group_law.proofs.Lemmas.{h_of, IsLearnt, Steps, rule, first, birth, IsState, IsTrue, number_among}
+use Rattle.sc_whole_law.specs.Definitions.{BeginsWell, section_op, OrdersAreAllowed, MayQueue, IsHeardAt, ValidScenariosBeginWell}
+use Rattle.sc_whole_law.proofs.Lemmas.{orders_allowed}
+use Rattle.sc_following_law.specs.Definitions.{IsNext, AreNext, DecidesNext, AreAt}
+use Rattle.sc_calm_logs_law.specs.Definitions.{logged_sets, IsGroupOf, HasReplica, IsLogged, IsLoggedState, SlotsHaveRosters, ReplicasAreLogged, CommandsComeNext, StatesAreLogged, BringsNodes, HasNodes, EntriesBringNodes, MembersAreNodes}
 use Rattle.sc_calm_logs_law.proofs.Along.{IsAlong, first_sets, rosters, by_log, are_at, after_log, members_are, name_is, entered_along, entered_opens, entered_many, is_next, are_next, are_entries}
 use Rattle.sc_calm_logs_law.proofs.Bringing.{begins_nodes, brings_nodes}
 use Rattle.sc_calm_logs_law.proofs.Counting.{counted_learnt, each_with_slot}

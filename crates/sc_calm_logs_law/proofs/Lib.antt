@@ -7,3 +7,5 @@ pub mod Laws
 pub mod Naming
 pub mod Nodes
 pub mod Views
+pub mod LawsWhole
+pub mod Lemmas

@@ -3,47 +3,19 @@ use Rattle.std.proofs.Common.{◌≡◌, ℕ, List, [], ◌∷◌, ◌++◌, Opt
 use Rattle.std.specs.List.{find}
 use Rattle.std.specs.Option.{option_map}
 use Rattle.std.proofs.lemmas.Bool.{cond_both}
-use Rattle.sc_base.specs.Among.{Each}
-use Rattle.sc_base.specs.Same.{same_draw}
-use Rattle.sc_base.specs.declared.names.Draw.{Draw}
-use Rattle.sc_cmd.specs.declared.bodies.Body.{Body}
+use Rattle.sc_base.specs.Definitions.{Each, same_draw}
+use Rattle.sc_node_table.specs.Values.{Draw, Body, Offer, Watch, Command, Noop, Call, Join, Leave, Split, Begin, Prepared, RecordVote, GiveUp, Finish, Watched, RecordWatch, Base, Core, Lock, Free, Coordinating, Promised, Watching, Effect, Link, Heard, Outcome, Abort, Past, Vote, Mail, MailBody, Request, Answer, Prepare, Promise, Accept, Accepted, Nack, Learn, Ask, Install, TxPrepare, TxVote, TxOutcome, TxElsewhere, TxWatch, TxWatched, Told}
 use Rattle.sc_cmd.specs.declared.bodies.Body.TheVariants as At
-use Rattle.sc_cmd.specs.declared.bodies.Offer.{Offer}
-use Rattle.sc_cmd.specs.declared.bodies.Watch.{Watch}
-use Rattle.sc_cmd.specs.declared.commands.Command.{Command}
-use Rattle.sc_cmd.specs.declared.commands.Command.TheVariants.{Noop, Call, Join, Leave, Split, Begin, Prepared, RecordVote, GiveUp, Finish, Watched, RecordWatch}
-use Rattle.sc_cmd.specs.declared.cores.Base.{Base}
-use Rattle.sc_cmd.specs.declared.cores.Core.{Core}
-use Rattle.sc_cmd.specs.declared.cores.Lock.{Lock}
-use Rattle.sc_cmd.specs.declared.cores.Lock.TheVariants.{Free, Coordinating, Promised, Watching}
-use Rattle.sc_cmd.specs.declared.effects.Effect.{Effect}
-use Rattle.sc_cmd.specs.declared.links.Link.{Link}
-use Rattle.sc_cmd.specs.declared.votes.Heard.{Heard}
-use Rattle.sc_cmd.specs.declared.votes.Outcome.{Outcome}
-use Rattle.sc_cmd.specs.declared.votes.Outcome.TheVariants.{Abort}
-use Rattle.sc_cmd.specs.declared.votes.Past.{Past}
 use Rattle.sc_cmd.specs.declared.votes.Past.TheVariants as Cast
-use Rattle.sc_cmd.specs.declared.votes.Vote.{Vote}
 use Rattle.sc_cmd.specs.declared.votes.Vote.TheVariants as Says
-use Rattle.sc_cmd.specs.Effects.{is_changed, decided_in, cast_in}
-use Rattle.sc_mail.specs.declared.bodies.Mail.{Mail}
-use Rattle.sc_mail.specs.declared.bodies.MailBody.{MailBody}
-use Rattle.sc_mail.specs.declared.bodies.MailBody.TheVariants.{Request, Answer, Prepare, Promise, Accept, Accepted, Nack, Learn, Ask, Install, TxPrepare, TxVote, TxOutcome, TxElsewhere, TxWatch, TxWatched, Told}
-use Rattle.sc_machine_table.specs.Group.{Group, group_of}
-use Rattle.sc_machine_table.specs.Logs.{state_after}
-use Rattle.sc_machine_table.specs.Machine.{applied}
-use Rattle.sc_machine_table.specs.Plans.{frozen_of}
+use Rattle.sc_cmd.specs.Definitions.{is_changed, decided_in, cast_in}
+use Rattle.sc_machine_table.specs.Definitions.{Group, group_of, state_after, applied, frozen_of}
 use Rattle.sc_node_table.specs.declared.Before.{Before}
-use Rattle.sc_node_table.specs.Mails.{sent_all}
-use Rattle.sc_node_table.specs.Questions.{question, asked_first, asked_link, asked_node}
-use Rattle.sc_node_table.specs.Reminders.{reminders}
-use Rattle.sc_node_table.specs.Spoken.{before_of, asked_on, vote_sent, watch_sent, aborted_to, aborted_watcher, given_up_by, vote_answered, released_to, watch_answered_by, went_on}
-use Rattle.sc_node_table.specs.Transactions.{noted_outcome, voted_to, watched_to, next_asked, asked_next}
-use Rattle.sc_paxos_words.proofs.ListLemmas.{Each-among, Each-append, find_found}
-use Rattle.sc_sound.specs.Players.{Ahead}
-use Rattle.sc_group_law.proofs.Invariant.{Steps, birth}
-use Rattle.sc_group_law.proofs.Speech.{IsSaid, AreSaid, Meets, Speaks}
-use Rattle.sc_calm_logs_law.specs.Nodes.{AreNodes, MovesNode, BringsNodes, HasNodes, SaysNodes}
+use Rattle.sc_node_table.specs.Definitions.{sent_all, question, asked_first, asked_link, asked_node, reminders, before_of, asked_on, vote_sent, watch_sent, aborted_to, aborted_watcher, given_up_by, vote_answered, released_to, watch_answered_by, went_on, noted_outcome, voted_to, watched_to, next_asked, asked_next}
+use Rattle.sc_paxos_words.proofs.Lemmas.{Each-among, Each-append, find_found}
+use Rattle.sc_sound.specs.Definitions.{Ahead}
+use Rattle.sc_group_law.proofs.Lemmas.{Steps, birth, IsSaid, AreSaid, Meets, Speaks}
+use Rattle.sc_calm_logs_law.specs.Definitions.{AreNodes, MovesNode, BringsNodes, HasNodes, SaysNodes}
 use Rattle.sc_calm_logs_law.proofs.Nodes.{IfMoves, nodes_stay_nodes, voted_moves, watched_moves, log_nodes}
 
 abbrev Said : List Mail → Type 0

@@ -1,71 +1,23 @@
 -- The members of a group stay nodes, whatever it executes that brings nodes.
-use Rattle.std.proofs.Common.{◌≡◌, ℕ, ◌-◌, ◌&&◌, not, nat_lt, nat_le, eqb, true, List, [], ◌∷◌, filter, take, zero, suc, length, Option, Some, None, refl, sym, subst}
+use Rattle.std.proofs.Common.{◌≡◌, ℕ, ◌-◌, ◌&&◌, not, nat_lt, nat_le, true, List, [], ◌∷◌, filter, take, zero, suc, length, Option, Some, None, sym, subst}
 use Rattle.std.proofs.lemmas.Bool.{cond_both, and_parts}
-use Rattle.sc_base.specs.Among.{Each}
-use Rattle.sc_base.specs.Same.{same_draw}
-use Rattle.sc_base.specs.declared.names.Draw.{Draw}
-use Rattle.sc_base.specs.Arc.{holds}
-use Rattle.sc_base.specs.declared.ops.Noted.{Noted}
-use Rattle.sc_base.specs.declared.ops.Op.{Op}
-use Rattle.sc_ideal.specs.IdealStore.{key_of, holds_key}
-use Rattle.std.specs.FinMap.{get}
-use Rattle.sc_cmd.specs.declared.bodies.Body.{Body}
+use Rattle.sc_base.specs.Definitions.{Each, same_draw, holds, is_member, with_member, with_any, united}
+use Rattle.sc_node_table.specs.Values.{Draw, Body, Offer, Command, Noop, Call, Join, Leave, Split, Begin, Prepared, RecordVote, GiveUp, Finish, Watched, RecordWatch, Lock, Free, Coordinating, Promised, Watching, Effect, OrderRefusal, Frozen, Gift, Heard, No, Outcome, Abort, Merged, Moved, Migrated, Divided, Past, Vote}
 use Rattle.sc_cmd.specs.declared.bodies.Body.TheVariants as At
-use Rattle.sc_cmd.specs.declared.bodies.Offer.{Offer}
-use Rattle.sc_cmd.specs.declared.commands.Command.{Command}
-use Rattle.sc_cmd.specs.declared.commands.Command.TheVariants.{Noop, Call, Join, Leave, Split, Begin, Prepared, RecordVote, GiveUp, Finish, Watched, RecordWatch}
-use Rattle.sc_cmd.specs.declared.cores.Lock.{Lock}
-use Rattle.sc_cmd.specs.declared.cores.Lock.TheVariants.{Free, Coordinating, Promised, Watching}
-use Rattle.sc_cmd.specs.declared.effects.Effect.{Effect}
 use Rattle.sc_cmd.specs.declared.effects.Effect.TheVariants as Was
-use Rattle.sc_cmd.specs.declared.links.Route.{Route}
-use Rattle.sc_cmd.specs.declared.orders.OrderRefusal.{OrderRefusal}
-use Rattle.sc_cmd.specs.declared.votes.Frozen.{Frozen}
-use Rattle.sc_cmd.specs.declared.votes.Gift.{Gift}
-use Rattle.sc_cmd.specs.declared.votes.Heard.{Heard}
-use Rattle.sc_cmd.specs.declared.votes.No.{No}
-use Rattle.sc_cmd.specs.declared.votes.Outcome.{Outcome}
-use Rattle.sc_cmd.specs.declared.votes.Outcome.TheVariants.{Abort, Merged, Moved, Migrated, Divided}
-use Rattle.sc_cmd.specs.declared.votes.Past.{Past}
 use Rattle.sc_cmd.specs.declared.votes.Past.TheVariants as Cast
-use Rattle.sc_cmd.specs.declared.votes.Vote.{Vote}
 use Rattle.sc_cmd.specs.declared.votes.Vote.TheVariants as Says
-use Rattle.sc_cmd.specs.Cores.{is_alone}
-use Rattle.sc_cmd.specs.Effects.{decided_in}
-use Rattle.sc_machine_table.specs.Logs.{state_after}
-use Rattle.sc_base.specs.Roster.{is_member, with_member}
-use Rattle.sc_base.specs.Union.{with_any, united}
-use Rattle.sc_machine_table.specs.Group.{Group, group_of}
-use Rattle.sc_machine_table.specs.Machine.{served_by_note, served, called, ordered_by, split_group, applied}
-use Rattle.sc_machine_table.specs.Orders.{refusal_of, with_node, without_node}
-use Rattle.sc_machine_table.specs.Splits.{has_named, left_group, staying}
-use Rattle.sc_machine_table.specs.Plans.{Plan, can_cut, has_key_of, taken, taking_group, can_split, split_plan, may_merge, merge_plan, closing_plan, can_repart, giving_plan, taking_plan, repart_plan, can_migrate, migrate_plan}
-use Rattle.sc_machine_table.specs.Transactions.{begun_group, decided, committed, granted, participant_answered, asks_watcher, vote_recorded, released, watch_answered, watch_recorded, is_coordinating}
-use Rattle.sc_machine_table.specs.Votes.{has_voted, bound_by, voted_on}
-use Rattle.sc_machine_table.specs.Finishes.{can_gain, gained_group, lost_group, welcomed_group, moved, participant_after, settled_in, finished}
-use Rattle.sc_node_table.specs.Node.{is_node}
-use Rattle.sc_paxos_words.proofs.ListLemmas.{Each-among, Each-append, Each-filter}
-use Rattle.sc_paxos_law.proofs.Among.{member-among}
-use Rattle.sc_sound.specs.Logs.{decided_log}
-use Rattle.sc_group_law.proofs.Rosters.{ordered_if}
-use Rattle.sc_calm_logs_law.specs.Nodes.{AreNodes, MovesNode, HandsNodes, BringsNodes, HeardNodes, LockNodes, HasNodes, NodesStayNodes, SlotsHaveNodes}
+use Rattle.sc_cmd.specs.Definitions.{is_alone, decided_in}
+use Rattle.sc_machine_table.specs.Definitions.{state_after, Group, group_of, ordered_by, split_group, applied, refusal_of, with_node, without_node, has_named, left_group, staying, Plan, can_cut, has_key_of, taken, taking_group, can_split, split_plan, may_merge, merge_plan, closing_plan, can_repart, giving_plan, taking_plan, repart_plan, can_migrate, migrate_plan, begun_group, decided, committed, granted, participant_answered, asks_watcher, vote_recorded, released, watch_answered, watch_recorded, is_coordinating, has_voted, bound_by, voted_on, can_gain, gained_group, lost_group, welcomed_group, moved, participant_after, settled_in, finished}
+use Rattle.sc_node_table.specs.Definitions.{is_node}
+use Rattle.sc_paxos_words.proofs.Lemmas.{Each-among, Each-append, Each-filter}
+use Rattle.sc_paxos_law.proofs.Lemmas.{member-among}
+use Rattle.sc_sound.specs.Definitions.{decided_log}
+use Rattle.sc_group_law.proofs.Lemmas.{ordered_if}
+use Rattle.sc_calm_logs_law.specs.Definitions.{AreNodes, MovesNode, HandsNodes, BringsNodes, HeardNodes, LockNodes, HasNodes, NodesStayNodes, SlotsHaveNodes}
+use Rattle.sc_following_law.proofs.Lemmas.{called_core}
 
 -- ---- a call
-
-numbered_core : (o : Option Noted) (group : Group) (client seq : ℕ) (op : Op) → (served_by_note o group client seq op).0.core ≡ group.core
-numbered_core None group client seq op = refl
-numbered_core (Some n) group client seq op =
-    cond_both (nat_lt n.seq seq) _ _ (λ (x : Group × Effect). x.0.core ≡ group.core) (λ _. refl) (λ _. cond_both (eqb n.seq seq) (group, Was.Again n.reply) (group, Was.Stale n.seq) (λ (x : Group × Effect). x.0.core ≡ group.core) (λ _. refl) (λ _. refl))
-
-served_core : (group : Group) (client seq : ℕ) (op : Op) → (served group client seq op).0.core ≡ group.core
-served_core group client seq op = cond_both (holds_key group.core.arc (key_of op)) _ _ (λ (x : Group × Effect). x.0.core ≡ group.core) (λ _. numbered_core (get group.clients client) group client seq op) (λ _. refl)
-
-called_core : (gone : Option Route) (lock : Lock) (group : Group) (client seq : ℕ) (op : Op) → (called gone lock group client seq op).0.core ≡ group.core
-called_core (Some into) lock group client seq op = refl
-called_core None Free group client seq op = served_core group client seq op
-called_core None (Watching tx watch) group client seq op = served_core group client seq op
-called_core None (Coordinating tx body order heard) group client seq op = refl
-called_core None (Promised tx offer) group client seq op = refl
 
 -- ---- sets of nodes
 
@@ -208,6 +160,7 @@ split_nodes group at child order has =
     cond_both (is_alone group.core) (left_group group at child) (begun_group group child (At.Split at child) order) (λ g. HasNodes g.core)
     (λ _. (taken_nodes (staying group.core.members) group.core.members has.0, has.1, has.2)) (λ _. (has.0, tt, has.2))
 
+-- The members of a group stay nodes by each command whose own are, also those that it hears of.
 pub nodes_stay_nodes : NodesStayNodes
 nodes_stay_nodes group Noop b has = has
 nodes_stay_nodes group (Call client seq op) b has = subst HasNodes (sym (called_core group.core.gone group.core.lock group client seq op)) has
@@ -285,6 +238,7 @@ each_taken zero log all = tt
 each_taken (suc count) [] all = tt
 each_taken (suc count) (c ∷ log) all = (all.0, each_taken count log all.1)
 
+-- So the members of each slot are nodes, if the group begins so and each entry of its log brings nodes.
 pub slots_have_nodes : SlotsHaveNodes
 slots_have_nodes ahead base journal begins all slot node m =
     let log = take (slot - ahead.slots) (decided_log ahead base journal) in

@@ -2,22 +2,20 @@
 use Rattle.std.proofs.Common.{◌≡◌, eqb, Option, Some, None, refl, ◌∙◌, ap}
 use Rattle.std.proofs.lemmas.Bool.{eqb-true}
 use Rattle.std.specs.List.{find}
-use Rattle.sc_base.specs.declared.names.Draw.{Draw}
-use Rattle.sc_mail.specs.declared.roles.Role.TheVariants.{Node, Client}
-use Rattle.sc_actor.specs.declared.actors.Seat.{Seat}
-use Rattle.sc_actor.specs.Replay.{value}
-use Rattle.sc_paxos_words.proofs.ListLemmas.{find_found}
-use Rattle.sc_node_table.specs.Node.{NodeState, replica_of}
-use Rattle.sc_node_table.specs.Replica.{ReplicaState}
-use Rattle.sc_sound.specs.Players.{Player, births, player_table}
-use Rattle.sc_calm_rows_law.specs.Groups.{replicas_of, replica_in}
-use Rattle.sc_calm_logs_law.specs.Logged.{HasReplica, ViewsAreReplicas}
+use Rattle.sc_node_table.specs.Values.{Draw, Node, Client, Seat}
+use Rattle.sc_actor.specs.Definitions.{value}
+use Rattle.sc_paxos_words.proofs.Lemmas.{find_found}
+use Rattle.sc_node_table.specs.Definitions.{NodeState, replica_of, ReplicaState}
+use Rattle.sc_sound.specs.Definitions.{Player, births, player_table}
+use Rattle.sc_calm_rows_law.specs.Definitions.{replicas_of, replica_in}
+use Rattle.sc_calm_logs_law.specs.Definitions.{HasReplica, ViewsAreReplicas}
 
 -- of a player that has one, and is a node then
 in_player : (name : Draw) (player : Player) (r : ReplicaState) → replica_of name (replicas_of player) ≡ Some r → (node : NodeState) × (player ≡ Node node) × (replica_of name node.replicas ≡ Some r)
 in_player name (Node node) r e = (node, refl, e)
 in_player name (Client client) r e = cc
 
+-- What is seen of the group at a player, after any rows of the journal, is a replica of a node.
 pub views_are_replicas : ViewsAreReplicas
 views_are_replicas ahead words scenario journal base group rows more front who r view = by (find (λ (seat : Seat Player). eqb seat.who who) (births ahead scenario)) refl view
   where

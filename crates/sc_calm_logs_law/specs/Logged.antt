@@ -1,34 +1,16 @@
 -- What a group's log says, in a lawful journal, of the members of its slots, its replicas and its mail.
 use Rattle.std.specs.Prelude.{◌≡◌, ℕ, ◌+◌, ◌<◌, true, List, ◌++◌, length, Some}
-use Rattle.sc_base.specs.Among.{Among}
-use Rattle.sc_base.specs.declared.names.Ballot.{Ballot}
-use Rattle.sc_cmd.specs.declared.commands.Command.{Command}
-use Rattle.sc_cmd.specs.declared.cores.Base.{Base}
-use Rattle.sc_mail.specs.declared.bodies.Mail.{Mail}
-use Rattle.sc_mail.specs.declared.bodies.MailBody.TheVariants.{Accepted, Learn, Install}
-use Rattle.sc_mail.specs.declared.roles.Role.TheVariants.{Node}
-use Rattle.sc_base.specs.Roster.{IsRoster}
-use Rattle.sc_actor.specs.declared.actors.Seat.{Seat}
-use Rattle.sc_actor.specs.Mail.{mails, numbered}
-use Rattle.sc_actor.specs.Replay.{value}
-use Rattle.sc_paxos_law.specs.Chosen.{members_of}
-use Rattle.sc_scenario.specs.Valid.{IsValid}
+use Rattle.sc_base.specs.Definitions.{Among, IsRoster}
+use Rattle.sc_node_table.specs.Values.{Ballot, Command, Base, Mail, Accepted, Learn, Install, Node, Seat}
+use Rattle.sc_actor.specs.Definitions.{mails, numbered, value}
+use Rattle.sc_paxos_law.specs.Definitions.{members_of}
+use Rattle.sc_scenario.specs.Definitions.{IsValid}
 use Rattle.sc_scenario.specs.declared.scenarios.Scenario.{Scenario}
-use Rattle.sc_node_table.specs.Execute.{entered}
-use Rattle.sc_node_table.specs.Node.{NodeState, replica_of}
-use Rattle.sc_node_table.specs.Replica.{ReplicaState, name_of, next, members, first_ballot}
-use Rattle.sc_node_table.specs.Slots.{slots_ahead}
-use Rattle.sc_sound.specs.GroupsOf.{groups_at}
-use Rattle.sc_sound.specs.Logs.{rule_of, decided_log}
-use Rattle.sc_sound.specs.Players.{Ahead, Player, Lawful, births, player_table}
-use Rattle.sc_log_law.specs.Descent.{Rows}
-use Rattle.sc_following_law.specs.Counted.{IsNext}
-use Rattle.sc_following_law.specs.Executed.{AreNext}
-use Rattle.sc_following_law.specs.Following.{Sets, members_at}
-use Rattle.sc_following_law.specs.Leading.{DecidesNext}
-use Rattle.sc_following_law.specs.Offers.{AreAt}
-use Rattle.sc_calm_rows_law.specs.Groups.{view_at}
-use Rattle.sc_calm_rows_law.specs.Turns.{IsSeat}
+use Rattle.sc_node_table.specs.Definitions.{entered, NodeState, replica_of, ReplicaState, name_of, next, members, first_ballot, slots_ahead}
+use Rattle.sc_sound.specs.Definitions.{groups_at, rule_of, decided_log, Ahead, Player, Lawful, births, player_table}
+use Rattle.sc_log_law.specs.Definitions.{Rows}
+use Rattle.sc_following_law.specs.Definitions.{IsNext, AreNext, Sets, members_at, DecidesNext, AreAt}
+use Rattle.sc_calm_rows_law.specs.Definitions.{view_at, IsSeat}
 
 -- the members of each slot by the group's log in a journal: those of the state after the entries up to so many slots before it as are open, and behind the log's end those of the last state
 abbrev pub logged_sets : Ahead → Base → Rows → Sets

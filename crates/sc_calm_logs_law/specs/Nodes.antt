@@ -1,29 +1,14 @@
 -- That the members of groups are nodes.
 use Rattle.std.specs.Prelude.{◌≡◌, ℕ, true, List}
-use Rattle.sc_base.specs.Among.{Each}
-use Rattle.sc_cmd.specs.declared.commands.Command.{Command}
-use Rattle.sc_cmd.specs.declared.commands.Command.TheVariants.{Noop, Call, Join, Leave, Split, Begin, Prepared, RecordVote, GiveUp, Finish, Watched, RecordWatch}
-use Rattle.sc_cmd.specs.declared.cores.Core.{Core}
-use Rattle.sc_cmd.specs.declared.cores.Lock.{Lock}
-use Rattle.sc_cmd.specs.declared.cores.Lock.TheVariants.{Free, Coordinating, Promised, Watching}
-use Rattle.sc_cmd.specs.declared.votes.Heard.{Heard}
-use Rattle.sc_cmd.specs.declared.votes.Outcome.{Outcome}
-use Rattle.sc_cmd.specs.declared.votes.Outcome.TheVariants.{Abort, Merged, Moved, Migrated, Divided}
-use Rattle.sc_cmd.specs.declared.votes.Vote.{Vote}
-use Rattle.sc_cmd.specs.declared.votes.Vote.TheVariants.{Yes, No}
-use Rattle.sc_mail.specs.declared.bodies.MailBody.{MailBody}
-use Rattle.sc_mail.specs.declared.bodies.MailBody.TheVariants.{TxVote, TxOutcome}
-use Rattle.sc_machine_table.specs.Group.{Group}
-use Rattle.sc_machine_table.specs.Machine.{applied}
-use Rattle.sc_cmd.specs.declared.cores.Base.{Base}
-use Rattle.sc_base.specs.Roster.{is_member}
-use Rattle.sc_node_table.specs.Node.{is_node}
-use Rattle.sc_sound.specs.Logs.{decided_log}
-use Rattle.sc_sound.specs.Players.{Ahead}
-use Rattle.sc_log_law.specs.Descent.{Rows}
+use Rattle.sc_base.specs.Definitions.{Each, is_member}
+use Rattle.sc_node_table.specs.Values.{Command, Noop, Call, Join, Leave, Split, Begin, Prepared, RecordVote, GiveUp, Finish, Watched, RecordWatch, Core, Lock, Free, Coordinating, Promised, Watching, Heard, Outcome, Abort, Merged, Moved, Migrated, Divided, Vote, Yes, MailBody, TxVote, TxOutcome, Base, Draw}
+use Rattle.sc_cmd.specs.declared.votes.Vote.TheVariants.{No}
+use Rattle.sc_machine_table.specs.Definitions.{Group, applied}
+use Rattle.sc_node_table.specs.Definitions.{is_node}
+use Rattle.sc_sound.specs.Definitions.{decided_log, Ahead}
+use Rattle.sc_log_law.specs.Definitions.{Rows}
 use Rattle.sc_scenario.specs.declared.scenarios.Scenario.{Scenario}
 use Rattle.sc_calm_logs_law.specs.Logged.{logged_sets, IsGroupOf}
-use Rattle.sc_base.specs.declared.names.Draw.{Draw}
 use Rattle.std.specs.Prelude.{Option, Some, None}
 
 -- each of these is a node

@@ -1,20 +1,12 @@
 -- A client keeps its number, and sends requests of its own alone.
 use Rattle.std.proofs.Common.{◌≡◌, ℕ, ◌+◌, nat_le, cond, [], ◌∷◌, ◌++◌, length, Option, Some, None, ap}
-use Rattle.sc_base.specs.Among.{Each}
-use Rattle.sc_base.specs.declared.names.Draw.{Draw}
-use Rattle.sc_base.specs.declared.ops.Op.{Op}
-use Rattle.sc_cmd.specs.declared.orders.OrderLine.{OrderLine}
-use Rattle.sc_actor.specs.declared.rows.Input.{Input}
-use Rattle.sc_actor.specs.declared.rows.Input.TheVariants.{Got, Tick, Go, Told}
-use Rattle.sc_lookup.specs.Known.{target_in, preferring, passed_on, told_not_mine, told_gone}
-use Rattle.sc_mail.specs.declared.bodies.AnswerBody.{AnswerBody}
+use Rattle.sc_base.specs.Definitions.{Each}
+use Rattle.sc_node_table.specs.Values.{Draw, Op, OrderLine, Input, Got, AnswerBody, Mail, MailBody, Request, Answer, Prepare, Promise, Accept, Accepted, Nack, Learn, Ask, Install, TxPrepare, TxVote, TxOutcome, TxElsewhere, TxWatch, TxWatched, Told as ToldMail}
+use Rattle.sc_actor.specs.declared.rows.Input.TheVariants.{Tick, Go, Told}
+use Rattle.sc_lookup.specs.Definitions.{target_in, preferring, passed_on, told_not_mine, told_gone}
 use Rattle.sc_mail.specs.declared.bodies.AnswerBody.TheVariants as Says
-use Rattle.sc_mail.specs.declared.bodies.Mail.{Mail}
-use Rattle.sc_mail.specs.declared.bodies.MailBody.{MailBody}
-use Rattle.sc_mail.specs.declared.bodies.MailBody.TheVariants.{Request, Answer, Prepare, Promise, Accept, Accepted, Nack, Learn, Ask, Install, TxPrepare, TxVote, TxOutcome, TxElsewhere, TxWatch, TxWatched, Told as ToldMail}
-use Rattle.sc_client_table.specs.Client.{Client, waiting_request}
-use Rattle.sc_client_table.specs.Table.{ClientStep, request_of, asked_of, sent_to, sent_where, chosen_for, request_sent, started, client_ticked, waits_for, was_asked, redirected, answer_taken, got, table}
-use Rattle.sc_law_lemmas.proofs.Ways.{either_way}
+use Rattle.sc_client_table.specs.Definitions.{Client, waiting_request, ClientStep, request_of, asked_of, sent_to, sent_where, chosen_for, request_sent, started, client_ticked, waits_for, was_asked, redirected, answer_taken, got, table}
+use Rattle.sc_law_lemmas.proofs.Lemmas.{either_way}
 
 -- a request of a client
 abbrev pub IsRequestOf : ℕ → Mail → Type 0

@@ -1,21 +1,15 @@
 -- Slots and rounds are few after any rows that come in time.
 use Rattle.std.proofs.Common.{ℕ, ◌+◌, ◌≤◌, List, refl, sym, subst, inl, inr, arith}
-use Rattle.sc_base.specs.Among.{Each}
-use Rattle.sc_cmd.specs.declared.commands.Command.{Command}
-use Rattle.sc_mail.specs.declared.bodies.Mail.{Mail}
-use Rattle.sc_mail.specs.declared.bodies.MailBody.{MailBody}
-use Rattle.sc_mail.specs.declared.bodies.MailBody.TheVariants.{Request, Answer, Prepare, Promise, Accept, Accepted, Nack, Learn, Ask, Install, TxPrepare, TxVote, TxOutcome, TxElsewhere, TxWatch, TxWatched, Told}
-use Rattle.sc_actor.specs.declared.actors.Seat.{Seat}
-use Rattle.sc_paxos_words.specs.declared.flights.Flight.{Flight}
-use Rattle.sc_paxos_words.specs.declared.reports.Report.{Report}
-use Rattle.sc_paxos_words.proofs.ListLemmas.{Each-weaker}
-use Rattle.sc_sound.specs.Players.{Player, births, as_nodes}
-use Rattle.sc_calm_mail_law.specs.Few.{most_after, IsFewReport, SaysFew, JournalsHaveFew, SlotsAreLeft}
-use Rattle.sc_calm_mail_law.specs.Idle.{JournalsKeepIdle}
+use Rattle.sc_base.specs.Definitions.{Each}
+use Rattle.sc_node_table.specs.Values.{Command, Mail, MailBody, Request, Answer, Prepare, Promise, Accept, Accepted, Nack, Learn, Ask, Install, TxPrepare, TxVote, TxOutcome, TxElsewhere, TxWatch, TxWatched, Told, Seat, Flight, Report}
+use Rattle.sc_paxos_words.proofs.Lemmas.{Each-weaker}
+use Rattle.sc_sound.specs.Definitions.{Player, births, as_nodes}
+use Rattle.sc_calm_mail_law.specs.Definitions.{most_after, IsFewReport, SaysFew, JournalsHaveFew, SlotsAreLeft, JournalsKeepIdle}
 use Rattle.sc_calm_mail_law.proofs.FewLists.{FlyTo, WaitTo}
 use Rattle.sc_calm_mail_law.proofs.FewWalks.{Early, Late, few_walk, few_births}
 use Rattle.sc_calm_mail_law.proofs.Journals.{Speaks, Law, journals_hold, view_kept}
-use Rattle.sc_calm_mail_law.proofs.Walks.{Part, next_in, Hears}
+use Rattle.sc_calm_mail_law.proofs.PartWalks.{Hears}
+use Rattle.sc_calm_mail_law.proofs.Walks.{Part, next_in}
 
 -- a later bound
 module _ (most more : ℕ) (le : most ≤ more) where
@@ -124,6 +118,7 @@ few_law births = record {
   said = λ n seat mail born s. said_few n seat mail s;
 }
 
+-- No slot and no round of a replica or a mail is greater than four times the rows, and one.
 pub journals_few : JournalsHaveFew
 journals_few = record {
   replicas = λ words scenario rows name who r timely e. (let law : Law (births as_nodes scenario) = few_law (births as_nodes scenario) in
@@ -131,6 +126,7 @@ journals_few = record {
   mails = λ words scenario rows timely. (journals_hold scenario (few_law (births as_nodes scenario)) words rows timely).1;
 }
 
+-- So in a journal of 2^28 rows at most each open slot is one at which commands are learnt, and each round has one above it.
 pub slots_left : SlotsAreLeft
 slots_left words scenario rows name who r timely short e =
     let few = journals_few.replicas words scenario rows name who r timely e in
@@ -138,6 +134,7 @@ slots_left words scenario rows name who r timely short e =
     let top = few.1 in
     (omega (arith, next, short), omega (arith, top, short))
 
+-- A replica that does not run has nothing in flight and nothing that waits, no transaction has waited for a tick, and what waits is a command of a transaction, or a call or an order.
 pub journals_idle : JournalsKeepIdle
 journals_idle words scenario rows name who r timely e =
     let law : Law (births as_nodes scenario) = few_law (births as_nodes scenario) in

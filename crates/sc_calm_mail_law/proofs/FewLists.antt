@@ -2,22 +2,12 @@
 use Rattle.std.proofs.Common.{◌≡◌, ℕ, zero, suc, ◌-◌, ◌≤◌, ◌<◌, nat_lt, eqb, Bool, true, false, cond, List, [], ◌∷◌, length, filter, Option, Some, None, refl, arith}
 use Rattle.std.specs.Prelude.{slice_get}
 use Rattle.std.proofs.lemmas.Bool.{eqb-true, ltb-true}
-use Rattle.sc_base.specs.Among.{Each}
-use Rattle.sc_cmd.specs.declared.commands.Command.{Command}
-use Rattle.sc_base.specs.Majority.{is_majority}
-use Rattle.sc_base.specs.Same.{same_ballot}
-use Rattle.sc_base.specs.declared.names.Ballot.{Ballot}
-use Rattle.sc_paxos_words.specs.declared.answers.Counted.{Counted}
-use Rattle.sc_paxos_words.specs.declared.answers.Counted.TheVariants.{Chosen, NotYet}
-use Rattle.sc_paxos_words.specs.declared.flights.Flight.{Flight}
-use Rattle.sc_paxos_words.specs.declared.reports.Report.{Report}
-use Rattle.sc_paxos_words.specs.Acceptors.{with_report}
-use Rattle.sc_paxos_words.specs.Leaders.{LeaderState, flight_at, without_flight, without_flight_at}
-use Rattle.sc_paxos_words.specs.Logs.{LogState, entry_at, next_of}
-use Rattle.sc_paxos_words.specs.Votes.{counted, vote_at, with_voters, voters_after, kept_voters}
-use Rattle.sc_paxos_words.proofs.ListLemmas.{Each-append, Each-filter}
-use Rattle.sc_node_table.specs.Slots.{at_slot, with_slot, without_slot}
-use Rattle.sc_law_lemmas.proofs.Ways.{either_way}
+use Rattle.sc_base.specs.Definitions.{Each, is_majority, same_ballot}
+use Rattle.sc_node_table.specs.Values.{Command, Ballot, Counted, Chosen, NotYet, Flight, Report}
+use Rattle.sc_paxos_words.specs.Definitions.{with_report, LeaderState, flight_at, without_flight, without_flight_at, LogState, entry_at, next_of, counted, vote_at, with_voters, voters_after, kept_voters}
+use Rattle.sc_paxos_words.proofs.Lemmas.{Each-append, Each-filter}
+use Rattle.sc_node_table.specs.Definitions.{at_slot, with_slot, without_slot}
+use Rattle.sc_law_lemmas.proofs.Lemmas.{either_way}
 
 -- flights and entries at slots not above so many
 abbrev pub FlyTo : ℕ → List (Flight Command) → Type 0

@@ -1,26 +1,16 @@
 -- Slots and rounds are few in each row, and so after any.
 use Rattle.std.proofs.Common.{◌≡◌, ℕ, ◌+◌, ◌≤◌, nat_le, nat_lt, not, ◌&&◌, Bool, true, false, List, [], ◌∷◌, ◌++◌, Some, None, refl, sym, ◌∙◌, ap, subst, arith}
 use Rattle.std.proofs.lemmas.List.{length_push}
-use Rattle.sc_base.specs.Among.{Each}
-use Rattle.sc_base.specs.Same.{same_ballot}
-use Rattle.sc_base.specs.declared.names.Ballot.{Ballot}
-use Rattle.sc_cmd.specs.declared.commands.Command.{Command}
-use Rattle.sc_cmd.specs.declared.cores.Base.{Base}
-use Rattle.sc_base.specs.Roster.{is_member}
-use Rattle.sc_paxos_words.specs.declared.flights.Flight.{Flight}
-use Rattle.sc_paxos_words.specs.declared.reports.Report.{Report}
-use Rattle.sc_paxos_words.specs.Acceptors.{reports_from}
-use Rattle.sc_paxos_words.specs.Leaders.{LeaderState, promise_counted}
-use Rattle.sc_paxos_words.specs.Logs.{LogState, installed, log_cut, next_of}
-use Rattle.sc_paxos_words.proofs.ListLemmas.{Each-append, Each-filter, Each-weaker}
-use Rattle.sc_node_table.specs.Replica.{floor_of}
-use Rattle.sc_node_table.specs.Slots.{at_slot}
-use Rattle.sc_law_lemmas.proofs.Entries.{entry_is, floor_under, cut_next}
-use Rattle.sc_law_lemmas.proofs.Ways.{either_way}
-use Rattle.sc_calm_rows_law.proofs.WellParts.{floor_most}
-use Rattle.sc_calm_mail_law.specs.Few.{most_after, IsFewReport, SaysFew}
+use Rattle.sc_base.specs.Definitions.{Each, same_ballot, is_member}
+use Rattle.sc_node_table.specs.Values.{Ballot, Command, Base, Flight, Report}
+use Rattle.sc_paxos_words.specs.Definitions.{reports_from, LeaderState, promise_counted, LogState, installed, log_cut, next_of}
+use Rattle.sc_paxos_words.proofs.Lemmas.{Each-append, Each-filter, Each-weaker}
+use Rattle.sc_node_table.specs.Definitions.{floor_of, at_slot}
+use Rattle.sc_law_lemmas.proofs.Lemmas.{entry_is, floor_under, cut_next, either_way}
+use Rattle.sc_calm_rows_law.proofs.Lemmas.{floor_most}
+use Rattle.sc_calm_mail_law.specs.Definitions.{most_after, IsFewReport, SaysFew}
 use Rattle.sc_calm_mail_law.proofs.FewLists.{FlyTo, WaitTo, flights_less, votes_few, entries_less, entries_more, found_low, reports_more, entry_low}
-use Rattle.sc_calm_mail_law.proofs.Walks.{Walk, Births, Part, next_in, cut_part, entered_part, jumped_part, elected_part, born_part}
+use Rattle.sc_calm_mail_law.proofs.Walks.{PartWalk, PartBirths, Part, next_in, cut_part, entered_part, jumped_part, elected_part, born_part}
 
 -- ---- the next slot
 
@@ -85,7 +75,7 @@ module _ (m : ℕ) where
 
 -- ---- the walk, by how many rows there were
 
-abbrev pub few_walk : ℕ → ℕ → Walk
+abbrev pub few_walk : ℕ → ℕ → PartWalk
 few_walk n who = (
     let m : ℕ = most_after n in
     let x : ℕ = most_after (n + 1) in
@@ -139,7 +129,7 @@ few_walk n who = (
     }
     )
 
-pub few_births : (n who : ℕ) → Births (few_walk n who)
+pub few_births : (n who : ℕ) → PartBirths (few_walk n who)
 few_births n who = record {
   born = λ base. ((omega arith, omega arith, tt, tt, tt, tt), omega arith, omega arith, λ some. (omega arith, omega arith));
   made = λ slot base good. made_few (most_after n) slot base (omega arith) good;

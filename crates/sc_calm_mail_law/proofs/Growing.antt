@@ -1,20 +1,14 @@
 -- In each row of its table a replica's greatest ballot and its next slot do not fall.
 use Rattle.std.proofs.Common.{ℕ, ◌+◌, ◌≤◌, [], inl, arith}
-use Rattle.sc_base.specs.declared.names.Ballot.{Ballot}
-use Rattle.sc_base.specs.Drawing.{Drawer}
-use Rattle.sc_cmd.specs.declared.commands.Command.{Command}
-use Rattle.sc_cmd.specs.declared.orders.OrderLine.{OrderLine}
-use Rattle.sc_mail.specs.declared.bodies.MailBody.{MailBody}
-use Rattle.sc_paxos_words.specs.Ballots.{IsAtLeast}
-use Rattle.sc_paxos_words.proofs.BallotLemmas.{below_from, at_least_trans, at_least_itself, at_least_from_below}
-use Rattle.sc_node_table.specs.Ordering.{ordered_row}
-use Rattle.sc_node_table.specs.Replica.{ReplicaState, next}
-use Rattle.sc_node_table.specs.Rows.{mailed}
-use Rattle.sc_calm_mail_law.specs.Idle.{IsPlainlyKept}
-use Rattle.sc_calm_mail_law.specs.Lasting.{HasGrown}
+use Rattle.sc_node_table.specs.Values.{Ballot, Command, OrderLine, MailBody}
+use Rattle.sc_base.specs.Definitions.{Drawer}
+use Rattle.sc_paxos_words.specs.Definitions.{IsAtLeast}
+use Rattle.sc_paxos_words.proofs.Lemmas.{below_from, at_least_trans, at_least_itself, at_least_from_below}
+use Rattle.sc_node_table.specs.Definitions.{ordered_row, ReplicaState, next, mailed}
+use Rattle.sc_calm_mail_law.specs.Definitions.{IsPlainlyKept, HasGrown}
 use Rattle.sc_calm_mail_law.proofs.FewWalks.{entered_up, installed_up}
-use Rattle.sc_calm_mail_law.proofs.WalkRows.{takes_mail, orders}
-use Rattle.sc_calm_mail_law.proofs.Walks.{Walk, Part, next_in, entered_part, elected_part, hears_all}
+use Rattle.sc_calm_mail_law.proofs.PartWalks.{takes_mail, orders, hears_all}
+use Rattle.sc_calm_mail_law.proofs.Walks.{PartWalk, Part, next_in, entered_part, elected_part}
 
 module _ (top : Ballot) (slot : ℕ) where
   -- no lower ballot was seen than this, and no fewer slots executed
@@ -29,7 +23,7 @@ module _ (top : Ballot) (slot : ℕ) where
       let ballot : Ballot = record { round = p.top.round + 1; node = who } in
       (at_least_trans ballot p.top top (at_least_from_below p.top ballot (below_from p.top ballot (inl (omega arith)))) k.0, k.1)
 
-  abbrev growing : ℕ → Walk
+  abbrev growing : ℕ → PartWalk
   growing who = record {
     me = who;
     Early = λ p. Grown p;

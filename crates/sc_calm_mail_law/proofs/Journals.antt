@@ -4,46 +4,27 @@ use Rattle.std.specs.Prelude.{slice_get}
 use Rattle.std.specs.Option.{option_map}
 use Rattle.std.proofs.lemmas.List.{length_push}
 use Rattle.std.proofs.lemmas.Bool.{eqb-true}
-use Rattle.sc_base.specs.Among.{Each, Among}
-use Rattle.sc_base.specs.Same.{same_draw}
-use Rattle.sc_base.specs.declared.names.Draw.{Draw}
-use Rattle.sc_base.specs.Limits.{client_actor}
-use Rattle.sc_cmd.specs.declared.cores.Base.{Base}
-use Rattle.sc_cmd.specs.declared.orders.OrderLine.{OrderLine}
-use Rattle.sc_mail.specs.declared.bodies.Mail.{Mail}
-use Rattle.sc_mail.specs.declared.roles.Role.TheVariants.{Node, Client}
-use Rattle.sc_base.specs.Roster.{is_member}
-use Rattle.sc_actor.specs.declared.actors.Seat.{Seat}
-use Rattle.sc_actor.specs.declared.rows.Event.{Event}
-use Rattle.sc_actor.specs.declared.rows.Event.TheVariants.{Deliver, Tick as TickEvent, Go as GoEvent, Told as ToldEvent, Crash, Drop, Again}
-use Rattle.sc_actor.specs.declared.rows.Input.{Input}
-use Rattle.sc_actor.specs.declared.rows.Input.TheVariants.{Got, Go as GoInput, Told as ToldInput}
-use Rattle.sc_actor.specs.declared.rows.Row.{Row}
-use Rattle.sc_actor.specs.Mail.{mails, numbered}
-use Rattle.sc_actor.specs.Replay.{value, acted, input_of}
-use Rattle.sc_actor.specs.System.{row_of}
-use Rattle.sc_actor.proofs.ReplayLemmas.{value-snoc, mails-snoc}
-use Rattle.sc_orderly_law.specs.Orderly.{IsCalmEvent}
-use Rattle.sc_orderly_law.specs.Timely.{AreInTime}
-use Rattle.sc_orderly_law.proofs.InTime.{by_time, last_in_time}
-use Rattle.sc_client_table.specs.Client.{Client as ClientState}
-use Rattle.sc_paxos_words.proofs.ListLemmas.{Each-among, Each-append, Each-weaker, find_found}
-use Rattle.sc_node_table.specs.Node.{NodeState, born_replicas, node_table, replica_of}
-use Rattle.sc_client_table.specs.Table.{table}
-use Rattle.sc_node_table.specs.Replica.{ReplicaState, name_of, born_replica}
-use Rattle.sc_node_table.specs.Slots.{slots_ahead, numbers_from}
+use Rattle.sc_base.specs.Definitions.{Each, Among, same_draw, client_actor, is_member}
+use Rattle.sc_node_table.specs.Values.{Draw, Base, OrderLine, Mail, Node, Client, Seat, Event, Deliver, Tick as TickEvent, Go as GoEvent, Crash, Drop, Again, Input, Got, Row}
+use Rattle.sc_actor.specs.declared.rows.Event.TheVariants.{Told as ToldEvent}
+use Rattle.sc_actor.specs.declared.rows.Input.TheVariants.{Go as GoInput, Told as ToldInput}
+use Rattle.sc_actor.specs.Definitions.{mails, numbered, value, acted, input_of, row_of}
+use Rattle.sc_actor.proofs.Lemmas.{value-snoc, mails-snoc}
+use Rattle.sc_orderly_law.specs.Definitions.{IsCalmEvent, AreInTime}
+use Rattle.sc_orderly_law.proofs.Lemmas.{by_time, last_in_time}
+use Rattle.sc_client_table.specs.Definitions.{Client as ClientState, table}
+use Rattle.sc_paxos_words.proofs.Lemmas.{Each-among, Each-append, Each-weaker, find_found}
+use Rattle.sc_node_table.specs.Definitions.{NodeState, born_replicas, node_table, replica_of, ReplicaState, name_of, born_replica, slots_ahead, numbers_from}
 use Rattle.sc_scenario.specs.declared.scenarios.Asks.{Asks as Requests}
 use Rattle.sc_scenario.specs.declared.scenarios.Scenario.{Scenario}
-use Rattle.sc_sound.specs.Players.{Player, player_table, node_seat, client_seat, client_seats, route_of, births, as_nodes}
-use Rattle.sc_calm_law.specs.Charts.{players}
-use Rattle.sc_calm_law.specs.Totals.{Rows}
-use Rattle.sc_calm_rows_law.specs.Groups.{replicas_of, replica_in, view_at}
-use Rattle.sc_calm_rows_law.specs.Turns.{IsSeat}
-use Rattle.sc_law_lemmas.proofs.Ways.{either_way}
-use Rattle.sc_calm_mail_law.specs.Idle.{IsPlainlyKept}
+use Rattle.sc_sound.specs.Definitions.{Player, player_table, node_seat, client_seat, client_seats, route_of, births, as_nodes}
+use Rattle.sc_calm_law.specs.Definitions.{players, Rows}
+use Rattle.sc_calm_rows_law.specs.Definitions.{replicas_of, replica_in, view_at, IsSeat}
+use Rattle.sc_law_lemmas.proofs.Lemmas.{either_way}
+use Rattle.sc_calm_mail_law.specs.Definitions.{IsPlainlyKept}
 use Rattle.sc_calm_mail_law.proofs.Clients.{IsRequestOf, clients_ask}
-use Rattle.sc_calm_mail_law.proofs.WalkNodes.{Given, Starts, Stands, input_step}
-use Rattle.sc_calm_mail_law.proofs.Walks.{Walk, Births, Part, part, born_part, Sends, EarlyAt, LateAt, Hears}
+use Rattle.sc_calm_mail_law.proofs.PartWalks.{Given, Starts, Stands, input_step, Sends, EarlyAt, LateAt, Hears}
+use Rattle.sc_calm_mail_law.proofs.Walks.{PartWalk, PartBirths, Part, part, born_part}
 
 -- a mail that has a number was sent
 among_place : {X : Type 0} (xs : List X) (place : ℕ) (x : X) → slice_get xs place ≡ Some x → Among x xs
@@ -56,14 +37,14 @@ number_among sent zero mail e = cc
 number_among sent (suc place) mail e = among_place sent place mail e
 
 -- a mail of a player: of a node that may send it, or a client's request
-abbrev pub Speaks : Walk → Seat Player → Mail → Type 0
+abbrev pub Speaks : PartWalk → Seat Player → Mail → Type 0
 Speaks w seat mail = ((born : NodeState) × (seat.actor ≡ Node born) × Sends w mail) ⊎ ((born : ClientState) × (seat.actor ≡ Client born) × (seat.who ≡ client_actor born.me) × IsRequestOf born.me mail)
 
 -- a law of journals: what holds of replicas and of mail after so many rows, and the walk by which one more row keeps it
 pub record Law (seats : List (Seat Player)) : Type 1 where
-  pub walk : ℕ → ℕ → Walk
+  pub walk : ℕ → ℕ → PartWalk
   pub mine : (n who : ℕ) → (walk n who).me ≡ who
-  pub births : (n who : ℕ) → Births (walk n who)
+  pub births : (n who : ℕ) → PartBirths (walk n who)
   pub Kept : ℕ → Part → Type 0
   pub Good : ℕ → Mail → Type 0
   pub begins : (base : Base) → Kept 0 (born_part base)
@@ -100,8 +81,8 @@ module _ (births : List (Seat Player)) (law : Law births) where
   -- one that takes nothing
   stays : (n : ℕ) (seat : Seat Player) (player : Player) → Plays n seat player → Plays (n + 1) seat player
   stays n seat (Node node) k =
-      let w : Walk = law.walk n seat.who in
-      let b : Births w = law.births n seat.who in
+      let w : PartWalk = law.walk n seat.who in
+      let b : PartBirths w = law.births n seat.who in
       let s : Starts w b node = begins_row n seat.who node k.2 k.3 in
       let e = ends_row n seat.who node (input_step w b node GoInput tt s).0 in
       (k.0, k.1, e.0, e.1)
@@ -109,8 +90,8 @@ module _ (births : List (Seat Player)) (law : Law births) where
 
   gets_input : (n : ℕ) (seat : Seat Player) (player : Player) (input : Input Mail OrderLine) → Given (law.walk n seat.who) (law.births n seat.who) input → Plays n seat player → Turn n seat (player_table player input)
   gets_input n seat (Node node) input h k =
-      let w : Walk = law.walk n seat.who in
-      let b : Births w = law.births n seat.who in
+      let w : PartWalk = law.walk n seat.who in
+      let b : PartBirths w = law.births n seat.who in
       let s = input_step w b node input h (begins_row n seat.who node k.2 k.3) in
       let e = ends_row n seat.who (node_table node input).0 s.0 in
       ((k.0, k.1, e.0, e.1), Each-weaker (Sends w) (Speaks w seat) (λ mail said. inl (k.0, k.1, said)) (node_table node input).1 s.1)

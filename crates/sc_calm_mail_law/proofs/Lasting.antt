@@ -2,45 +2,23 @@
 use Rattle.std.proofs.Common.{◌≡◌, ℕ, ◌||◌, not, nat_lt, eqb, true≢false, List, [], ◌∷◌, ◌++◌, length, Option, Some, None, refl, sym, ◌∙◌, ap, subst, inl, inr, append_assoc, append-nil}
 use Rattle.std.specs.Option.{option_map}
 use Rattle.std.proofs.lemmas.Bool.{cases_Bool, eqb-true, eq-eqb}
-use Rattle.sc_base.specs.Same.{same_draw}
-use Rattle.sc_base.specs.Drawing.{Drawer}
-use Rattle.sc_base.specs.declared.names.Draw.{Draw}
-use Rattle.sc_base.proofs.NameLemmas.{draw_is, same_name}
-use Rattle.sc_cmd.specs.declared.orders.OrderLine.{OrderLine}
-use Rattle.sc_mail.specs.declared.bodies.Mail.{Mail}
-use Rattle.sc_mail.specs.declared.bodies.MailBody.{MailBody}
-use Rattle.sc_mail.specs.declared.bodies.MailBody.TheVariants.{Install}
-use Rattle.sc_mail.specs.declared.roles.Role.TheVariants.{Node, Client}
-use Rattle.sc_actor.specs.declared.actors.Seat.{Seat}
-use Rattle.sc_actor.specs.declared.rows.Event.{Event}
-use Rattle.sc_actor.specs.declared.rows.Event.TheVariants.{Deliver, Tick as TickEvent, Go as GoEvent, Told as ToldEvent, Crash, Drop, Again}
-use Rattle.sc_actor.specs.declared.rows.Input.{Input}
-use Rattle.sc_actor.specs.declared.rows.Input.TheVariants.{Got, Tick, Go as GoInput, Told as ToldInput}
-use Rattle.sc_actor.specs.declared.rows.Row.{Row}
-use Rattle.sc_actor.specs.Mail.{mails, numbered}
-use Rattle.sc_actor.specs.Replay.{value, acted, input_of}
-use Rattle.sc_actor.specs.System.{row_of}
-use Rattle.sc_orderly_law.specs.Orderly.{IsCalmEvent}
-use Rattle.sc_orderly_law.specs.Timely.{AreInTime}
-use Rattle.sc_orderly_law.proofs.InTime.{last_in_time, in_time_before}
+use Rattle.sc_base.specs.Definitions.{same_draw, Drawer}
+use Rattle.sc_node_table.specs.Values.{Draw, OrderLine, Mail, MailBody, Install, Node, Client, Seat, Event, Deliver, Tick as TickEvent, Go as GoEvent, Crash, Drop, Again, Input, Got, Row}
+use Rattle.sc_base.proofs.Lemmas.{draw_is, same_name}
+use Rattle.sc_actor.specs.declared.rows.Event.TheVariants.{Told as ToldEvent}
+use Rattle.sc_actor.specs.declared.rows.Input.TheVariants.{Tick, Go as GoInput, Told as ToldInput}
+use Rattle.sc_actor.specs.Definitions.{mails, numbered, value, acted, input_of, row_of}
+use Rattle.sc_orderly_law.specs.Definitions.{IsCalmEvent, AreInTime}
+use Rattle.sc_orderly_law.proofs.Lemmas.{last_in_time, in_time_before}
 use Rattle.sc_scenario.specs.declared.scenarios.Scenario.{Scenario}
-use Rattle.sc_node_table.specs.Node.{NodeState, replica_of, with_replica, with_made, unknown, may_come, group_of_mail, taken_by, routed, group_of_order, ordered_of}
-use Rattle.sc_node_table.specs.Ordering.{ordered_row}
-use Rattle.sc_node_table.specs.Replica.{ReplicaState, Place, Executed, name_of, last_slot}
-use Rattle.sc_node_table.specs.Rows.{mailed, made_by}
-use Rattle.sc_node_table.specs.Slots.{slots_ahead}
-use Rattle.sc_sound.specs.Players.{Player, player_table, births, as_nodes}
-use Rattle.sc_law_lemmas.proofs.Ways.{either_way}
-use Rattle.sc_calm_law.specs.Charts.{players}
-use Rattle.sc_calm_law.specs.Totals.{Rows}
-use Rattle.sc_calm_law.proofs.OwedParties.{put_found, put_others, children_found}
-use Rattle.sc_calm_rows_law.specs.Groups.{replicas_of, view_at}
-use Rattle.sc_calm_rows_law.specs.Turns.{IsSeat, with_event}
-use Rattle.sc_calm_rows_law.proofs.Hearing.{names_stay}
-use Rattle.sc_calm_rows_law.proofs.Turning.{found_name}
-use Rattle.sc_calm_rows_law.proofs.Viewing.{view_others, view_was, view_is, new_others}
-use Rattle.sc_calm_mail_law.specs.Idle.{IsPlainlyKept}
-use Rattle.sc_calm_mail_law.specs.Lasting.{HasGrown, IsLater, ReplicasLast}
+use Rattle.sc_node_table.specs.Definitions.{NodeState, replica_of, with_replica, with_made, unknown, may_come, group_of_mail, taken_by, routed, group_of_order, ordered_of, ordered_row, ReplicaState, Place, Executed, name_of, last_slot, mailed, made_by, slots_ahead}
+use Rattle.sc_sound.specs.Definitions.{Player, player_table, births, as_nodes}
+use Rattle.sc_law_lemmas.proofs.Lemmas.{either_way}
+use Rattle.sc_calm_law.specs.Definitions.{players, Rows}
+use Rattle.sc_calm_law.proofs.Lemmas.{put_found, put_others, children_found}
+use Rattle.sc_calm_rows_law.specs.Definitions.{replicas_of, view_at, IsSeat, with_event}
+use Rattle.sc_calm_rows_law.proofs.Lemmas.{names_stay, found_name, view_others, view_was, view_is, new_others}
+use Rattle.sc_calm_mail_law.specs.Definitions.{IsPlainlyKept, HasGrown, IsLater, ReplicasLast}
 use Rattle.sc_calm_mail_law.proofs.FewJournals.{journals_idle}
 use Rattle.sc_calm_mail_law.proofs.Growing.{mailed_grown, ordered_grown, same_grown, grown_on}
 
@@ -190,5 +168,6 @@ module _ (words : ℕ → ℕ → ℕ × ℕ) (scenario : Scenario) (name : Draw
       let rest = more_later more (rows ++ row ∷ []) one.0 in_time one.1 in
       (rest.0, ap (λ l. view_at all l name who) (sym split) ∙ rest.1, grown_on r one.0 rest.0 one.2 rest.2)
 
+-- A node that has a replica of a group after some rows has one after more, which has seen no lower ballot and has executed no less.
 pub replicas_last : ReplicasLast
 replicas_last words scenario rows more name who r timely e = more_later words scenario name who more rows r timely e

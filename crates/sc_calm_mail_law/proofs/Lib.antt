@@ -7,10 +7,7 @@ pub mod Journals
 pub mod Lasting
 pub mod Over
 pub mod Posting
-pub mod Waiting
-pub mod WalkMails
-pub mod WalkNodes
-pub mod WalkParts
-pub mod WalkRows
 pub mod Walks
+pub mod PartWalks
 pub mod Works
+pub mod Lemmas

@@ -1,35 +1,17 @@
 -- A group that is gone and free stays so, whatever its replica does, but where it takes a state.
 use Rattle.std.proofs.Common.{◌≡◌, ℕ, cond, List, [], Option, Some, None, sym, ◌∙◌, ap, subst}
-use Rattle.sc_base.specs.declared.names.Draw.{Draw}
-use Rattle.sc_cmd.specs.declared.commands.Command.{Command}
-use Rattle.sc_cmd.specs.declared.commands.Command.TheVariants.{Noop, Call, Join, Leave, Split, Begin, Prepared, RecordVote, GiveUp, Finish, Watched, RecordWatch}
-use Rattle.sc_cmd.specs.declared.cores.Base.{Base}
-use Rattle.sc_cmd.specs.declared.cores.Lock.{Lock}
-use Rattle.sc_cmd.specs.declared.links.Route.{Route}
-use Rattle.sc_cmd.specs.declared.effects.Effect.{Effect}
-use Rattle.sc_cmd.specs.declared.effects.Effect.TheVariants.{NoEffect}
-use Rattle.sc_cmd.specs.declared.orders.OrderRefusal.{OrderRefusal}
-use Rattle.sc_cmd.specs.declared.votes.No.{No}
-use Rattle.sc_mail.specs.declared.bodies.MailBody.{MailBody}
-use Rattle.sc_mail.specs.declared.bodies.MailBody.TheVariants.{Install}
-use Rattle.sc_orderly_law.proofs.InTime.{in_time_before}
-use Rattle.sc_machine_table.specs.Finishes.{finished}
-use Rattle.sc_machine_table.specs.Group.{Group}
-use Rattle.sc_machine_table.specs.Machine.{called, ordered_by, applied}
-use Rattle.sc_machine_table.specs.Orders.{locked_in, ordered}
-use Rattle.sc_machine_table.specs.Splits.{has_named}
-use Rattle.sc_machine_table.specs.Transactions.{vote_recorded, watch_recorded, aborted, is_coordinating}
-use Rattle.sc_machine_table.specs.Votes.{no_of, offer_no, watch_no, has_voted, voted_on}
-use Rattle.sc_node_table.specs.Node.{group_of_mail}
-use Rattle.sc_law_lemmas.proofs.Ways.{either_way}
-use Rattle.sc_sound.specs.Players.{births, as_nodes}
-use Rattle.sc_calm_law.specs.Charts.{players}
-use Rattle.sc_calm_mail_law.specs.Idle.{IsPlainlyKept}
-use Rattle.sc_calm_mail_law.specs.Over.{IsOver, EntriesLeaveOver, OverStays}
+use Rattle.sc_node_table.specs.Values.{Draw, Command, Noop, Call, Join, Leave, Split, Begin, Prepared, RecordVote, GiveUp, Finish, Watched, RecordWatch, Base, Lock, Route, Effect, NoEffect, OrderRefusal, No, MailBody, Install}
+use Rattle.sc_orderly_law.proofs.Lemmas.{in_time_before}
+use Rattle.sc_machine_table.specs.Definitions.{finished, Group, called, ordered_by, applied, locked_in, ordered, has_named, vote_recorded, watch_recorded, aborted, is_coordinating, no_of, offer_no, watch_no, has_voted, voted_on}
+use Rattle.sc_node_table.specs.Definitions.{group_of_mail}
+use Rattle.sc_law_lemmas.proofs.Lemmas.{either_way}
+use Rattle.sc_sound.specs.Definitions.{births, as_nodes}
+use Rattle.sc_calm_law.specs.Definitions.{players}
+use Rattle.sc_calm_mail_law.specs.Definitions.{IsPlainlyKept, IsOver, EntriesLeaveOver, OverStays}
 use Rattle.sc_calm_mail_law.proofs.FewJournals.{journals_idle}
 use Rattle.sc_calm_mail_law.proofs.Lasting.{row_later}
-use Rattle.sc_calm_mail_law.proofs.WalkRows.{takes_mail, orders}
-use Rattle.sc_calm_mail_law.proofs.Walks.{Walk, Part, Hears, hears_all}
+use Rattle.sc_calm_mail_law.proofs.PartWalks.{takes_mail, orders, Hears, hears_all}
+use Rattle.sc_calm_mail_law.proofs.Walks.{PartWalk, Part}
 
 -- ---- an entry
 
@@ -61,6 +43,7 @@ module _ (into : Route) (group : Group) (k : IsOver into group.core) where
   entry_over (Watched tx watch) = voted_over (watch_no group.core watch) _ tx
   entry_over (RecordWatch tx vote by) = subst (λ (l : Lock). Stays (watch_recorded l group tx vote)) (sym k.1) k
 
+-- A group that is gone and bound by no transaction stays so, whatever it executes.
 pub entries_over : EntriesLeaveOver
 entries_over into group command k = entry_over into group k command
 
@@ -70,7 +53,7 @@ module _ (into : Route) where
   abbrev Over : Part → Type 0
   Over p = IsOver into p.group.core
 
-  abbrev ending : ℕ → Walk
+  abbrev ending : ℕ → PartWalk
   ending who = record {
     me = who;
     Early = λ p. Over p;
@@ -123,6 +106,7 @@ module _ (into : Route) where
   heard_by name body g states = λ who. hears_all (ending who) (λ ballot. (tt, tt)) (λ slot. (tt, tt)) body (λ group slot base sets e. (let same : Some name ≡ Some group = g ∙ ap group_of_mail e in let own : group ≡ name = cc in
       let over = states slot base sets (e ∙ ap (λ (n : Draw). Install n slot base sets) own) in (over, over)))
 
+-- So does each replica of it in a row that comes in time, unless it is sent a state of the group that is not over.
 pub over_stays : OverStays
 over_stays words scenario rows row name who into r timely sends e over =
     let kept : IsPlainlyKept who r = journals_idle words scenario rows name who r (in_time_before (players words (births as_nodes scenario)) rows row timely) e in

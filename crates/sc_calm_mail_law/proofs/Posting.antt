@@ -1,36 +1,26 @@
 -- Each mail of a journal is sent by a player of its number, to whom such a player sends such mail.
 use Rattle.std.proofs.Common.{length, ◌≡◌, ℕ, zero, suc, ◌+◌, ◌≤◌, nat_le, eqb, true, false, List, [], ◌∷◌, map, refl, sym, ◌∙◌, ap, subst, inl, inr, arith, rules, tests}
 use Rattle.std.proofs.lemmas.Bool.{le-leb}
-use Rattle.sc_base.specs.Among.{Each}
-use Rattle.sc_base.specs.Limits.{most_nodes}
-use Rattle.sc_cmd.specs.declared.cores.Base.{Base}
-use Rattle.sc_mail.specs.declared.bodies.Mail.{Mail}
-use Rattle.sc_mail.specs.declared.bodies.MailBody.{MailBody}
-use Rattle.sc_mail.specs.declared.bodies.MailBody.TheVariants.{Request, Answer, Prepare, Promise, Accept, Accepted, Nack, Learn, Ask, Install, TxPrepare, TxVote, TxOutcome, TxElsewhere, TxWatch, TxWatched, Told}
-use Rattle.sc_mail.specs.declared.roles.Role.TheVariants.{Node, Client}
-use Rattle.sc_actor.specs.declared.actors.Seat.{Seat}
-use Rattle.sc_actor.specs.declared.rows.Row.{Row}
-use Rattle.sc_actor.specs.Mail.{mails}
-use Rattle.sc_actor.specs.System.{row_of}
-use Rattle.sc_orderly_law.proofs.InTime.{last_in_time, in_time_before}
-use Rattle.sc_paxos_words.proofs.ListLemmas.{Each-among, Each-append, Each-weaker, find_found, find_nothing}
+use Rattle.sc_base.specs.Definitions.{Each, most_nodes}
+use Rattle.sc_node_table.specs.Values.{Base, Mail, MailBody, Request, Answer, Prepare, Promise, Accept, Accepted, Nack, Learn, Ask, Install, TxPrepare, TxVote, TxOutcome, TxElsewhere, TxWatch, TxWatched, Told, Node, Client, Seat, Row}
+use Rattle.sc_actor.specs.Definitions.{mails, row_of, value}
+use Rattle.sc_orderly_law.proofs.Lemmas.{last_in_time, in_time_before}
+use Rattle.sc_paxos_words.proofs.Lemmas.{Each-among, Each-append, Each-weaker, find_found, find_nothing}
 use Rattle.sc_scenario.specs.declared.scenarios.Asks.{Asks as Requests}
 use Rattle.sc_scenario.specs.declared.scenarios.Scenario.{Scenario}
-use Rattle.sc_node_table.specs.Node.{may_come, is_node}
-use Rattle.sc_node_table.specs.Slots.{numbers_from}
-use Rattle.sc_client_table.specs.Client.{Client as ClientState}
-use Rattle.sc_actor.specs.Replay.{value}
-use Rattle.sc_sound.specs.Players.{Player, player_table, node_seat, client_seat, client_seats, route_of, births, as_nodes}
-use Rattle.sc_calm_law.specs.Charts.{players}
-use Rattle.sc_orderly_law.specs.Timely.{AreInTime}
-use Rattle.sc_calm_law.specs.Totals.{Rows}
-use Rattle.sc_calm_rows_law.specs.Turns.{IsSeat}
-use Rattle.sc_calm_mail_law.specs.Posted.{IsNodesBody, IsClientsBody, IsPlayers, IsPosted, MailIsPosted, RowsPostTheirOwn, MailMayCome, DesksAreNotBorn}
+use Rattle.sc_node_table.specs.Definitions.{may_come, is_node, numbers_from}
+use Rattle.sc_client_table.specs.Definitions.{Client as ClientState}
+use Rattle.sc_sound.specs.Definitions.{Player, player_table, node_seat, client_seat, client_seats, route_of, births, as_nodes}
+use Rattle.sc_calm_law.specs.Definitions.{players, Rows}
+use Rattle.sc_orderly_law.specs.Definitions.{AreInTime}
+use Rattle.sc_calm_rows_law.specs.Definitions.{IsSeat}
+use Rattle.sc_calm_mail_law.specs.Definitions.{IsNodesBody, IsClientsBody, IsPlayers, IsPosted, MailIsPosted, RowsPostTheirOwn, MailMayCome, DesksAreNotBorn}
 use Rattle.sc_calm_mail_law.proofs.Journals.{Speaks, Law, Holds, Plays, row_speaks, journals_hold}
-use Rattle.sc_calm_mail_law.proofs.Walks.{Walk, hears_all}
+use Rattle.sc_calm_mail_law.proofs.PartWalks.{hears_all}
+use Rattle.sc_calm_mail_law.proofs.Walks.{PartWalk}
 
 -- nothing is asked of a replica, and of mail what its sender sends
-abbrev posting : ℕ → Walk
+abbrev posting : ℕ → PartWalk
 posting who = record {
   me = who;
   Early = λ p. Unit {0};
@@ -102,6 +92,7 @@ module _ (births : List (Seat Player)) where
     said = λ n seat mail born s. posted seat mail born s;
   }
 
+-- Each mail of a journal whose rows come in time is sent by a player of its number: an answer by a node to a client, what came of an order to the desk, an offer and a watch by the node that they name, and a request by its client.
 pub mail_posted : MailIsPosted
 mail_posted words scenario rows timely = (journals_hold scenario (posting_law (births as_nodes scenario)) words rows timely).1
 
@@ -119,6 +110,7 @@ clients_stay words scenario rows timely seat client born is =
     by (Node node) e k = cc
     by (Client other) e k = (k.0, k.1)
 
+-- Each mail of a row is from the player whose row it is.
 pub rows_post : RowsPostTheirOwn
 rows_post words scenario rows row timely =
     let born : List (Seat Player) = births as_nodes scenario in
@@ -165,6 +157,7 @@ numbers_some : (nodes who : ℕ) (player : Player) → HasNumber nodes who playe
 numbers_some nodes who (Node node) k = k.0
 numbers_some nodes who (Client client) k = k
 
+-- No player of a scenario has the desk's number.
 pub desks_apart : DesksAreNotBorn
 desks_apart scenario =
     find_nothing (λ (other : Seat Player). eqb other.who 0) (births as_nodes scenario)
@@ -220,6 +213,7 @@ module _ (who : ℕ) where
       in_range low high = (let least : nat_le 1 who ≡ true = search (tests, rules) in let most : nat_le who most_nodes ≡ true = le-leb who most_nodes (omega (arith, high, few)) in cc)
   from_player nodes (Client client) mail few n k = from_client client.me mail.body k.1
 
+-- In a bounded scenario each mail comes from one who may send it.
 pub mail_comes : MailMayCome
 mail_comes words scenario rows bounded timely =
     let born : List (Seat Player) = births as_nodes scenario in

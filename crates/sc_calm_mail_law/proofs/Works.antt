@@ -1,8 +1,9 @@
 -- A command of a transaction is the work of an order.
 use Rattle.std.proofs.Common.{refl}
-use Rattle.sc_cmd.specs.declared.commands.Command.TheVariants.{Noop, Call, Join, Leave, Split, Begin, Prepared, RecordVote, GiveUp, Finish, Watched, RecordWatch}
-use Rattle.sc_calm_mail_law.specs.Idle.{FiledIsWork}
+use Rattle.sc_node_table.specs.Values.{Noop, Call, Join, Leave, Split, Begin, Prepared, RecordVote, GiveUp, Finish, Watched, RecordWatch}
+use Rattle.sc_calm_mail_law.specs.Definitions.{FiledIsWork}
 
+-- A command of a transaction is the work of an order.
 pub filed_work : FiledIsWork
 filed_work Noop k = absurd k
 filed_work (Call client seq op) k = absurd k

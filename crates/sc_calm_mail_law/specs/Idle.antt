@@ -1,49 +1,15 @@
 -- What waits at a replica.
 use Rattle.std.specs.Prelude.{◌≡◌, ℕ, false, [], length, Some}
-use Rattle.sc_base.specs.Among.{Each}
-use Rattle.sc_cmd.specs.declared.commands.Command.{Command}
-use Rattle.sc_cmd.specs.declared.commands.Command.TheVariants.{Noop, Call, Join, Leave, Split, Begin, Prepared, RecordVote, GiveUp, Finish, Watched, RecordWatch}
-use Rattle.sc_base.specs.declared.names.Draw.{Draw}
-use Rattle.sc_orderly_law.specs.Timely.{AreInTime}
+use Rattle.sc_base.specs.Definitions.{Each}
+use Rattle.sc_node_table.specs.Values.{Command, Draw}
+use Rattle.sc_orderly_law.specs.Definitions.{AreInTime}
 use Rattle.sc_scenario.specs.declared.scenarios.Scenario.{Scenario}
-use Rattle.sc_node_table.specs.Replica.{ReplicaState}
-use Rattle.sc_node_table.specs.Slots.{slots_ahead}
-use Rattle.sc_sound.specs.Players.{births, as_nodes}
-use Rattle.sc_calm_law.specs.Charts.{players}
-use Rattle.sc_calm_law.specs.Totals.{Rows}
-use Rattle.sc_calm_orders_law.specs.Scenes.{Work}
-use Rattle.sc_calm_orders_law.specs.Parts.{work_by}
-use Rattle.sc_calm_rows_law.specs.Groups.{view_at}
-
--- a command of a transaction, by which a party votes, records a vote, gives up or ends
-abbrev pub IsFiled : Command → Type 0
-IsFiled Noop = ⊥
-IsFiled (Call client seq op) = ⊥
-IsFiled (Join node order) = ⊥
-IsFiled (Leave node order) = ⊥
-IsFiled (Split at child order) = ⊥
-IsFiled (Begin tx body order) = ⊥
-IsFiled (Prepared tx offer) = Unit {0}
-IsFiled (RecordVote tx vote by) = Unit {0}
-IsFiled (GiveUp tx) = Unit {0}
-IsFiled (Finish tx outcome) = Unit {0}
-IsFiled (Watched tx watch) = Unit {0}
-IsFiled (RecordWatch tx vote by) = Unit {0}
-
--- a call or an order
-abbrev pub IsAsked : Command → Type 0
-IsAsked Noop = ⊥
-IsAsked (Call client seq op) = Unit {0}
-IsAsked (Join node order) = Unit {0}
-IsAsked (Leave node order) = Unit {0}
-IsAsked (Split at child order) = Unit {0}
-IsAsked (Begin tx body order) = Unit {0}
-IsAsked (Prepared tx offer) = ⊥
-IsAsked (RecordVote tx vote by) = ⊥
-IsAsked (GiveUp tx) = ⊥
-IsAsked (Finish tx outcome) = ⊥
-IsAsked (Watched tx watch) = ⊥
-IsAsked (RecordWatch tx vote by) = ⊥
+use Rattle.sc_node_table.specs.Definitions.{ReplicaState, slots_ahead}
+use Rattle.sc_sound.specs.Definitions.{births, as_nodes}
+use Rattle.sc_calm_law.specs.Definitions.{players, Rows}
+use Rattle.sc_calm_orders_law.specs.Definitions.{Work, work_by}
+use Rattle.sc_calm_rows_law.specs.Definitions.{view_at}
+use Rattle.sc_law_lemmas.specs.Definitions.{IsFiled, IsAsked}
 
 -- Where it does not run, nothing is in flight and nothing waits; no transaction has waited for a tick; and what waits is a command of a transaction, or a call or an order.
 abbrev pub IsIdlyKept : ReplicaState → Type 0

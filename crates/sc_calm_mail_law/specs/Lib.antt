@@ -3,3 +3,4 @@ pub mod Idle
 pub mod Lasting
 pub mod Over
 pub mod Posted
+pub mod Definitions

@@ -1,23 +1,15 @@
 -- Who sends each mail of a journal, and to whom.
 use Rattle.std.specs.Prelude.{◌≡◌, ℕ, ◌==◌, true, List, [], ◌∷◌, ◌++◌, find, None}
-use Rattle.sc_base.specs.Among.{Each}
-use Rattle.sc_base.specs.Limits.{client_actor}
-use Rattle.sc_cmd.specs.declared.orders.OrderLine.{OrderLine}
-use Rattle.sc_mail.specs.declared.bodies.Mail.{Mail}
-use Rattle.sc_mail.specs.declared.bodies.MailBody.{MailBody}
-use Rattle.sc_mail.specs.declared.bodies.MailBody.TheVariants.{Request, Answer, Prepare, Promise, Accept, Accepted, Nack, Learn, Ask, Install, TxPrepare, TxVote, TxOutcome, TxElsewhere, TxWatch, TxWatched, Told}
-use Rattle.sc_mail.specs.declared.roles.Role.TheVariants.{Node, Client}
-use Rattle.sc_actor.specs.declared.actors.Seat.{Seat}
-use Rattle.sc_actor.specs.declared.rows.Row.{Row}
-use Rattle.sc_actor.specs.Mail.{mails}
-use Rattle.sc_orderly_law.specs.Timely.{AreInTime}
-use Rattle.sc_scenario.specs.Valid.{IsBounded}
+use Rattle.sc_base.specs.Definitions.{Each, client_actor}
+use Rattle.sc_node_table.specs.Values.{OrderLine, Mail, MailBody, Request, Answer, Prepare, Promise, Accept, Accepted, Nack, Learn, Ask, Install, TxPrepare, TxVote, TxOutcome, TxElsewhere, TxWatch, TxWatched, Told, Node, Client, Seat, Row}
+use Rattle.sc_actor.specs.Definitions.{mails}
+use Rattle.sc_orderly_law.specs.Definitions.{AreInTime}
+use Rattle.sc_scenario.specs.Definitions.{IsBounded}
 use Rattle.sc_scenario.specs.declared.scenarios.Scenario.{Scenario}
-use Rattle.sc_node_table.specs.Node.{may_come}
-use Rattle.sc_sound.specs.Players.{Player, births, as_nodes}
-use Rattle.sc_calm_law.specs.Charts.{players}
-use Rattle.sc_calm_law.specs.Totals.{Rows}
-use Rattle.sc_calm_rows_law.specs.Turns.{IsSeat}
+use Rattle.sc_node_table.specs.Definitions.{may_come}
+use Rattle.sc_sound.specs.Definitions.{Player, births, as_nodes}
+use Rattle.sc_calm_law.specs.Definitions.{players, Rows}
+use Rattle.sc_calm_rows_law.specs.Definitions.{IsSeat}
 
 -- what a node sends, by its number, the receiver and the body: an answer goes to a client, what came of an order to the desk, and an offer and a watch are its own; it sends no request
 abbrev pub IsNodesBody : ℕ → ℕ → MailBody → Type 0

@@ -1,10 +1,8 @@
 -- Rows in which a leader executes an order, and in which the group that is asked votes.
 use Rattle.std.proofs.Common.{◌≡◌, ℕ, Bool, true, false, List, [], ◌∷◌, Option, Some, inl, inr, refl, sym, ◌∙◌, ap, subst, cond}
-use Rattle.sc_base.specs.declared.names.Draw.{Draw}
-use Rattle.sc_calm_orders_law.specs.Scenes.{Turn, First, Lone, Next, is_watch, Unbound, Asking, Errand, Question, Reply, Work, Opens, Answers, Records, Ends, Here, free, Scene}
-use Rattle.sc_calm_orders_law.specs.Stages.{Deal, Still, Ordered, Asks, Weighs, Replied, coordinator, asked_one, bound_by, leads_of, IsOrder, IsVote, IsAt}
-use Rattle.sc_calm_orders_law.specs.Rows.{IsRow, Changed, Opened, Voted}
-use Rattle.sc_calm_orders_law.specs.Follows.{Changes, BeginsDeal, Votes, Comes, StepsBy}
+use Rattle.sc_node_table.specs.Values.{Draw}
+use Rattle.sc_calm_orders_law.specs.Definitions.{Turn, First, Lone, Next, is_watch, Unbound, Asking, Errand, Question, Reply, Work, Opens, Answers, Records, Ends, Here, free, Scene, Deal, Still, Ordered, Asks, Weighs, Replied, coordinator, asked_one, bound_by, leads_of, IsOrder, IsVote, IsAt, IsRow, Changed, Opened, Voted, BeginsDeal, Votes, Comes, StepsBy}
+use Rattle.sc_calm_orders_law.specs.Follows.{Changes}
 use Rattle.sc_calm_orders_law.proofs.Lists.{AreOne, cases-draw, having}
 use Rattle.sc_calm_orders_law.proofs.Moves.{other-mailed, other-same, leads-stay, deal-goes}
 use Rattle.sc_calm_orders_law.proofs.Works.{AtEach, by-work, own-done}

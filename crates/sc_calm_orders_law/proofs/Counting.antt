@@ -1,25 +1,11 @@
 -- A leader counts a vote for the one command that is in flight.
 use Rattle.std.proofs.Common.{◌≡◌, ℕ, ◌&&◌, eqb, Bool, true, false, cond, List, [], ◌∷◌, ◌++◌, length, Option, Some, None, ◌⊎◌, inl, inr, refl, sym, ◌∙◌, ap, subst, append-nil}
 use Rattle.std.proofs.lemmas.Bool.{eqb-true, eq-eqb}
-use Rattle.sc_base.specs.Same.{same_ballot}
-use Rattle.sc_base.specs.declared.names.Ballot.{Ballot}
-use Rattle.sc_base.specs.declared.names.Draw.{Draw}
-use Rattle.sc_cmd.specs.declared.commands.Command.{Command}
-use Rattle.sc_mail.specs.declared.bodies.MailBody.TheVariants.{Accepted}
-use Rattle.sc_base.specs.Majority.{is_majority}
-use Rattle.sc_paxos_words.specs.declared.answers.Counted.{Counted}
-use Rattle.sc_paxos_words.specs.declared.answers.Counted.TheVariants.{Chosen, NotYet}
-use Rattle.sc_paxos_words.specs.declared.flights.Flight.{Flight}
-use Rattle.sc_paxos_words.specs.Leaders.{LeaderState, flight_at, without_flight, without_flight_at}
-use Rattle.sc_paxos_words.specs.Votes.{kept_voters, voters_after, with_voters, tallied, vote_at, counted}
-use Rattle.sc_node_table.specs.Execute.{has_room, executed}
-use Rattle.sc_node_table.specs.Replica.{ReplicaState, Executed, childless, next, set_at, listed}
-use Rattle.sc_node_table.specs.Rows.{mailed}
-use Rattle.sc_node_table.specs.Slots.{with_slot}
-use Rattle.sc_node_table.specs.Voting.{leads, readied, vote_tallied, voted, accepted_row}
-use Rattle.sc_calm_orders_law.specs.Parts.{work_by, works_in, works_flying, works_ready, works}
-use Rattle.sc_calm_orders_law.specs.Tables.{Works}
-use Rattle.sc_calm_orders_law.specs.Running.{IsLone, FliesLone, Decides, VotesCountAlone}
+use Rattle.sc_base.specs.Definitions.{same_ballot, is_majority}
+use Rattle.sc_node_table.specs.Values.{Ballot, Draw, Command, Accepted, Counted, Chosen, NotYet, Flight}
+use Rattle.sc_paxos_words.specs.Definitions.{LeaderState, flight_at, without_flight, without_flight_at, kept_voters, voters_after, with_voters, tallied, vote_at, counted}
+use Rattle.sc_node_table.specs.Definitions.{has_room, executed, ReplicaState, Executed, childless, next, set_at, listed, mailed, with_slot, leads, readied, vote_tallied, voted, accepted_row}
+use Rattle.sc_calm_orders_law.specs.Definitions.{work_by, works_in, works_flying, works_ready, works, Works, IsLone, FliesLone, Decides, VotesCountAlone}
 
 works_voters : (slot : ℕ) (voters : Option (List ℕ)) (flights : List (Flight Command)) → works_flying (with_voters slot voters flights) ≡ works_flying flights
 works_voters slot voters [] = refl
@@ -101,5 +87,6 @@ module _ (from slot : ℕ) (ballot : Ballot) (flight : Flight Command) (r : Repl
       by true = voted_goes (set_at slot r)
       by false = stays r.leader refl
 
+-- A vote for the one command that a leader has in flight leaves it there, or decides it: then it is executed alone.
 pub votes-count-alone : VotesCountAlone
 votes-count-alone from group ballot slot flight r lone = counts-alone from slot ballot flight r lone group

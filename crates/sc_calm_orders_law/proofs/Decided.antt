@@ -1,11 +1,9 @@
 -- Rows in which a coordinator records a vote, and in which a party is free again.
 use Rattle.std.proofs.Common.{◌≡◌, ℕ, Bool, true, false, List, [], ◌∷◌, Option, Some, inl, inr, refl, sym, ◌∙◌, ap, subst}
-use Rattle.sc_base.specs.Among.{Each}
-use Rattle.sc_base.specs.declared.names.Draw.{Draw}
-use Rattle.sc_calm_orders_law.specs.Scenes.{Turn, First, Lone, Next, is_watch, Unbound, Asking, Bound, Errand, Question, Result, Answers, Records, Ends, Here, free, Scene, IsNone, IsOnly}
-use Rattle.sc_calm_orders_law.specs.Stages.{Deal, Mailed, Filed, Party, Stage, Still, Asks, Recorded, Closes, ClosesBoth, coordinator, heard, heard_lead, bound_by, closing, party_of, IsOrder, IsAt}
-use Rattle.sc_calm_orders_law.specs.Rows.{IsRow, results, Aborted, Decided, Heard, Ended}
-use Rattle.sc_calm_orders_law.specs.Follows.{closed, Aborts, Hears, Decides, IsFreed, LastFreed, OneFreed, TwoFreed, Comes, StepsBy}
+use Rattle.sc_base.specs.Definitions.{Each}
+use Rattle.sc_node_table.specs.Values.{Draw}
+use Rattle.sc_calm_orders_law.specs.Definitions.{Turn, First, Lone, Next, is_watch, Unbound, Asking, Bound, Errand, Question, Result, Answers, Records, Ends, Here, free, Scene, IsNone, IsOnly, Deal, Mailed, Filed, Party, Stage, Still, Asks, Recorded, Closes, ClosesBoth, coordinator, heard, heard_lead, bound_by, closing, party_of, IsOrder, IsAt, IsRow, results, Aborted, Decided, Heard, Ended, closed, Aborts, Hears, IsFreed, LastFreed, OneFreed, TwoFreed, Comes, StepsBy}
+use Rattle.sc_calm_orders_law.specs.Follows.{Decides}
 use Rattle.sc_calm_orders_law.proofs.Lists.{AreOne, cases-draw, having}
 use Rattle.sc_calm_orders_law.proofs.Moves.{other-mailed, other-same, lead-stays}
 use Rattle.sc_calm_orders_law.proofs.Works.{AtEach, by-work, own-done}

@@ -1,44 +1,17 @@
 -- What the entries of an order leave, by their kind.
 use Rattle.std.proofs.Common.{◌≡◌, ℕ, Bool, true, false, cond, [], ◌∷◌, ◌++◌, Option, Some, None, refl, sym, ◌∙◌, ap, subst}
 use Rattle.std.specs.Prelude.{is_none}
-use Rattle.sc_base.specs.declared.names.Draw.{Draw}
-use Rattle.sc_cmd.specs.Effects.{is_changed, decided_in}
-use Rattle.sc_cmd.specs.declared.bodies.Body.{Body}
+use Rattle.sc_node_table.specs.Values.{Draw, Body, Offer, Watch, Join, Leave, Split, Begin, Prepared, RecordVote, Watched, Core, Lock, Free, Coordinating, Promised, Watching, Effect, Route, OrderRefusal, Frozen, No, Outcome, Abort, TxPrepare, TxVote, TxOutcome, TxWatched}
+use Rattle.sc_cmd.specs.Definitions.{is_changed, decided_in}
 use Rattle.sc_cmd.specs.declared.bodies.Body.TheVariants as At
-use Rattle.sc_cmd.specs.declared.bodies.Offer.{Offer}
-use Rattle.sc_cmd.specs.declared.bodies.Watch.{Watch}
-use Rattle.sc_cmd.specs.declared.commands.Command.TheVariants.{Join, Leave, Split, Begin, Prepared, RecordVote, Watched}
-use Rattle.sc_cmd.specs.declared.cores.Core.{Core}
-use Rattle.sc_cmd.specs.declared.cores.Lock.{Lock}
-use Rattle.sc_cmd.specs.declared.cores.Lock.TheVariants.{Free, Coordinating, Promised, Watching}
-use Rattle.sc_cmd.specs.declared.effects.Effect.{Effect}
 use Rattle.sc_cmd.specs.declared.effects.Effect.TheVariants as Was
-use Rattle.sc_cmd.specs.declared.links.Route.{Route}
-use Rattle.sc_cmd.specs.declared.orders.OrderRefusal.{OrderRefusal}
-use Rattle.sc_cmd.specs.declared.votes.Frozen.{Frozen}
-use Rattle.sc_cmd.specs.declared.votes.No.{No}
-use Rattle.sc_cmd.specs.declared.votes.Outcome.{Outcome}
-use Rattle.sc_cmd.specs.declared.votes.Outcome.TheVariants.{Abort}
 use Rattle.sc_cmd.specs.declared.votes.Past.TheVariants as Cast
 use Rattle.sc_cmd.specs.declared.votes.Vote.TheVariants as Says
-use Rattle.sc_mail.specs.declared.bodies.MailBody.TheVariants.{TxPrepare, TxVote, TxOutcome, TxWatched}
-use Rattle.sc_machine_table.specs.Group.{Group}
-use Rattle.sc_machine_table.specs.Machine.{split_group}
-use Rattle.sc_machine_table.specs.Orders.{refusal_of, ordered, with_node, without_node}
-use Rattle.sc_machine_table.specs.Plans.{Plan, frozen_of}
-use Rattle.sc_machine_table.specs.Splits.{has_named, left_group}
-use Rattle.sc_machine_table.specs.Transactions.{begun_group, decided, committed, heard_group}
-use Rattle.sc_machine_table.specs.Votes.{past_of, bound_by as lock_by, voted_on}
-use Rattle.sc_base.specs.Roster.{least_of}
-use Rattle.sc_node_table.specs.Questions.{offer_of, question, asked_first}
-use Rattle.sc_node_table.specs.Spoken.{before_of, before_in, went_on}
+use Rattle.sc_machine_table.specs.Definitions.{Group, split_group, refusal_of, ordered, with_node, without_node, Plan, frozen_of, has_named, left_group, begun_group, decided, committed, heard_group, past_of, bound_by as lock_by, voted_on}
+use Rattle.sc_base.specs.Definitions.{least_of}
+use Rattle.sc_node_table.specs.Definitions.{offer_of, question, asked_first, before_of, before_in, went_on, sent}
 use Rattle.sc_node_table.specs.declared.Before.{Before}
-use Rattle.sc_node_table.specs.Mails.{sent}
-use Rattle.sc_calm_orders_law.specs.Scenes.{First, Lone, Next, Unbound, Asking, Question, Reply, Result, IsOnly}
-use Rattle.sc_calm_orders_law.specs.Stages.{bound_by}
-use Rattle.sc_calm_orders_law.specs.Rows.{results}
-use Rattle.sc_calm_orders_law.specs.Parts.{bond_in, errands_for}
-use Rattle.sc_calm_orders_law.specs.Entries.{Leaves, IsBegun, OrdersLeave, VotesLeave}
+use Rattle.sc_calm_orders_law.specs.Definitions.{First, Lone, Next, Unbound, Asking, Question, Reply, Result, IsOnly, bound_by, results, bond_in, errands_for, Leaves, IsBegun, OrdersLeave, VotesLeave}
 use Rattle.sc_calm_orders_law.proofs.Errands.{one-errand}
 
 -- nothing is sent
@@ -129,6 +102,7 @@ module _ (me : ℕ) (before : Before) where
     sends = one-errand me (least_of group.core.succ.members) (TxPrepare tx (offer_of me (begun_group group tx body order).core body)) group.core.succ.group (Question tx group.core.id false me (least_of group.core.succ.members)) refl;
   }
 
+-- A group that is free sends no mail of a transaction by a join, a leave, a split of a group that is alone, or an order that is refused, and stays free; by another order that is begun it asks its successor, and is bound so.
 pub orders-leave : OrdersLeave
 orders-leave = record {
   join = λ node order me group e. ordered_either (Leaves Unbound [] (Join node order) me (before_of group.core)) group (with_node group node) group.core.gone (refusal_of group.core (Join node order))
@@ -169,6 +143,7 @@ module _ (me : ℕ) (before : Before) (group : Group) (tx : Draw) where
   unfolding went_on
   watched_leaves watch = record { bond_is = refl; sends = one-errand me watch.by (TxWatched tx watch.coord watch.part Cast.Yes) watch.coord (Reply tx true true me watch.by) refl }
 
+-- A group that has not voted yet votes: it sends its vote to the node that asked, and is bound by a Yes alone.
 pub votes-leave : VotesLeave
 votes-leave = record {
   prepared = λ tx offer why me group e none is. subst (λ w. Leaves (bound_by (is_none why) tx) ((offer.coord, Reply tx false (is_none why) me offer.by ∷ []) ∷ []) (Prepared tx offer) me (before_of group.core) (voted_on w (Promised tx offer) group tx)) (sym is)

@@ -1,14 +1,11 @@
 -- The errands of mail that is sent.
 use Rattle.std.proofs.Common.{◌≡◌, ℕ, Bool, true, false, cond, List, [], ◌∷◌, ◌++◌, Some, None, refl, sym, ◌∙◌, ap, append-nil}
 use Rattle.std.proofs.lemmas.List.{append_assoc}
-use Rattle.sc_base.specs.Same.{same_draw}
-use Rattle.sc_base.specs.declared.names.Draw.{Draw}
-use Rattle.sc_base.proofs.NameLemmas.{draw_is, same_name}
-use Rattle.sc_mail.specs.declared.bodies.Mail.{Mail}
-use Rattle.sc_mail.specs.declared.bodies.MailBody.{MailBody}
-use Rattle.sc_node_table.specs.Mails.{sent, sent_all}
-use Rattle.sc_calm_orders_law.specs.Scenes.{Errand, IsOnly}
-use Rattle.sc_calm_orders_law.specs.Parts.{errand_by, errand_for, errands_for}
+use Rattle.sc_base.specs.Definitions.{same_draw}
+use Rattle.sc_node_table.specs.Values.{Draw, Mail, MailBody}
+use Rattle.sc_base.proofs.Lemmas.{draw_is, same_name}
+use Rattle.sc_node_table.specs.Definitions.{sent, sent_all}
+use Rattle.sc_calm_orders_law.specs.Definitions.{Errand, IsOnly, errand_by, errand_for, errands_for}
 
 -- a mail that is put last
 pub errands-push : (name : Draw) (mails : List Mail) (mail : Mail) → errands_for name (mails ++ mail ∷ []) ≡ errands_for name mails ++ errand_for name (errand_by mail.from mail.to mail.body)

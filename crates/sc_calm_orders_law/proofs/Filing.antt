@@ -4,39 +4,16 @@ use Rattle.std.specs.List.{list_any}
 use Rattle.std.specs.Option.{option_map}
 use Rattle.std.proofs.lemmas.Bool.{and_from, cond_both}
 use Rattle.std.proofs.lemmas.List.{append_assoc}
-use Rattle.sc_base.specs.Same.{same_draw}
-use Rattle.sc_base.specs.declared.names.Draw.{Draw}
-use Rattle.sc_base.proofs.NameLemmas.{same_name}
-use Rattle.sc_cmd.specs.declared.bodies.Body.{Body}
+use Rattle.sc_base.specs.Definitions.{same_draw}
+use Rattle.sc_node_table.specs.Values.{Draw, Body, Offer, Watch, Command, Noop, Call, Join, Leave, Split, Begin, Prepared, RecordVote, GiveUp, Finish, Watched, RecordWatch, Core, Lock, Free, Coordinating, Promised, Watching, Heard, Outcome, Past, Vote, TxPrepare, TxVote, TxOutcome, TxElsewhere, TxWatch, TxWatched, Flight}
+use Rattle.sc_base.proofs.Lemmas.{same_name}
 use Rattle.sc_cmd.specs.declared.bodies.Body.TheVariants as At
-use Rattle.sc_cmd.specs.declared.bodies.Offer.{Offer}
-use Rattle.sc_cmd.specs.declared.bodies.Watch.{Watch}
-use Rattle.sc_cmd.specs.declared.commands.Command.{Command}
-use Rattle.sc_cmd.specs.declared.commands.Command.TheVariants.{Noop, Call, Join, Leave, Split, Begin, Prepared, RecordVote, GiveUp, Finish, Watched, RecordWatch}
-use Rattle.sc_cmd.specs.declared.cores.Core.{Core}
-use Rattle.sc_cmd.specs.declared.cores.Lock.{Lock}
-use Rattle.sc_cmd.specs.declared.cores.Lock.TheVariants.{Free, Coordinating, Promised, Watching}
-use Rattle.sc_cmd.specs.declared.votes.Heard.{Heard}
-use Rattle.sc_cmd.specs.declared.votes.Outcome.{Outcome}
-use Rattle.sc_cmd.specs.declared.votes.Past.{Past}
 use Rattle.sc_cmd.specs.declared.votes.Past.TheVariants as Cast
-use Rattle.sc_cmd.specs.declared.votes.Vote.{Vote}
 use Rattle.sc_cmd.specs.declared.votes.Vote.TheVariants as Says
-use Rattle.sc_machine_table.specs.Transactions.{asks_watcher}
-use Rattle.sc_mail.specs.declared.bodies.MailBody.TheVariants.{TxPrepare, TxVote, TxOutcome, TxElsewhere, TxWatch, TxWatched}
-use Rattle.sc_node_table.specs.Acts.{is_of_kind, has_act, act_queued}
-use Rattle.sc_node_table.specs.Mails.{sent}
-use Rattle.sc_node_table.specs.Pump.{pumped}
-use Rattle.sc_node_table.specs.Questions.{question, asked_link}
-use Rattle.sc_node_table.specs.Replica.{ReplicaState, Place, either, taken_at, taken_from, under_way, open_slots, name_of, listed}
-use Rattle.sc_node_table.specs.Rows.{mailed}
-use Rattle.sc_node_table.specs.Slots.{at_slot}
-use Rattle.sc_node_table.specs.Transactions.{standing_vote, sent_elsewhere, offered_by, offer_row, watched_by, watch_row, awaits_vote, awaits_watch, vote_queued, vote_met, vote_row, watch_queued, watch_met, watched_row, noted_outcome, is_bound, outcome_row, asked_next, elsewhere_row}
-use Rattle.sc_paxos_words.specs.declared.flights.Flight.{Flight}
-use Rattle.sc_paxos_words.specs.Leaders.{flight_at}
-use Rattle.sc_calm_orders_law.specs.Scenes.{Turn, is_watch, Asking, Bound, Question, Elsewhere, Work, Answers, Records, Ends, IsOnly}
-use Rattle.sc_calm_orders_law.specs.Parts.{turn_of, bond_in, is_yes, is_cast_yes, work_by, works_in, works_flying, works_ready, works, errand_by, errands_for}
-use Rattle.sc_calm_orders_law.specs.Tables.{Works, MayFile, TablesFile, TablesPass, TablesAskOn}
+use Rattle.sc_machine_table.specs.Definitions.{asks_watcher}
+use Rattle.sc_node_table.specs.Definitions.{is_of_kind, has_act, act_queued, sent, pumped, question, asked_link, ReplicaState, Place, either, taken_at, taken_from, under_way, open_slots, name_of, listed, mailed, at_slot, standing_vote, sent_elsewhere, offered_by, offer_row, watched_by, watch_row, awaits_vote, awaits_watch, vote_queued, vote_met, vote_row, watch_queued, watch_met, watched_row, noted_outcome, is_bound, outcome_row, asked_next, elsewhere_row}
+use Rattle.sc_paxos_words.specs.Definitions.{flight_at}
+use Rattle.sc_calm_orders_law.specs.Definitions.{Turn, is_watch, Asking, Bound, Question, Elsewhere, Work, Answers, Records, Ends, IsOnly, turn_of, bond_in, is_yes, is_cast_yes, work_by, works_in, works_flying, works_ready, works, errand_by, errands_for, Works, MayFile, TablesFile, TablesPass, TablesAskOn}
 use Rattle.sc_calm_orders_law.proofs.Errands.{one-errand}
 use Rattle.sc_calm_orders_law.proofs.Pumps.{pumps-keep}
 
@@ -278,6 +255,7 @@ module _ (r : ReplicaState) where
   unfolding mailed outcome_row
   outcome_is from tx part outcome bound = ap (λ x. cond {A = Place} x (act_queued (Finish tx outcome) (r, [])) (r, [])) bound
 
+-- A leader that has nothing to do but calls takes a question on which no vote stands, a vote for which it waits, and an outcome of the transaction that binds it, as its one work.
 pub tables-file : TablesFile
 tables-file = record {
   offer = λ from tx offer r may none. subst (Works (Answers tx offer.coord false offer.by ∷ []) [] r) (sym (offer_is r true from tx offer may.running none))
@@ -300,6 +278,7 @@ tables-file = record {
 pub elsewhere-works : (from : ℕ) (tx coord : Draw) (r : ReplicaState) → Works (works r) ((coord, Elsewhere tx from ∷ []) ∷ []) r (sent_elsewhere from tx coord (r, []))
 elsewhere-works from tx coord r = record { group = refl; me = refl; running = refl; work = refl; sends = one-errand r.me from (TxElsewhere tx coord r.hint) coord (Elsewhere tx from) refl }
 
+-- A replica that does not run, and a node without one, sends the coordinator's node elsewhere.
 pub tables-pass : TablesPass
 tables-pass = record {
   offer = λ from tx offer r off none. subst (Works (works r) ((offer.coord, Elsewhere tx from ∷ []) ∷ []) r) (sym (offer_is r false from tx offer off none)) (elsewhere-works from tx offer.coord r);
@@ -329,6 +308,7 @@ module _ (me node from : ℕ) (core : Core) (tx asked : Draw) (turn : Turn) wher
       (one-errand me node (question me core tx body heard) asked (Question tx core.id (is_watch turn) me node)
       (question-errand me node core tx body heard ∙ (ap (λ x. Some (x, Question tx core.id (is_watch (turn_of core body heard)) me node)) g ∙ ap (λ x. Some (asked, Question tx core.id (is_watch x) me node)) t))))
 
+-- A settled coordinator that is sent elsewhere asks there what it asks.
 pub tables-ask-on : TablesAskOn
 unfolding mailed elsewhere_row
 tables-ask-on from node tx coord asked turn r settled_is bond =

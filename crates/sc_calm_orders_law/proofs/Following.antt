@@ -1,11 +1,12 @@
 -- Which step each kind of row is; and so that each keeps an order under way.
-use Rattle.sc_calm_orders_law.specs.Rows.{Kind, Rests, PassesOn, AsksOn, Files, Changed, Opened, Voted, Aborted, Decided, Heard, Ended, Keeps, RestsKeep, QuestionsKeep, FilesKeep, EntriesKeep, OrdersBegin}
-use Rattle.sc_calm_orders_law.specs.Follows.{Step, Stays, Passes, AsksAgain, IsTaken, Changes, BeginsDeal, Votes, Aborts, Hears, Decides, IsFreed, StepsBy, RowsStep}
+use Rattle.sc_calm_orders_law.specs.Definitions.{Kind, Rests, PassesOn, AsksOn, Files, Changed, Opened, Voted, Aborted, Decided, Heard, Ended, Keeps, RestsKeep, QuestionsKeep, FilesKeep, EntriesKeep, OrdersBegin, Step, Stays, Passes, AsksAgain, IsTaken, BeginsDeal, Votes, Aborts, Hears, IsFreed, StepsBy, RowsStep}
+use Rattle.sc_calm_orders_law.specs.Follows.{Changes, Decides}
 use Rattle.sc_calm_orders_law.proofs.Begun.{changed-step, opened-step, voted-step}
 use Rattle.sc_calm_orders_law.proofs.Decided.{aborted-step, decided-step, heard-step, ended-step}
 use Rattle.sc_calm_orders_law.proofs.Questions.{passes-step, asks-step, files-step}
 use Rattle.sc_calm_orders_law.proofs.Told.{rests-step, told-step}
 
+-- Each kind of row is one step: a row that does nothing of an order leaves its stage, a leader that is told one begins it, a question goes out, on and out again, is taken, and voted on; a vote is taken, and ends the order, is heard or decides; and an outcome is taken, and frees its party.
 pub rows-step : RowsStep
 rows-step = record {
   rests = rests-step;
@@ -26,15 +27,19 @@ rows-step = record {
 keeps : (Does : Kind) (Is : Step) → StepsBy Does Is → Keeps Does
 keeps Does Is steps now after group taken sent row d (s, a) = (let to = steps now after group taken sent row d s a in (to.0, to.1))
 
+-- A row that does nothing of an order leaves its stage.
 pub rests-keep : RestsKeep
 rests-keep = keeps Rests Stays rests-step
 
+-- So do rows in which a question is sent on by one that does not lead, and in which the coordinator's leader, which is sent elsewhere, asks there.
 pub questions-keep : QuestionsKeep
 questions-keep = record { passes = keeps PassesOn Passes passes-step; asks = keeps AsksOn AsksAgain asks-step }
 
+-- So does a row in which a leader takes a question, a vote or an outcome, and is to put it into its log.
 pub files-keep : FilesKeep
 files-keep = keeps Files IsTaken files-step
 
+-- So does a row in which a leader executes the entry at which an order is: members come and go, or another group is asked; that one votes; the coordinator records a No, or decides, or hears its participant and asks the watcher; and a party to which the outcome came is free again.
 pub entries-keep : EntriesKeep
 entries-keep = record {
   changed = keeps Changed Changes changed-step;
@@ -46,5 +51,6 @@ entries-keep = record {
   ended = keeps Ended IsFreed ended-step;
 }
 
+-- Where no order is under way, one that a leader takes begins to be: its command stands at the leader, and no group is bound.
 pub orders-begin : OrdersBegin
 orders-begin now after group taken sent row d a = (let to = told-step now after group taken sent row d a in (to.0, to.1))

@@ -1,9 +1,7 @@
 -- Where nothing is under way no order is.
 use Rattle.std.proofs.Common.{◌≡◌, ℕ, List, [], ◌∷◌, refl, sym, ◌∙◌, ap}
-use Rattle.sc_base.specs.declared.names.Draw.{Draw}
-use Rattle.sc_calm_orders_law.specs.Scenes.{Turn, Unbound, Asking, Here, Scene}
-use Rattle.sc_calm_orders_law.specs.Stages.{Leg, Mailed, Filed, closing, Stage, Still, Ordered, Asks, SentOn, Weighs, Replied, Recorded, Closes, ClosesBoth, IsAt, IsQuiet}
-use Rattle.sc_calm_orders_law.specs.Rows.{QuietIsStill}
+use Rattle.sc_node_table.specs.Values.{Draw}
+use Rattle.sc_calm_orders_law.specs.Definitions.{Turn, Unbound, Asking, Here, Scene, Leg, Mailed, Filed, closing, Stage, Still, Ordered, Asks, SentOn, Weighs, Replied, Recorded, Closes, ClosesBoth, IsAt, IsQuiet, QuietIsStill}
 
 cons_nil : {X : Type 0} {x : X} {xs : List X} → x ∷ xs ≡ [] → ⊥
 cons_nil e = absurd cc
@@ -45,5 +43,6 @@ still-only now (Recorded deal agreed host) a still = absurd (asking_free (sym (a
 still-only now (Closes tx party) a still = absurd (closing_free tx party.leg party.host (sym (ap (λ (h : Here). h.bond) a.parties.0.0) ∙ ap (λ (h : Here). h.bond) (still.parties.1 party.group tt)))
 still-only now (ClosesBoth tx one two) a still = absurd (closing_free tx one.leg one.host (sym (ap (λ (h : Here). h.bond) a.parties.0.0) ∙ ap (λ (h : Here). h.bond) (still.parties.1 one.group tt)))
 
+-- Where no mail of a transaction is under way and no leader has any work but calls, no group is bound.
 pub quiet-still : QuietIsStill
 quiet-still now q u = (let s = still_of now q u.0 u.1 in (s, λ group. ap (λ (h : Here). h.bond) (s.parties.1 group tt)))

@@ -17,3 +17,4 @@ pub mod Ordering
 pub mod Runs
 pub mod Counting
 pub mod Resting
+pub mod Lemmas

@@ -1,10 +1,9 @@
 -- Values by names, where all others have another value; and what stands in lists of them.
 use Rattle.std.proofs.Common.{◌≡◌, Bool, true, false, List, [], ◌∷◌, ◌++◌, ◌⊎◌, inl, inr, refl, sym, ◌∙◌, ap, subst}
-use Rattle.sc_base.specs.Among.{Among, Each}
-use Rattle.sc_base.specs.declared.names.Draw.{Draw}
-use Rattle.sc_base.specs.Same.{same_draw}
-use Rattle.sc_base.proofs.NameLemmas.{draw_is, same_name}
-use Rattle.sc_calm_orders_law.specs.Scenes.{Bond, Errand, Work, Here, free, IsNone, IsOnly}
+use Rattle.sc_base.specs.Definitions.{Among, Each, same_draw}
+use Rattle.sc_node_table.specs.Values.{Draw}
+use Rattle.sc_base.proofs.Lemmas.{draw_is, same_name}
+use Rattle.sc_calm_orders_law.specs.Definitions.{Bond, Errand, Work, Here, free, IsNone, IsOnly}
 
 -- two names are the same or not
 pub cases-draw : (a b : Draw) → (a ≡ b) ⊎ (a ≡ b → ⊥)

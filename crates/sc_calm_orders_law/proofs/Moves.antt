@@ -1,11 +1,9 @@
 -- What a row does to parts, and to the parties of a transaction.
 use Rattle.std.proofs.Common.{◌≡◌, ℕ, List, [], ◌∷◌, ◌++◌, Option, Some, None, ◌⊎◌, inl, inr, refl, sym, ◌∙◌, ap, subst, append-nil}
-use Rattle.sc_base.specs.Among.{Among, Each}
-use Rattle.sc_base.specs.declared.names.Draw.{Draw}
-use Rattle.sc_node_table.specs.Replica.{listed}
-use Rattle.sc_calm_orders_law.specs.Scenes.{Turn, First, Lone, Next, Errand, Result, Work, Ends, Here, free, Scene, IsNone, IsOnly, AreApart}
-use Rattle.sc_calm_orders_law.specs.Stages.{Deal, Leg, Mailed, Filed, heard, closing}
-use Rattle.sc_calm_orders_law.specs.Rows.{IsRow, GoesOn}
+use Rattle.sc_base.specs.Definitions.{Among, Each}
+use Rattle.sc_node_table.specs.Values.{Draw}
+use Rattle.sc_node_table.specs.Definitions.{listed}
+use Rattle.sc_calm_orders_law.specs.Definitions.{Turn, First, Lone, Next, Errand, Result, Work, Ends, Here, free, Scene, IsNone, IsOnly, AreApart, Deal, Leg, Mailed, Filed, heard, closing, IsRow, GoesOn}
 use Rattle.sc_calm_orders_law.proofs.Lists.{cases-draw, having, among-right, single, tagged, tokens}
 
 abbrev pub errands_of : Here → List Errand

@@ -1,23 +1,10 @@
 -- What a leader's table does with an order that it is told.
 use Rattle.std.proofs.Common.{◌≡◌, ℕ, [], ◌∷◌, ◌++◌, Some, None, refl, sym, ◌∙◌, ap, subst}
-use Rattle.sc_base.specs.Drawing.{Drawer, next_name}
-use Rattle.sc_base.specs.declared.names.Draw.{Draw}
-use Rattle.sc_cmd.specs.declared.commands.Command.{Command}
-use Rattle.sc_cmd.specs.declared.orders.Order.{Order}
+use Rattle.sc_base.specs.Definitions.{Drawer, next_name}
+use Rattle.sc_node_table.specs.Values.{Draw, Command, Order, OrderLine, OrderRefusal, Refused, Told}
 use Rattle.sc_cmd.specs.declared.orders.Order.TheVariants as An
-use Rattle.sc_cmd.specs.declared.orders.OrderLine.{OrderLine}
-use Rattle.sc_cmd.specs.declared.orders.OrderRefusal.{OrderRefusal}
-use Rattle.sc_cmd.specs.declared.orders.ToldResult.TheVariants.{Refused}
-use Rattle.sc_mail.specs.declared.bodies.MailBody.TheVariants.{Told}
-use Rattle.sc_node_table.specs.Ordering.{ordered_command, ordered_row, taken_or_told, untaken}
-use Rattle.sc_node_table.specs.Pump.{pumped}
-use Rattle.sc_node_table.specs.Queues.{with_call}
-use Rattle.sc_node_table.specs.Replica.{ReplicaState, listed}
-use Rattle.sc_calm_orders_law.specs.Scenes.{Work, Changes, Opens}
-use Rattle.sc_calm_orders_law.specs.Stages.{IsOrder}
-use Rattle.sc_calm_orders_law.specs.Parts.{work_by, works_in, works_flying, works_ready, works}
-use Rattle.sc_calm_orders_law.specs.Tables.{Works, MayFile}
-use Rattle.sc_calm_orders_law.specs.Running.{TablesOrder}
+use Rattle.sc_node_table.specs.Definitions.{ordered_command, ordered_row, taken_or_told, untaken, pumped, with_call, ReplicaState, listed}
+use Rattle.sc_calm_orders_law.specs.Definitions.{Work, Changes, Opens, IsOrder, work_by, works_in, works_flying, works_ready, works, Works, MayFile, TablesOrder}
 use Rattle.sc_calm_orders_law.proofs.Errands.{errands-none}
 use Rattle.sc_calm_orders_law.proofs.Filing.{left_none, right_none, works_more}
 use Rattle.sc_calm_orders_law.proofs.Pumps.{pumps-keep}
@@ -69,5 +56,6 @@ unfolding ordered_row
 order_refused drawer line why r e = subst (λ o. Works (works r) [] r (taken_or_told o line.number (ordered_command (next_name drawer) line.number line.order) (r, []))) (sym e)
     (record { group = refl; me = refl; running = refl; work = refl; sends = (tt, λ name none. errands-none name r.me 0 (Told line.number (Refused why)) [] refl) })
 
+-- An order that a leader takes is its work; one that it refuses changes nothing.
 pub tables-order : TablesOrder
 tables-order = record { taken = order_taken; refused = order_refused }

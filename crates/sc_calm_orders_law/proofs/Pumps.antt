@@ -3,24 +3,12 @@ use Rattle.std.proofs.Common.{◌≡◌, ℕ, ◌+◌, ◌≤◌, ◌&&◌, Bool
 use Rattle.std.specs.Prelude.{is_some, nat_le}
 use Rattle.std.specs.List.{list_any}
 use Rattle.std.proofs.lemmas.List.{append_assoc}
-use Rattle.sc_base.specs.Limits.{client_actor}
-use Rattle.sc_base.specs.declared.names.Draw.{Draw}
-use Rattle.sc_cmd.specs.declared.commands.Command.{Command}
-use Rattle.sc_cmd.specs.declared.commands.Command.TheVariants.{Noop, Call, Join, Leave, Split, Begin, Prepared, RecordVote, GiveUp, Finish, Watched, RecordWatch}
-use Rattle.sc_cmd.specs.declared.cores.Core.{Core}
-use Rattle.sc_mail.specs.declared.bodies.AnswerBody.{AnswerBody}
-use Rattle.sc_mail.specs.declared.bodies.Mail.{Mail}
-use Rattle.sc_mail.specs.declared.bodies.MailBody.TheVariants.{Accept, Answer}
-use Rattle.sc_paxos_words.specs.declared.answers.Must.{Must}
+use Rattle.sc_base.specs.Definitions.{client_actor}
+use Rattle.sc_node_table.specs.Values.{Draw, Command, Noop, Call, Join, Leave, Split, Begin, Prepared, RecordVote, GiveUp, Finish, Watched, RecordWatch, Core, AnswerBody, Mail, Accept, Answer, Must, Flight}
 use Rattle.sc_paxos_words.specs.declared.answers.Must.TheVariants.{Free as Open}
-use Rattle.sc_paxos_words.specs.declared.flights.Flight.{Flight}
-use Rattle.sc_paxos_words.specs.Leaders.{must}
-use Rattle.sc_node_table.specs.Mails.{answered}
-use Rattle.sc_node_table.specs.Pump.{Found, is_act, waits, turned_down, next_call, from_calls, from_acts, from_queues, found_by, found_for, offered, pumped_from, pumped}
-use Rattle.sc_node_table.specs.Replica.{ReplicaState, Place, name_of, next, settled, may_offer, taken_at, under_way, is_idle, last_slot, listed}
-use Rattle.sc_calm_orders_law.specs.Scenes.{Work}
-use Rattle.sc_calm_orders_law.specs.Parts.{work_by, works_in, works_flying, works_ready, works, errands_for}
-use Rattle.sc_calm_orders_law.specs.Tables.{IsUnbound, PumpsKeepWork}
+use Rattle.sc_paxos_words.specs.Definitions.{must}
+use Rattle.sc_node_table.specs.Definitions.{answered, Found, is_act, waits, turned_down, next_call, from_calls, from_acts, from_queues, found_by, found_for, offered, pumped_from, pumped, ReplicaState, Place, name_of, next, settled, may_offer, taken_at, under_way, is_idle, last_slot, listed}
+use Rattle.sc_calm_orders_law.specs.Definitions.{Work, work_by, works_in, works_flying, works_ready, works, errands_for, IsUnbound, PumpsKeepWork}
 use Rattle.sc_calm_orders_law.proofs.Lists.{single}
 use Rattle.sc_calm_orders_law.proofs.Errands.{errands-none, errands-all}
 
@@ -208,5 +196,6 @@ module _ (r0 : ReplicaState) (mails0 : List Mail) (o : Option Work) where
       by true p = p
       by false p = start
 
+-- A pump leaves the one work of an order that a leader has where it is: it waits, is in flight or is ready; and it sends no mail of a transaction.
 pub pumps-keep : PumpsKeepWork
 pumps-keep o r unbound e = (let p = pump-stays r [] o unbound e in record { group = p.0.group; me = p.0.me; running = p.0.running; work = p.1; sends = (tt, λ name none. p.0.errands name) })

@@ -1,19 +1,11 @@
 -- Rows that take a mail of a transaction: a question is sent on, or asked again elsewhere, and a leader takes a question, a vote or an outcome.
 use Rattle.std.proofs.Common.{◌≡◌, ℕ, Bool, List, [], ◌∷◌, ◌++◌, Option, Some, None, inl, inr, refl, sym, ◌∙◌, ap, subst}
-use Rattle.sc_base.specs.Among.{Among}
-use Rattle.sc_base.specs.declared.names.Draw.{Draw}
-use Rattle.sc_calm_orders_law.specs.Scenes.{is_watch, Unbound, Asking, Errand, Question, Elsewhere, Reply, Result, Work, Answers, Records, Ends, Here, Scene}
-use Rattle.sc_calm_orders_law.specs.Stages.{Deal, Leg, Mailed, Filed, Party, Stage, Still, Ordered, Asks, SentOn, Weighs, Replied, Recorded, Closes, ClosesBoth, coordinator, asked_one, heard_lead, bound_by, closing, party_of, parties_of, leads_of, IsAt}
-use Rattle.sc_calm_orders_law.specs.Rows.{IsRow, PassesOn, AsksOn, Files, work_for}
-use Rattle.sc_calm_orders_law.specs.Follows.{filed_there, Passes, AsksAgain, LastTakes, OneTakes, TwoTakes, IsTaken, OfQuestion, OfVote, OfOutcome, Comes, StepsBy}
+use Rattle.sc_base.specs.Definitions.{Among}
+use Rattle.sc_node_table.specs.Values.{Draw}
+use Rattle.sc_calm_orders_law.specs.Definitions.{is_watch, Unbound, Asking, Errand, Question, Elsewhere, Reply, Result, Work, Answers, Records, Ends, Here, Scene, Deal, Leg, Mailed, Filed, Party, Stage, Still, Ordered, Asks, SentOn, Weighs, Replied, Recorded, Closes, ClosesBoth, coordinator, asked_one, heard_lead, bound_by, closing, party_of, parties_of, leads_of, IsAt, IsRow, PassesOn, AsksOn, Files, work_for, filed_there, Passes, AsksAgain, LastTakes, OneTakes, TwoTakes, IsTaken, OfQuestion, OfVote, OfOutcome, Comes, StepsBy}
 use Rattle.sc_calm_orders_law.proofs.Lists.{AreOne, having, here-is, tokens, found}
 use Rattle.sc_calm_orders_law.proofs.Moves.{errands_of, other-mailed, other-same, own-taken, taken-there, lead-stays, leads-stay, deal-goes, no-errand, closing-errand}
-
-first : {X : Type 0} {a b : Draw × X} → a ≡ b → a.0 ≡ b.0
-first e = ap (λ p. p.0) e
-
-second : {X : Type 0} {a b : Draw × X} → a ≡ b → a.1 ≡ b.1
-second e = ap (λ p. p.1) e
+use Rattle.sc_calm_orders_law.proofs.Begun.{first, second}
 
 -- what two rows that take an errand share: the parties are those of the deal, at the group that is asked or at the coordinator
 module _ (now after : Scene) (group : Draw) (taken : Option Errand) (sent : Draw → List Errand) (row : IsRow now after group taken sent)

@@ -1,39 +1,17 @@
 -- What a coordinator's records of votes leave, and what an outcome leaves at a party.
 use Rattle.std.proofs.Common.{◌≡◌, ℕ, Bool, true, false, cond, List, [], ◌∷◌, ◌++◌, Option, Some, None, refl, sym, ◌∙◌, ap, subst}
-use Rattle.sc_base.specs.Same.{same_draw}
-use Rattle.sc_base.specs.declared.names.Draw.{Draw}
-use Rattle.sc_base.proofs.NameLemmas.{same_name}
-use Rattle.sc_cmd.specs.Effects.{is_changed, decided_in}
-use Rattle.sc_cmd.specs.declared.bodies.Body.{Body}
+use Rattle.sc_base.specs.Definitions.{same_draw, least_of}
+use Rattle.sc_node_table.specs.Values.{Draw, Body, Watch, RecordVote, Finish, RecordWatch, Core, Lock, Free, Coordinating, Promised, Watching, Effect, Frozen, Heard, No, Outcome, Vote, TxOutcome}
+use Rattle.sc_base.proofs.Lemmas.{same_name}
+use Rattle.sc_cmd.specs.Definitions.{is_changed, decided_in}
 use Rattle.sc_cmd.specs.declared.bodies.Body.TheVariants as At
-use Rattle.sc_cmd.specs.declared.bodies.Watch.{Watch}
-use Rattle.sc_cmd.specs.declared.commands.Command.TheVariants.{RecordVote, Finish, RecordWatch}
-use Rattle.sc_cmd.specs.declared.cores.Core.{Core}
-use Rattle.sc_cmd.specs.declared.cores.Lock.{Lock}
-use Rattle.sc_cmd.specs.declared.cores.Lock.TheVariants.{Free, Coordinating, Promised, Watching}
-use Rattle.sc_cmd.specs.declared.effects.Effect.{Effect}
 use Rattle.sc_cmd.specs.declared.effects.Effect.TheVariants as Was
-use Rattle.sc_cmd.specs.declared.votes.Frozen.{Frozen}
-use Rattle.sc_cmd.specs.declared.votes.Heard.{Heard}
-use Rattle.sc_cmd.specs.declared.votes.No.{No}
-use Rattle.sc_cmd.specs.declared.votes.Outcome.{Outcome}
 use Rattle.sc_cmd.specs.declared.votes.Past.TheVariants as Cast
-use Rattle.sc_cmd.specs.declared.votes.Vote.{Vote}
 use Rattle.sc_cmd.specs.declared.votes.Vote.TheVariants as Says
-use Rattle.sc_mail.specs.declared.bodies.MailBody.TheVariants.{TxOutcome}
-use Rattle.sc_machine_table.specs.Finishes.{participant_after, settled_in, watch_ended, finished}
-use Rattle.sc_machine_table.specs.Group.{Group}
-use Rattle.sc_machine_table.specs.Plans.{Plan, closing_plan, repart_plan, migrate_plan, merge_plan, split_plan}
-use Rattle.sc_machine_table.specs.Transactions.{committed, heard_group, participant_answered, granted, vote_recorded, watch_recorded, released, asks_watcher}
-use Rattle.sc_base.specs.Roster.{least_of}
-use Rattle.sc_node_table.specs.Mails.{sent}
-use Rattle.sc_node_table.specs.Questions.{asked_link}
-use Rattle.sc_node_table.specs.Spoken.{before_in, released_to, went_on}
+use Rattle.sc_machine_table.specs.Definitions.{participant_after, settled_in, watch_ended, finished, Group, Plan, closing_plan, repart_plan, migrate_plan, merge_plan, split_plan, committed, heard_group, participant_answered, granted, vote_recorded, watch_recorded, released, asks_watcher}
+use Rattle.sc_node_table.specs.Definitions.{sent, asked_link, before_in, released_to, went_on}
 use Rattle.sc_node_table.specs.declared.Before.{Before}
-use Rattle.sc_calm_orders_law.specs.Scenes.{Turn, First, Lone, Next, is_watch, Unbound, Asking, Bound, Errand, Question, Result, IsOnly}
-use Rattle.sc_calm_orders_law.specs.Rows.{results}
-use Rattle.sc_calm_orders_law.specs.Parts.{turn_of, bond_in, errand_for, errands_for}
-use Rattle.sc_calm_orders_law.specs.Entries.{Leaves, RecordsLeave, WatchRecordsLeave, EndsLeave}
+use Rattle.sc_calm_orders_law.specs.Definitions.{Turn, First, Lone, Next, is_watch, Unbound, Asking, Bound, Errand, Question, Result, IsOnly, results, turn_of, bond_in, errand_for, errands_for, Leaves, RecordsLeave, WatchRecordsLeave, EndsLeave}
 use Rattle.sc_calm_orders_law.proofs.Errands.{one-errand, errand-own, errand-other}
 use Rattle.sc_calm_orders_law.proofs.Entries.{nothing, committed_leaves, aborted_leaves, heard_leaves}
 use Rattle.sc_calm_orders_law.proofs.Filing.{watch_is}
@@ -125,6 +103,7 @@ module _ (me : ℕ) (group : Group) (tx asked : Draw) (by : ℕ) where
       subst (Leaves (Asking tx frozen.succ.group (Next asked by)) ((frozen.succ.group, Question tx core.id true me (least_of frozen.succ.members) ∷ []) ∷ []) (RecordVote tx (Says.Yes frozen) by) me (before_in (Coordinating locked body order heard) core)) (sym is)
       (hearing_leaves frozen (before_in (Coordinating locked body order heard) core) o o order body (subst (λ (x : Group × Effect). is_changed x.1 ≡ true) is d)))
 
+-- A coordinator that records its participant's No is free, and sends nothing; by a Yes it decides and sends the outcome to the node that brought it, or it has heard it, and asks the watcher.
 pub records-leave : RecordsLeave
 records-leave = record {
   no = λ tx asked why by me group b. no_by me group tx asked by why group.core.lock b;
@@ -188,6 +167,7 @@ module _ (me : ℕ) (group : Group) (tx : Draw) (by : ℕ) (outcome : Outcome) w
       subst (Leaves Unbound (results tx asked turn by) (RecordWatch tx Cast.Yes by) me (before_in (Coordinating locked body order heard) group.core)) (sym is)
       (released_leaves asked turn order body heard t g lone third w locked (subst (λ (x : Group × Effect). decided_in x.1 ≡ Some outcome) is d)))
 
+-- One that records its watcher's Yes decides, and sends the outcome to the participant that it heard and to the watcher.
 pub watch-records-leave : WatchRecordsLeave
 watch-records-leave tx asked turn outcome by me group b w lone third d = watch_by me group tx by outcome asked turn group.core.lock b w lone third d
 
@@ -216,5 +196,6 @@ module _ (me : ℕ) (group : Group) (tx : Draw) (outcome done : Outcome) where
       let is = ap (λ x. cond {A = Group × Effect} x (watch_ended outcome group tx watch) (group, Was.NoEffect tx)) (same_name locked tx l) in
       subst (Leaves Unbound [] (Finish tx outcome) me (before_in (Watching locked watch) group.core)) (sym is) (watch_leaves (before_in (Watching locked watch) group.core) watch))
 
+-- A party that takes its outcome is free, and sends nothing.
 pub ends-leave : EndsLeave
 ends-leave tx outcome done me group b d = end_by me group tx outcome done group.core.lock b d

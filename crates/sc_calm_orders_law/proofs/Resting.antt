@@ -2,50 +2,18 @@
 use Rattle.std.proofs.Common.{◌≡◌, ℕ, ◌+◌, ◌-◌, ◌^◌, ◌&&◌, ◌||◌, not, length, append-nil, eqb, Bool, true, false, cond, List, [], ◌∷◌, ◌++◌, Option, Some, None, refl, sym, ◌∙◌, ap, subst}
 use Rattle.std.specs.Option.{option_map}
 use Rattle.std.specs.Prelude.{nat_lt, nat_le}
-use Rattle.sc_base.specs.Same.{same_ballot}
-use Rattle.sc_base.specs.declared.names.Ballot.{Ballot}
-use Rattle.sc_base.specs.declared.names.Draw.{Draw}
-use Rattle.sc_cmd.specs.declared.commands.Command.{Command}
-use Rattle.sc_cmd.specs.declared.commands.Command.TheVariants.{Noop}
-use Rattle.sc_cmd.specs.declared.cores.Base.{Base}
-use Rattle.sc_cmd.specs.declared.effects.Effect.{Effect}
-use Rattle.sc_cmd.specs.declared.links.Route.{Route}
-use Rattle.sc_cmd.specs.declared.orders.ToldResult.{ToldResult}
-use Rattle.sc_mail.specs.declared.bodies.AnswerBody.{AnswerBody}
+use Rattle.sc_base.specs.Definitions.{same_ballot, is_member, least_of}
+use Rattle.sc_node_table.specs.Values.{Ballot, Draw, Command, Noop, Base, Effect, Route, ToldResult, AnswerBody, Mail, Accept, Ask, Install, Learn, Nack, Prepare, Promise, AcceptAnswer, PrepareAnswer, Flight, Report}
 use Rattle.sc_mail.specs.declared.bodies.AnswerBody.TheVariants as Says
-use Rattle.sc_mail.specs.declared.bodies.Mail.{Mail}
-use Rattle.sc_mail.specs.declared.bodies.MailBody.TheVariants.{Accept, Ask, Install, Learn, Nack, Prepare, Promise}
-use Rattle.sc_machine_table.specs.Machine.{applied}
-use Rattle.sc_base.specs.Roster.{is_member, least_of}
-use Rattle.sc_node_table.specs.Election.{saw, ended, stopped, elected, open_nodes}
-use Rattle.sc_node_table.specs.Execute.{entered, announced, order_result, told_effect, learnt_to, welcomed, slot_lost, landed, left_gone, left, is_among, looked_for, looked, executed_one, executed_ready, executed}
-use Rattle.sc_node_table.specs.Install.{install_to, jumped}
-use Rattle.sc_node_table.specs.Mails.{sent, sent_all, answered_all, order_number}
-use Rattle.sc_node_table.specs.Pump.{pumped}
-use Rattle.sc_node_table.specs.Replica.{ReplicaState, Place, Executed, childless, name_of, next, members, flying, under_way, forgotten, last_slot, listed}
-use Rattle.sc_node_table.specs.Rows.{mailed, learn_row, looked_up, took_over, install_row}
-use Rattle.sc_node_table.specs.Slots.{without_slot}
-use Rattle.sc_node_table.specs.Spoken.{before_of, spoken, spoken_mails}
-use Rattle.sc_node_table.specs.Voting.{leads, promise_row, hinted, promise_to, promised, prepare_row, accepted_to, took, accept_row, nack_row}
-use Rattle.sc_paxos_words.specs.declared.answers.AcceptAnswer.{AcceptAnswer}
+use Rattle.sc_machine_table.specs.Definitions.{applied}
+use Rattle.sc_node_table.specs.Definitions.{saw, ended, stopped, elected, open_nodes, entered, announced, order_result, told_effect, learnt_to, welcomed, slot_lost, landed, left_gone, left, is_among, looked_for, looked, executed_one, executed_ready, executed, install_to, jumped, sent, sent_all, answered_all, order_number, pumped, ReplicaState, Place, Executed, childless, name_of, next, members, flying, under_way, forgotten, last_slot, listed, mailed, learn_row, looked_up, took_over, install_row, without_slot, before_of, spoken, spoken_mails, leads, promise_row, hinted, promise_to, promised, prepare_row, accepted_to, took, accept_row, nack_row}
 use Rattle.sc_paxos_words.specs.declared.answers.AcceptAnswer.TheVariants as Asked
 use Rattle.sc_paxos_words.specs.declared.answers.Must.TheVariants.{Free as Open}
-use Rattle.sc_paxos_words.specs.declared.answers.PrepareAnswer.{PrepareAnswer}
 use Rattle.sc_paxos_words.specs.declared.answers.PrepareAnswer.TheVariants as Prepared
-use Rattle.sc_paxos_words.specs.declared.flights.Flight.{Flight}
-use Rattle.sc_paxos_words.specs.declared.reports.Report.{Report}
-use Rattle.sc_paxos_words.specs.Accepting.{accepted as accepted_by}
-use Rattle.sc_paxos_words.specs.Acceptors.{AcceptorState}
-use Rattle.sc_paxos_words.specs.Ballots.{below}
-use Rattle.sc_paxos_words.specs.Choice.{chosen_value, names_above}
-use Rattle.sc_paxos_words.specs.Leaders.{LeaderState, must, must_without, flight_at, new_leader, without_flight, without_flight_at}
-use Rattle.sc_paxos_words.specs.Preparing.{prepared}
-use Rattle.sc_law_lemmas.proofs.Entries.{idle_pump}
-use Rattle.sc_law_lemmas.specs.Steps.{GoesOn}
-use Rattle.sc_calm_orders_law.specs.Scenes.{Work}
-use Rattle.sc_calm_orders_law.specs.Parts.{works_in, works_flying, works_ready, works, errands_for}
-use Rattle.sc_calm_orders_law.specs.Tables.{IsUnbound, Works}
-use Rattle.sc_calm_orders_law.specs.Running.{IsIdle, Rested, TablesRest, PromisesKeepWork}
+use Rattle.sc_paxos_words.specs.Definitions.{accepted as accepted_by, AcceptorState, below, chosen_value, names_above, LeaderState, must, must_without, flight_at, new_leader, without_flight, without_flight_at, prepared}
+use Rattle.sc_law_lemmas.proofs.Lemmas.{idle_pump}
+use Rattle.sc_law_lemmas.specs.Definitions.{GoesOn}
+use Rattle.sc_calm_orders_law.specs.Definitions.{Work, works_in, works_flying, works_ready, works, errands_for, IsUnbound, Works, IsIdle, Rested, TablesRest, PromisesKeepWork}
 use Rattle.sc_calm_orders_law.proofs.Errands.{errands-none, errands-all}
 use Rattle.sc_calm_orders_law.proofs.Pumps.{pump-stays, pumps-keep}
 use Rattle.sc_calm_orders_law.proofs.Runs.{order_none, begun_none, all_answered_none, all_dismissed_none}
@@ -365,9 +333,11 @@ module _ (from : ℕ) (ballot : Ballot) (o : Option Work) (r : ReplicaState) (un
       by true false = counted_keep r.leader refl refl
       by false c = record { group = refl; me = refl; running = refl; work = one; sends = (tt, λ name none. refl) }
 
+-- A promise that reports nothing leaves the one work of an order that a leader has where it is.
 pub promises-keep : PromisesKeepWork
 promises-keep from group ballot o r unbound one = promise_keeps from ballot o r unbound one group
 
+-- A replica that is asked to accept or to promise, and does not stop by it, keeps its work; and one that learns an entry, or takes over a state, and has no work has none after it, also where it is elected by it. Neither sends a mail of a transaction.
 pub tables-rest : TablesRest
 tables-rest = record {
   accept = λ from group ballot slot command r goes. accept_rests r from group ballot slot command goes;

@@ -1,37 +1,17 @@
 -- A leader executes an entry of an order that it counted, alone.
 use Rattle.std.proofs.Common.{◌≡◌, ℕ, ◌+◌, ◌≤◌, ◌-◌, ◌^◌, not, eqb, Bool, true, false, cond, List, [], ◌∷◌, ◌++◌, filter, Option, Some, None, refl, sym, ◌∙◌, ap, subst, arith}
 use Rattle.std.proofs.lemmas.Bool.{eq-eqb}
-use Rattle.sc_base.specs.Limits.{client_actor}
-use Rattle.sc_base.specs.declared.names.Draw.{Draw}
-use Rattle.sc_cmd.specs.declared.commands.Command.{Command}
-use Rattle.sc_cmd.specs.declared.commands.Command.TheVariants.{Noop, Call, Join, Leave, Split, Begin, Prepared, RecordVote, GiveUp, Finish, Watched, RecordWatch}
-use Rattle.sc_cmd.specs.declared.effects.Effect.{Effect}
-use Rattle.sc_cmd.specs.declared.links.Route.{Route}
-use Rattle.sc_cmd.specs.declared.orders.ToldResult.{ToldResult}
-use Rattle.sc_mail.specs.declared.bodies.AnswerBody.{AnswerBody}
+use Rattle.sc_base.specs.Definitions.{client_actor, is_member, least_of}
+use Rattle.sc_node_table.specs.Values.{Draw, Command, Noop, Call, Join, Leave, Split, Begin, Prepared, RecordVote, GiveUp, Finish, Watched, RecordWatch, Effect, Route, ToldResult, AnswerBody, Mail, MailBody, Answer, Prepare, Learn, Told}
 use Rattle.sc_mail.specs.declared.bodies.AnswerBody.TheVariants as Says
-use Rattle.sc_mail.specs.declared.bodies.Mail.{Mail}
-use Rattle.sc_mail.specs.declared.bodies.MailBody.{MailBody}
-use Rattle.sc_mail.specs.declared.bodies.MailBody.TheVariants.{Answer, Prepare, Learn, Told}
-use Rattle.sc_machine_table.specs.Group.{Group}
-use Rattle.sc_machine_table.specs.Machine.{applied}
-use Rattle.sc_base.specs.Roster.{is_member, least_of}
-use Rattle.sc_node_table.specs.Election.{elected, ended, stopped, open_nodes}
-use Rattle.sc_node_table.specs.Execute.{entered, answer_of, told_call, order_result, told_effect, announced, learnt_to, welcomed, slot_lost, landed, left_gone, left, is_among, looked_for, looked, executed_one, executed_ready, executed}
-use Rattle.sc_node_table.specs.Install.{install_to, asked_to_promise, welcomed_all}
-use Rattle.sc_node_table.specs.Mails.{sent, sent_all, sent_others, answered, answered_all, dismissed, dismissed_all, told_order, told_desk, order_number}
-use Rattle.sc_node_table.specs.Pump.{pumped}
-use Rattle.sc_node_table.specs.Replica.{ReplicaState, Place, Executed, childless, name_of, next, members, flying, under_way, forgotten}
-use Rattle.sc_node_table.specs.Slots.{without_slot}
-use Rattle.sc_node_table.specs.Spoken.{before_of, begun_result, told_result, told_begun, went_on, spoken_mails, spoken}
+use Rattle.sc_machine_table.specs.Definitions.{Group, applied}
+use Rattle.sc_node_table.specs.Definitions.{elected, ended, stopped, open_nodes, entered, answer_of, told_call, order_result, told_effect, announced, learnt_to, welcomed, slot_lost, landed, left_gone, left, is_among, looked_for, looked, executed_one, executed_ready, executed, install_to, asked_to_promise, welcomed_all, sent, sent_all, sent_others, answered, answered_all, dismissed, dismissed_all, told_order, told_desk, order_number, pumped, ReplicaState, Place, Executed, childless, name_of, next, members, flying, under_way, forgotten, without_slot, before_of, begun_result, told_result, told_begun, went_on, spoken_mails, spoken}
 use Rattle.sc_node_table.specs.declared.Before.{Before}
 use Rattle.sc_paxos_words.specs.declared.answers.Must.TheVariants.{Free as Open}
-use Rattle.sc_paxos_words.specs.Leaders.{must, new_leader, without_flight, without_flight_at}
-use Rattle.sc_policy.specs.Wishes.{is_told}
-use Rattle.sc_law_lemmas.proofs.Entries.{entered_next}
-use Rattle.sc_calm_orders_law.specs.Scenes.{Work}
-use Rattle.sc_calm_orders_law.specs.Parts.{work_by, works_in, works_flying, works_ready, errand_by, errands_for}
-use Rattle.sc_calm_orders_law.specs.Running.{IsLone, RunsAlone, EntriesRunAlone}
+use Rattle.sc_paxos_words.specs.Definitions.{must, new_leader, without_flight, without_flight_at}
+use Rattle.sc_policy.specs.Definitions.{is_told}
+use Rattle.sc_law_lemmas.proofs.Lemmas.{entered_next}
+use Rattle.sc_calm_orders_law.specs.Definitions.{Work, work_by, works_in, works_flying, works_ready, errand_by, errands_for, IsLone, RunsAlone, EntriesRunAlone}
 use Rattle.sc_calm_orders_law.proofs.Adds.{went-adds}
 use Rattle.sc_calm_orders_law.proofs.Errands.{errands-none, errands-all}
 use Rattle.sc_calm_orders_law.proofs.Pumps.{pump-stays}
@@ -378,5 +358,6 @@ module _ (command : Command) (work : Work) (r : ReplicaState) (lone : IsLone com
         leads = λ stands member. p.0.running ∙ d.1 stands member;
       }))
 
+-- A leader that executes an entry of an order, alone, has no work then, and sends the errands by which the transaction goes on, and no others.
 pub entries-run-alone : EntriesRunAlone
 entries-run-alone command work r lone is = runs-alone command work r lone is

@@ -1,11 +1,8 @@
 -- A row that does nothing of an order, and one that takes an order where none is under way.
 use Rattle.std.proofs.Common.{◌≡◌, List, [], ◌∷◌, ◌++◌, inl, inr, refl, sym, ◌∙◌, ap, append-nil}
-use Rattle.sc_base.specs.Among.{Each}
-use Rattle.sc_base.specs.declared.names.Draw.{Draw}
-use Rattle.sc_calm_orders_law.specs.Scenes.{Unbound, Here, free}
-use Rattle.sc_calm_orders_law.specs.Stages.{Ordered, parties_of, leads_of}
-use Rattle.sc_calm_orders_law.specs.Rows.{Rests, IsTold}
-use Rattle.sc_calm_orders_law.specs.Follows.{Stays, Begins, StepsBy, BeginsBy}
+use Rattle.sc_base.specs.Definitions.{Each}
+use Rattle.sc_node_table.specs.Values.{Draw}
+use Rattle.sc_calm_orders_law.specs.Definitions.{Unbound, Here, free, Ordered, parties_of, leads_of, Rests, IsTold, Stays, Begins, StepsBy, BeginsBy}
 use Rattle.sc_calm_orders_law.proofs.Lists.{cases-draw, having, here-is}
 use Rattle.sc_calm_orders_law.proofs.Moves.{other-same, own-idle, leads-stay}
 

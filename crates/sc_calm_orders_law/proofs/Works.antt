@@ -1,10 +1,8 @@
 -- At which stages a group has a work.
 use Rattle.std.proofs.Common.{◌≡◌, ℕ, Bool, List, [], ◌∷◌, ◌++◌, Option, inl, inr, refl, sym, ◌∙◌, ap, subst}
-use Rattle.sc_base.specs.Among.{Among}
-use Rattle.sc_base.specs.declared.names.Draw.{Draw}
-use Rattle.sc_calm_orders_law.specs.Scenes.{is_watch, Bond, Errand, Work, Answers, Records, Ends, Here, Scene}
-use Rattle.sc_calm_orders_law.specs.Stages.{Deal, Filed, Party, Stage, Still, Ordered, Asks, SentOn, Weighs, Replied, Recorded, Closes, ClosesBoth, party_of, parties_of, IsAt}
-use Rattle.sc_calm_orders_law.specs.Rows.{IsRow, Executes}
+use Rattle.sc_base.specs.Definitions.{Among}
+use Rattle.sc_node_table.specs.Values.{Draw}
+use Rattle.sc_calm_orders_law.specs.Definitions.{is_watch, Bond, Errand, Work, Answers, Records, Ends, Here, Scene, Deal, Filed, Party, Stage, Still, Ordered, Asks, SentOn, Weighs, Replied, Recorded, Closes, ClosesBoth, party_of, parties_of, IsAt, IsRow, Executes}
 use Rattle.sc_calm_orders_law.proofs.Lists.{AreOne, having, here-is, tokens, found}
 use Rattle.sc_calm_orders_law.proofs.Moves.{work_of, own-idle, no-work, closing-work}
 

@@ -1,6 +1,6 @@
 -- Which stage of an order follows which, by a row of a group, and by which kind of row.
 use Rattle.std.specs.Prelude.{◌≡◌, ℕ, Bool, true, List, ◌⊎◌, Option}
-use Rattle.sc_base.specs.declared.names.Draw.{Draw}
+use Rattle.sc_node_table.specs.Values.{Draw}
 use Rattle.sc_calm_orders_law.specs.Scenes.{Turn, First, Lone, Next, Errand, Work, Opens, Scene}
 use Rattle.sc_calm_orders_law.specs.Stages.{Deal, Mailed, Filed, Party, Stage, Still, Ordered, Asks, SentOn, Weighs, Replied, Recorded, Closes, ClosesBoth, IsAt}
 use Rattle.sc_calm_orders_law.specs.Rows.{IsRow, Kind, Rests, IsTold, PassesOn, AsksOn, Files, Changed, Opened, Voted, Aborted, Decided, Heard, Ended}

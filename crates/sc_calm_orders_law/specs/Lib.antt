@@ -6,3 +6,4 @@ pub mod Stages
 pub mod Tables
 pub mod Entries
 pub mod Running
+pub mod Definitions

@@ -1,22 +1,10 @@
 -- What a leader's table does by an entry of an order that it counted, alone; and with an order that it is told.
 use Rattle.std.specs.Prelude.{◌≡◌, ℕ, true, false, [], ◌∷◌, List, Option, Some, None, ◌⊎◌}
-use Rattle.sc_base.specs.Drawing.{Drawer, next_name}
-use Rattle.sc_base.specs.declared.names.Ballot.{Ballot}
-use Rattle.sc_base.specs.declared.names.Draw.{Draw}
-use Rattle.sc_cmd.specs.declared.commands.Command.{Command}
-use Rattle.sc_cmd.specs.declared.cores.Base.{Base}
-use Rattle.sc_cmd.specs.declared.orders.OrderLine.{OrderLine}
-use Rattle.sc_cmd.specs.declared.orders.OrderRefusal.{OrderRefusal}
-use Rattle.sc_law_lemmas.specs.Steps.{GoesOn}
-use Rattle.sc_machine_table.specs.Machine.{applied}
-use Rattle.sc_mail.specs.declared.bodies.MailBody.TheVariants.{Accept, Accepted, Install, Learn, Nack, Prepare, Promise}
-use Rattle.sc_base.specs.Roster.{is_member}
-use Rattle.sc_node_table.specs.Execute.{executed}
-use Rattle.sc_node_table.specs.Ordering.{ordered_command, ordered_row, untaken}
-use Rattle.sc_node_table.specs.Replica.{ReplicaState, Place, next, listed}
-use Rattle.sc_node_table.specs.Rows.{mailed}
-use Rattle.sc_node_table.specs.Spoken.{before_of, went_on}
-use Rattle.sc_paxos_words.specs.declared.flights.Flight.{Flight}
+use Rattle.sc_base.specs.Definitions.{Drawer, next_name, is_member}
+use Rattle.sc_node_table.specs.Values.{Ballot, Draw, Command, Base, OrderLine, OrderRefusal, Accept, Accepted, Install, Learn, Nack, Prepare, Promise, Flight}
+use Rattle.sc_law_lemmas.specs.Definitions.{GoesOn}
+use Rattle.sc_machine_table.specs.Definitions.{applied}
+use Rattle.sc_node_table.specs.Definitions.{executed, ordered_command, ordered_row, untaken, ReplicaState, Place, next, listed, mailed, before_of, went_on}
 use Rattle.sc_calm_orders_law.specs.Scenes.{Work, IsOnly}
 use Rattle.sc_calm_orders_law.specs.Parts.{work_by, works_in, works, errands_for}
 use Rattle.sc_calm_orders_law.specs.Stages.{IsOrder}

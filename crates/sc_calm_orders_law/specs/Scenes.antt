@@ -1,7 +1,7 @@
 -- What an order has to do with groups: what each is bound by, what of the order stands at its leader, and what mail of a transaction is under way for it.
 use Rattle.std.specs.Prelude.{◌≡◌, ℕ, Bool, true, false, List, [], ◌∷◌, Option}
-use Rattle.sc_base.specs.Among.{Each}
-use Rattle.sc_base.specs.declared.names.Draw.{Draw}
+use Rattle.sc_base.specs.Definitions.{Each}
+use Rattle.sc_node_table.specs.Values.{Draw}
 
 -- Whom a coordinator asks: its participant first, the watcher of its split alone, or the watcher of its merge next, after the participant, of which this node said Yes.
 pub data Turn : Type 0 where

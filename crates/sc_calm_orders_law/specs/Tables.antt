@@ -1,19 +1,9 @@
 -- That a replica's table takes the mail of an order as the rows of it say.
 use Rattle.std.specs.Prelude.{◌≡◌, ℕ, ◌≤◌, true, false, List, [], ◌∷◌, Option, Some, None}
-use Rattle.sc_base.specs.declared.names.Draw.{Draw}
-use Rattle.sc_cmd.specs.declared.bodies.Offer.{Offer}
-use Rattle.sc_cmd.specs.declared.bodies.Watch.{Watch}
-use Rattle.sc_cmd.specs.declared.votes.Outcome.{Outcome}
-use Rattle.sc_cmd.specs.declared.votes.Past.{Past}
-use Rattle.sc_cmd.specs.declared.votes.Vote.{Vote}
-use Rattle.sc_mail.specs.declared.bodies.MailBody.TheVariants.{TxPrepare, TxVote, TxOutcome, TxElsewhere, TxWatch, TxWatched}
-use Rattle.sc_node_table.specs.Node.{absent}
-use Rattle.sc_node_table.specs.Pump.{pumped}
-use Rattle.sc_node_table.specs.Replica.{ReplicaState, Place, name_of, next, settled, listed}
-use Rattle.sc_node_table.specs.Rows.{mailed}
-use Rattle.sc_node_table.specs.Transactions.{standing_vote, noted_outcome}
+use Rattle.sc_node_table.specs.Values.{Draw, Offer, Watch, Outcome, Past, Vote, TxPrepare, TxVote, TxOutcome, TxElsewhere, TxWatch, TxWatched}
+use Rattle.sc_node_table.specs.Definitions.{absent, pumped, ReplicaState, Place, name_of, next, settled, listed, mailed, standing_vote, noted_outcome}
 use Rattle.sc_paxos_words.specs.declared.answers.Must.TheVariants.{Free as Open}
-use Rattle.sc_paxos_words.specs.Leaders.{must}
+use Rattle.sc_paxos_words.specs.Definitions.{must}
 use Rattle.sc_calm_orders_law.specs.Scenes.{Turn, is_watch, Asking, Bound, Errand, Question, Elsewhere, Work, Answers, Records, Ends, IsOnly}
 use Rattle.sc_calm_orders_law.specs.Parts.{bond_of, is_yes, is_cast_yes, works, errands_for}
 

@@ -1,42 +1,15 @@
 -- A replica that does not run stays where it is by mail that is no part of the agreement, and sends nothing of its group.
 use Rattle.std.proofs.Common.{◌≡◌, ℕ, suc, ◌&&◌, nat_le, Bool, true, false, cond, List, [], ◌∷◌, ◌++◌, Option, Some, None, refl, sym, ap, subst, arith}
-use Rattle.sc_base.specs.Drawing.{Drawer, next_name}
-use Rattle.sc_base.specs.Limits.{client_actor}
-use Rattle.sc_base.specs.declared.names.Ballot.{Ballot}
-use Rattle.sc_base.specs.declared.names.Draw.{Draw}
-use Rattle.sc_base.specs.declared.ops.Op.{Op}
-use Rattle.sc_cmd.specs.declared.bodies.Offer.{Offer}
-use Rattle.sc_cmd.specs.declared.bodies.Watch.{Watch}
-use Rattle.sc_cmd.specs.declared.commands.Command.{Command}
-use Rattle.sc_cmd.specs.declared.commands.Command.TheVariants.{Call, Prepared as PreparedAct, RecordVote, Finish, Watched, RecordWatch}
-use Rattle.sc_cmd.specs.declared.orders.OrderLine.{OrderLine}
-use Rattle.sc_cmd.specs.declared.orders.OrderRefusal.{OrderRefusal}
-use Rattle.sc_cmd.specs.declared.orders.ToldResult.TheVariants.{Refused}
-use Rattle.sc_cmd.specs.declared.votes.Outcome.{Outcome}
-use Rattle.sc_cmd.specs.declared.votes.Past.{Past}
+use Rattle.sc_base.specs.Definitions.{Drawer, next_name, client_actor}
+use Rattle.sc_node_table.specs.Values.{Ballot, Draw, Op, Offer, Watch, Command, Call, Prepared as PreparedAct, RecordVote, Finish, Watched, RecordWatch, OrderLine, OrderRefusal, Refused, Outcome, Past, Vote, AnswerBody, Mail, MailBody, Request, Answer, Prepare, Promise, Accept, Accepted, Nack, Learn, Ask, Install, TxPrepare, TxVote, TxOutcome, TxElsewhere, TxWatch, TxWatched, Told}
 use Rattle.sc_cmd.specs.declared.votes.Past.TheVariants as Cast
-use Rattle.sc_cmd.specs.declared.votes.Vote.{Vote}
 use Rattle.sc_cmd.specs.declared.votes.Vote.TheVariants as Vows
-use Rattle.sc_mail.specs.declared.bodies.AnswerBody.{AnswerBody}
-use Rattle.sc_mail.specs.declared.bodies.Mail.{Mail}
-use Rattle.sc_mail.specs.declared.bodies.MailBody.{MailBody}
-use Rattle.sc_mail.specs.declared.bodies.MailBody.TheVariants.{Request, Answer, Prepare, Promise, Accept, Accepted, Nack, Learn, Ask, Install, TxPrepare, TxVote, TxOutcome, TxElsewhere, TxWatch, TxWatched, Told}
-use Rattle.sc_paxos_words.specs.Ballots.{below}
-use Rattle.sc_node_table.specs.Acts.{has_act, with_act, act_queued}
-use Rattle.sc_node_table.specs.Election.{stopped, saw}
-use Rattle.sc_node_table.specs.Mails.{sent}
-use Rattle.sc_node_table.specs.Ordering.{ordered_command, untaken, taken_or_told, ordered_row}
-use Rattle.sc_node_table.specs.Pump.{pumped}
-use Rattle.sc_node_table.specs.Queues.{call_of, without_call}
-use Rattle.sc_node_table.specs.Replica.{ReplicaState, Place, name_of, next, settled}
-use Rattle.sc_node_table.specs.Rows.{refused_at, queued, requested, request_row, mailed}
-use Rattle.sc_node_table.specs.Transactions.{asked_next, noted_outcome, standing_vote, sent_elsewhere, offered_by, offer_row, watched_by, watch_row, awaits_vote, awaits_watch, vote_queued, vote_met, vote_row, watch_queued, watch_met, watched_row, elsewhere_row, is_bound, outcome_row}
-use Rattle.sc_node_table.specs.Voting.{nack_row}
-use Rattle.sc_law_lemmas.specs.Steps.{GoesOn}
-use Rattle.sc_law_lemmas.proofs.Entries.{idle_pump}
-use Rattle.sc_law_lemmas.proofs.Ways.{either_way}
-use Rattle.sc_following_law.specs.Leading.{IsAside}
-use Rattle.sc_calm_rows_law.specs.Asides.{IsUnmoved, AsidesStayStill}
+use Rattle.sc_paxos_words.specs.Definitions.{below}
+use Rattle.sc_node_table.specs.Definitions.{has_act, with_act, act_queued, stopped, saw, sent, ordered_command, untaken, taken_or_told, ordered_row, pumped, call_of, without_call, ReplicaState, Place, name_of, next, settled, refused_at, queued, requested, request_row, mailed, asked_next, noted_outcome, standing_vote, sent_elsewhere, offered_by, offer_row, watched_by, watch_row, awaits_vote, awaits_watch, vote_queued, vote_met, vote_row, watch_queued, watch_met, watched_row, elsewhere_row, is_bound, outcome_row, nack_row}
+use Rattle.sc_law_lemmas.specs.Definitions.{GoesOn}
+use Rattle.sc_law_lemmas.proofs.Lemmas.{idle_pump, either_way}
+use Rattle.sc_following_law.specs.Definitions.{IsAside}
+use Rattle.sc_calm_rows_law.specs.Definitions.{IsUnmoved, AsidesStayStill}
 use Rattle.sc_calm_rows_law.proofs.Hearing.{quiet_marks}
 use Rattle.sc_calm_rows_law.proofs.Silent.{wide_mark, AreQuiet, one_sent, vote_told, watch_told, outcome_said, next_one_asked}
 
@@ -197,6 +170,7 @@ still r after name k = record { next_is = k.next_is; promise_is = k.promise_is; 
 begins : (r : ReplicaState) (other : Draw) → r.running ≡ false → Keeps r other (r, [])
 begins r other off = record { next_is = refl; promise_is = refl; off = off; hint_is = refl; quiet = tt }
 
+-- A replica that does not run stays where it is by mail that is no part of the agreement, and by an order, takes the same one for the leader, and sends nothing of its group.
 pub asides_still : AsidesStayStill
 asides_still = record {
   mailed = λ from body r off aside name. still r (mailed from body (r, [])).0 name (aside_keeps r (away name) from body aside (begins r (away name) off));

@@ -4,38 +4,21 @@ use Rattle.std.specs.List.{filter}
 use Rattle.std.specs.Option.{option_map}
 use Rattle.std.specs.Prelude.{is_some}
 use Rattle.std.proofs.lemmas.Bool.{cases_Bool, cases_eq, cond_both, cond-true, cond-false, eq-eqb, eqb-true, both_ways}
-use Rattle.sc_base.specs.Among.{Among}
-use Rattle.sc_base.specs.Same.{same_draw}
-use Rattle.sc_base.specs.declared.names.Draw.{Draw}
-use Rattle.sc_base.proofs.NameLemmas.{draw_is, same_name}
-use Rattle.sc_cmd.specs.declared.cores.Base.{Base}
-use Rattle.sc_base.specs.Roster.{IsRoster, is_member}
-use Rattle.sc_cmd.specs.declared.commands.Command.{Command}
-use Rattle.sc_paxos_words.specs.declared.flights.Flight.{Flight}
-use Rattle.sc_paxos_words.specs.Leaders.{flight_at}
-use Rattle.sc_paxos_words.specs.Votes.{kept_voters}
-use Rattle.sc_paxos_words.proofs.ListLemmas.{Each-among, Each-from_All}
-use Rattle.sc_node_table.specs.Node.{born_replicas, replica_of}
-use Rattle.sc_node_table.specs.Replica.{ReplicaState, next, first_ballot, born_replica}
-use Rattle.sc_node_table.specs.Slots.{slots_ahead, numbers_from, at_slot}
-use Rattle.sc_scenario.specs.Groups.{base_at, bases_up_to, group_at}
-use Rattle.sc_scenario.specs.Valid.{IsBounded, IsBoundedGroup, IsUpTo}
+use Rattle.sc_base.specs.Definitions.{Among, same_draw, IsRoster, is_member}
+use Rattle.sc_node_table.specs.Values.{Draw, Base, Command, Flight}
+use Rattle.sc_base.proofs.Lemmas.{draw_is, same_name}
+use Rattle.sc_paxos_words.specs.Definitions.{flight_at, kept_voters}
+use Rattle.sc_paxos_words.proofs.Lemmas.{Each-among, Each-from_All}
+use Rattle.sc_node_table.specs.Definitions.{born_replicas, replica_of, ReplicaState, next, first_ballot, born_replica, slots_ahead, numbers_from, at_slot}
+use Rattle.sc_scenario.specs.Definitions.{base_at, bases_up_to, group_at, IsBounded, IsBoundedGroup, IsUpTo}
 use Rattle.sc_scenario.specs.declared.drafts.GroupLine.{GroupLine}
 use Rattle.sc_scenario.specs.declared.scenarios.Asks.{Asks}
 use Rattle.sc_scenario.specs.declared.scenarios.Scenario.{Scenario}
-use Rattle.sc_sound.specs.Players.{node_seat, client_seat, client_seats, route_of, births, as_nodes}
-use Rattle.sc_calm_law.specs.Charts.{players}
-use Rattle.sc_following_law.specs.Counted.{IsLed}
-use Rattle.sc_following_law.specs.Following.{Mark, Sets, Course, Progress, IsFollowing}
-use Rattle.sc_following_law.specs.Rows.{begun}
-use Rattle.sc_following_law.specs.Leading.{voters_of, IsLeadOf}
-use Rattle.sc_following_law.specs.Offers.{AreAt}
-use Rattle.sc_following_law.proofs.InQuiet.{begins}
-use Rattle.sc_following_law.proofs.Keeps.{idle-keeps}
-use Rattle.sc_following_law.proofs.Leads.{least_in}
-use Rattle.sc_following_law.proofs.Marks.{among-either}
-use Rattle.sc_calm_rows_law.specs.Begun.{ScenariosBeginFollowing, ChildrenBeginFollowing}
-use Rattle.sc_calm_rows_law.specs.Groups.{replica_in, view_at, next_in, promise_in, progress_at, marks_at, begun_course, IsLedBy, IsCourseOf}
+use Rattle.sc_sound.specs.Definitions.{node_seat, client_seat, client_seats, route_of, births, as_nodes}
+use Rattle.sc_calm_law.specs.Definitions.{players}
+use Rattle.sc_following_law.specs.Definitions.{IsLed, Mark, Sets, Course, Progress, IsFollowing, begun, voters_of, IsLeadOf, AreAt}
+use Rattle.sc_following_law.proofs.Lemmas.{begins, idle-keeps, least_in, among-either}
+use Rattle.sc_calm_rows_law.specs.Definitions.{ScenariosBeginFollowing, ChildrenBeginFollowing, replica_in, view_at, next_in, promise_in, progress_at, marks_at, begun_course, IsLedBy, IsCourseOf}
 
 -- ---- the first member at its birth
 
@@ -80,7 +63,7 @@ born_leads at base now same roster first stands course executed promise =
 
 -- ---- the groups of a bounded scenario
 
-of_up_to : (lines : List GroupLine) (n : ℕ) (base : Base) → Among base (bases_up_to lines n) → (k : ℕ) × (k < n) × (base_at lines k ≡ base)
+pub of_up_to : (lines : List GroupLine) (n : ℕ) (base : Base) → Among base (bases_up_to lines n) → (k : ℕ) × (k < n) × (base_at lines k ≡ base)
 of_up_to lines zero base a = absurd a
 of_up_to lines (suc n) base a = elim (among-either base (bases_up_to lines n) (base_at lines n ∷ []) a) [
   | inl b ↦ (let r = of_up_to lines n base b in let low = r.1 in (r.0, omega (arith, low), r.2))
@@ -284,6 +267,7 @@ born_follows base now marks first nexts promises course none =
     (record { left = []; takes = refl; own = none 0; others = λ who ne. none who; next = λ who ne. nexts who; promise = λ who ne. promises who })
     (record { takes = refl; next = nexts 0; promise = promises 0; course = course; sends = λ who. refl }) (begins (λ slot. base.core.members) (first_ballot base.core) (λ slot low. refl) first)
 
+-- Each group of a scenario begins with a replica at each member's node and its first member leading, so each that decides an open slot follows it.
 pub scenarios_begin : ScenariosBeginFollowing
 scenarios_begin words scenario base bounded a = record {
   follows = born_follows base (progress_at (births as_nodes scenario) [] base (begun_course base)) (marks_at (players words (births as_nodes scenario)) [] base.core.id) (born_is scenario bounded base a).first
@@ -291,6 +275,7 @@ scenarios_begin words scenario base bounded a = record {
   given = course_is scenario bounded base a;
 }
 
+-- So does the child of a split, before any node has a replica of it: each of its members is where the child begins, as it will be once it has learnt of the split.
 pub children_begin : ChildrenBeginFollowing
 children_begin words seats rows base first unborn none = record {
   follows = born_follows base (progress_at seats rows base (begun_course base)) (marks_at (players words seats) rows base.core.id) first (λ who. ap (next_in base who) (unborn who)) (λ who. ap (promise_in base) (unborn who)) refl none;

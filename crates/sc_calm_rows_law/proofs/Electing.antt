@@ -1,46 +1,26 @@
 -- A node which elects itself leads its group, and the group follows it.
 use Rattle.std.proofs.Common.{◌≡◌, ℕ, suc, ◌+◌, true, false, List, [], length, Some, refl, sym, ◌∙◌, ap, subst, arith}
 use Rattle.std.specs.Option.{option_map}
-use Rattle.sc_base.specs.declared.names.Draw.{Draw}
-use Rattle.sc_cmd.specs.declared.commands.Command.{Command}
-use Rattle.sc_mail.specs.declared.bodies.MailBody.TheVariants.{Learn}
-use Rattle.sc_base.specs.Roster.{IsRoster, is_member, least_of}
-use Rattle.sc_actor.specs.declared.rows.Event.TheVariants.{Deliver}
-use Rattle.sc_hist_law.proofs.Logs.{applied_same}
-use Rattle.sc_paxos_words.specs.declared.flights.Flight.{Flight}
-use Rattle.sc_paxos_words.specs.Leaders.{LeaderState, flight_at}
-use Rattle.sc_node_table.specs.Execute.{entered}
-use Rattle.sc_node_table.specs.Node.{group_of_mail}
-use Rattle.sc_node_table.specs.Replica.{ReplicaState, Place, name_of, next, members, either, forgotten}
-use Rattle.sc_node_table.specs.Rows.{mailed}
-use Rattle.sc_node_table.specs.Slots.{at_slot}
-use Rattle.sc_machine_table.specs.Group.{Group}
-use Rattle.sc_following_law.specs.Counted.{IsLed}
-use Rattle.sc_following_law.specs.Following.{Tells, mark_of, Course, Progress, Sets, members_at}
-use Rattle.sc_following_law.specs.Leading.{IsLeadOf}
-use Rattle.sc_following_law.specs.Offers.{AreAt}
-use Rattle.sc_following_law.specs.Tables.{ElectsBy, next_ballot}
-use Rattle.sc_following_law.proofs.Elected.{tables_elect}
-use Rattle.sc_following_law.proofs.Leads.{least_in}
-use Rattle.sc_following_law.proofs.Nodes.{same_mark}
-use Rattle.sc_calm_rows_law.specs.Elections.{IsPast, IsNextLead, ElectionsKeepFollowing}
-use Rattle.sc_calm_rows_law.specs.Groups.{next_in, promise_in, progress_at}
-use Rattle.sc_calm_rows_law.specs.Steps.{elected_course}
-use Rattle.sc_calm_rows_law.specs.Turns.{with_event}
+use Rattle.sc_node_table.specs.Values.{Draw, Command, Learn, Deliver, Flight}
+use Rattle.sc_base.specs.Definitions.{IsRoster, is_member, least_of}
+use Rattle.sc_hist_law.proofs.Lemmas.{applied_same}
+use Rattle.sc_paxos_words.specs.Definitions.{LeaderState, flight_at}
+use Rattle.sc_node_table.specs.Definitions.{entered, group_of_mail, ReplicaState, Place, name_of, next, members, either, forgotten, mailed, at_slot}
+use Rattle.sc_machine_table.specs.Definitions.{Group}
+use Rattle.sc_following_law.specs.Definitions.{IsLed, Tells, mark_of, Course, Progress, Sets, members_at, IsLeadOf, AreAt, ElectsBy, next_ballot}
+use Rattle.sc_following_law.proofs.Lemmas.{tables_elect, least_in, same_mark}
+use Rattle.sc_calm_rows_law.specs.Definitions.{IsPast, IsNextLead, ElectionsKeepFollowing, next_in, promise_in, progress_at, elected_course, with_event}
 use Rattle.sc_calm_rows_law.proofs.Beginning.{none_some, none_flies}
 use Rattle.sc_calm_rows_law.proofs.Keeping.{rows_keep}
 use Rattle.sc_calm_rows_law.proofs.Learning.{told_entries}
 use Rattle.sc_calm_rows_law.proofs.Scenes.{named, row_to, fit, taken, apart_off}
 use Rattle.sc_calm_rows_law.proofs.Stepping.{steps_elect}
+pub use Rattle.sc_calm_law.proofs.OwedCounted.{entered_me}
 
 -- an entry leaves the group its name
 pub entered_name : (command : Command) (r : ReplicaState) → name_of (entered command r) ≡ name_of r
 unfolding entered forgotten
 entered_name command r = (applied_same r.group command).0
-
-pub entered_me : (command : Command) (r : ReplicaState) → (entered command r).me ≡ r.me
-unfolding entered forgotten
-entered_me command r = refl
 
 true_false : true ≡ false → ⊥
 true_false e = cc
@@ -86,6 +66,7 @@ elected_leads at two course slot command r after rosters lead bound running reac
       counted = λ node. ap (λ (c : Course). c.counted node) is ∙ sym (ap (λ ps. is_member ps node) promisers);
     }
 
+-- Where none leads, the one that is to lead next elects itself by the last entry that it is told, leads in the course after it, and the group follows it.
 pub elections_keep : ElectionsKeepFollowing
 elections_keep at words births rows seat number mail node base course r slot command scene takes has body lead =
     let name : Draw = base.core.id in

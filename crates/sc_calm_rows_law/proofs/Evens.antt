@@ -1,21 +1,16 @@
 -- A group that follows its leader is even in a quiet journal.
 use Rattle.std.proofs.Common.{◌≡◌, ℕ, true, false, List, [], inl, inr, ap, subst}
 use Rattle.std.proofs.lemmas.Bool.{cases_Bool}
-use Rattle.sc_cmd.specs.declared.cores.Base.{Base}
-use Rattle.sc_base.specs.Roster.{IsRoster}
-use Rattle.sc_actor.specs.declared.actors.Seat.{Seat}
-use Rattle.sc_actor.specs.Walk.{is_quiet}
-use Rattle.sc_orderly_law.specs.Orderly.{is_born}
-use Rattle.sc_orderly_law.specs.Timely.{AreInTime}
-use Rattle.sc_orderly_law.proofs.InTime.{in_time_tidy}
-use Rattle.sc_orderly_law.proofs.Resting.{quiet-empty}
-use Rattle.sc_sound.specs.Players.{Player}
-use Rattle.sc_calm_law.specs.Charts.{players}
-use Rattle.sc_calm_law.specs.Totals.{Rows}
-use Rattle.sc_following_law.specs.Following.{marks_of, Course, Sets, IsEven, IsEvenLed}
-use Rattle.sc_following_law.proofs.InQuiet.{quiet-even}
-use Rattle.sc_calm_rows_law.specs.Evens.{IsEvenAt, QuietGroupsRest}
-use Rattle.sc_calm_rows_law.specs.Groups.{progress_at, marks_at, IsLedBy, IsFollowedAt}
+use Rattle.sc_node_table.specs.Values.{Base, Seat}
+use Rattle.sc_base.specs.Definitions.{IsRoster}
+use Rattle.sc_actor.specs.Definitions.{is_quiet}
+use Rattle.sc_orderly_law.specs.Definitions.{is_born, AreInTime}
+use Rattle.sc_orderly_law.proofs.Lemmas.{in_time_tidy, quiet-empty}
+use Rattle.sc_sound.specs.Definitions.{Player}
+use Rattle.sc_calm_law.specs.Definitions.{players, Rows}
+use Rattle.sc_following_law.specs.Definitions.{marks_of, Course, Sets, IsEven, IsEvenLed}
+use Rattle.sc_following_law.proofs.Lemmas.{quiet-even}
+use Rattle.sc_calm_rows_law.specs.Definitions.{IsEvenAt, QuietGroupsRest, progress_at, marks_at, IsLedBy, IsFollowedAt}
 
 module _ (at : Sets) (words : ℕ → ℕ → ℕ × ℕ) (births : List (Seat Player)) (rows : Rows) (base : Base) (course : Course) (rosters : (slot : ℕ) → IsRoster (at slot)) (timely : AreInTime (players words births) rows)
     (quiet : is_quiet (players words births) rows ≡ true) (strangers : (who : ℕ) → is_born (players words births) who ≡ false → marks_at (players words births) rows base.core.id who ≡ []) (was : IsFollowedAt at words births rows base course) where
@@ -36,5 +31,6 @@ module _ (at : Sets) (words : ℕ → ℕ → ℕ × ℕ) (births : List (Seat P
     alone = λ node r e runs. (was.given.gives node r e runs).1;
   }
 
+-- In a quiet journal a group that follows its leader is even: its members have executed all, and if it stands, the replica at the node of its ballot leads, and no other runs.
 pub quiet_rests : QuietGroupsRest
 quiet_rests at words births rows base course rosters timely quiet strangers was = rests at words births rows base course rosters timely quiet strangers was

@@ -2,39 +2,17 @@
 use Rattle.std.proofs.Common.{◌≡◌, ℕ, ◌+◌, ◌-◌, ◌^◌, ◌&&◌, nat_le, eqb, Bool, true, cond, List, [], ◌∷◌, ◌++◌, Option, Some, None, refl, ◌∙◌}
 use Rattle.std.specs.Prelude.{is_some}
 use Rattle.std.specs.List.{list_any}
-use Rattle.sc_base.specs.declared.names.Ballot.{Ballot}
-use Rattle.sc_base.specs.declared.names.Draw.{Draw}
-use Rattle.sc_base.specs.Limits.{client_actor}
-use Rattle.sc_cmd.specs.declared.commands.Command.{Command}
-use Rattle.sc_cmd.specs.declared.commands.Command.TheVariants.{Noop, Call, Join, Leave, Split, Begin, Prepared, RecordVote, GiveUp, Finish, Watched, RecordWatch}
-use Rattle.sc_cmd.specs.declared.effects.Effect.{Effect}
-use Rattle.sc_cmd.specs.declared.links.Route.{Route}
-use Rattle.sc_cmd.specs.declared.orders.ToldResult.{ToldResult}
-use Rattle.sc_mail.specs.declared.bodies.AnswerBody.{AnswerBody}
+use Rattle.sc_node_table.specs.Values.{Ballot, Draw, Command, Noop, Call, Join, Leave, Split, Begin, Prepared, RecordVote, GiveUp, Finish, Watched, RecordWatch, Effect, Route, ToldResult, AnswerBody, Answer, Prepare, Accept, Learn, Install, Must, Gap}
+use Rattle.sc_base.specs.Definitions.{client_actor, is_member, least_of}
 use Rattle.sc_mail.specs.declared.bodies.AnswerBody.TheVariants as Says
-use Rattle.sc_mail.specs.declared.bodies.MailBody.TheVariants.{Answer, Prepare, Accept, Learn, Install}
-use Rattle.sc_base.specs.Roster.{is_member, least_of}
-use Rattle.sc_machine_table.specs.Group.{base_of}
-use Rattle.sc_machine_table.specs.Machine.{applied}
-use Rattle.sc_hist_law.proofs.Logs.{applied_same}
-use Rattle.sc_paxos_words.specs.declared.answers.Must.{Must}
-use Rattle.sc_paxos_words.specs.declared.answers.Must.TheVariants.{Value, Gap, Free as Open}
-use Rattle.sc_paxos_words.specs.Ballots.{below}
-use Rattle.sc_paxos_words.specs.Leaders.{must}
-use Rattle.sc_node_table.specs.Acts.{has_act, with_act, act_queued}
+use Rattle.sc_machine_table.specs.Definitions.{base_of, applied}
+use Rattle.sc_hist_law.proofs.Lemmas.{applied_same}
+use Rattle.sc_paxos_words.specs.declared.answers.Must.TheVariants.{Value, Free as Open}
+use Rattle.sc_paxos_words.specs.Definitions.{below, must}
+use Rattle.sc_node_table.specs.Definitions.{has_act, with_act, act_queued, open_nodes, elected, ended, stopped, saw, entered, answer_of, told_call, order_result, told_effect, announced, learnt_to, welcomed, landed, left_gone, left, is_among, looked_for, looked, executed_one, executed, install_to, asked_to_promise, welcomed_all, sent, answered_all, sent_others, order_number, Found, is_act, from_calls, from_acts, from_queues, found_by, found_for, offered, pumped_from, pumped, put_back, ReplicaState, Place, name_of, next, members, settled, may_offer, taken_at, under_way, is_idle, last_slot, forgotten, before_of, spoken}
 use Rattle.sc_node_table.specs.declared.Before.{Before}
-use Rattle.sc_node_table.specs.Election.{open_nodes, elected, ended, stopped, saw}
-use Rattle.sc_node_table.specs.Execute.{entered, answer_of, told_call, order_result, told_effect, announced, learnt_to, welcomed, landed, left_gone, left, is_among, looked_for, looked, executed_one, executed}
-use Rattle.sc_node_table.specs.Install.{install_to, asked_to_promise, welcomed_all}
-use Rattle.sc_node_table.specs.Mails.{sent, answered_all, sent_others, order_number}
-use Rattle.sc_node_table.specs.Pump.{Found, is_act, from_calls, from_acts, from_queues, found_by, found_for, offered, pumped_from, pumped}
-use Rattle.sc_node_table.specs.Queues.{put_back}
-use Rattle.sc_node_table.specs.Replica.{ReplicaState, Place, name_of, next, members, settled, may_offer, taken_at, under_way, is_idle, last_slot, forgotten}
-use Rattle.sc_node_table.specs.Spoken.{before_of, spoken}
-use Rattle.sc_law_lemmas.proofs.Calls.{next_found}
-use Rattle.sc_law_lemmas.proofs.Places.{welcomed_place, executed_place, landed_place}
-use Rattle.sc_law_lemmas.proofs.Ways.{either_way}
-use Rattle.sc_following_law.specs.Following.{Tells, Asks, Installs, Prepares}
+use Rattle.sc_law_lemmas.proofs.Lemmas.{next_found, welcomed_place, executed_place, landed_place, either_way}
+use Rattle.sc_following_law.specs.Definitions.{Tells, Asks, Installs, Prepares}
 use Rattle.sc_calm_rows_law.proofs.Silent.{AreQuiet, own_quiet, one_sent, all_sent, others_sent, desk_told, one_answered, all_answered, all_dismissed, spoken_quiet}
 
 module _ (name : Draw) where

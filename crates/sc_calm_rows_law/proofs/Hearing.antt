@@ -2,32 +2,21 @@
 use Rattle.std.proofs.Common.{◌≡◌, ℕ, ◌+◌, nat_le, eqb, cond, List, [], ◌∷◌, ◌++◌, length, Option, Some, None, refl, ◌∙◌, ap}
 use Rattle.std.specs.List.{filter}
 use Rattle.std.proofs.lemmas.Bool.{cond_both}
-use Rattle.sc_base.specs.Among.{Each}
-use Rattle.sc_base.specs.declared.names.Draw.{Draw}
-use Rattle.sc_base.specs.declared.ops.Op.{Op}
-use Rattle.sc_cmd.specs.declared.orders.OrderLine.{OrderLine}
-use Rattle.sc_mail.specs.declared.bodies.AnswerBody.{AnswerBody}
+use Rattle.sc_base.specs.Definitions.{Each}
+use Rattle.sc_node_table.specs.Values.{Draw, Op, OrderLine, AnswerBody, Mail, MailBody, Request, Answer, Prepare, Promise, Accept, Accepted, Nack, Learn, Ask, Install, TxPrepare, TxVote, TxOutcome, TxElsewhere, TxWatch, TxWatched, Told as ToldMail, Input, Got}
 use Rattle.sc_mail.specs.declared.bodies.AnswerBody.TheVariants as Says
-use Rattle.sc_mail.specs.declared.bodies.Mail.{Mail}
-use Rattle.sc_mail.specs.declared.bodies.MailBody.{MailBody}
-use Rattle.sc_mail.specs.declared.bodies.MailBody.TheVariants.{Request, Answer, Prepare, Promise, Accept, Accepted, Nack, Learn, Ask, Install, TxPrepare, TxVote, TxOutcome, TxElsewhere, TxWatch, TxWatched, Told as ToldMail}
-use Rattle.sc_actor.specs.declared.rows.Input.{Input}
-use Rattle.sc_actor.specs.declared.rows.Input.TheVariants.{Got, Tick, Go, Told}
-use Rattle.sc_client_table.specs.Client.{Client, waiting_request}
-use Rattle.sc_client_table.specs.Table.{ClientStep, asked_of, sent_to, sent_where, chosen_for, request_sent, started, client_ticked, waits_for, was_asked, redirected, answer_taken, got, table}
-use Rattle.sc_lookup.specs.Known.{target_in, preferring, passed_on, told_not_mine, told_gone}
-use Rattle.sc_node_table.specs.Node.{absent}
-use Rattle.sc_node_table.specs.Ordering.{ordered_row}
-use Rattle.sc_node_table.specs.Replica.{name_of}
-use Rattle.sc_node_table.specs.Rows.{mailed}
-use Rattle.sc_law_lemmas.proofs.Ways.{either_way}
-use Rattle.sc_following_law.specs.Following.{Mark, mark_of, marks_of}
-use Rattle.sc_following_law.specs.Tables.{marks_for}
-use Rattle.sc_calm_law.proofs.OwedParties.{apart}
-use Rattle.sc_calm_rows_law.specs.Turns.{NamesStay, OthersHearNothing}
+use Rattle.sc_actor.specs.declared.rows.Input.TheVariants.{Tick, Go, Told}
+use Rattle.sc_client_table.specs.Definitions.{Client, waiting_request, ClientStep, asked_of, sent_to, sent_where, chosen_for, request_sent, started, client_ticked, waits_for, was_asked, redirected, answer_taken, got, table}
+use Rattle.sc_lookup.specs.Definitions.{target_in, preferring, passed_on, told_not_mine, told_gone}
+use Rattle.sc_node_table.specs.Definitions.{absent, ordered_row, name_of, mailed}
+use Rattle.sc_law_lemmas.proofs.Lemmas.{either_way}
+use Rattle.sc_following_law.specs.Definitions.{Mark, mark_of, marks_of, marks_for}
+use Rattle.sc_calm_law.proofs.Lemmas.{apart}
+use Rattle.sc_calm_rows_law.specs.Definitions.{NamesStay, OthersHearNothing}
 use Rattle.sc_calm_rows_law.proofs.Silent.{narrow, AreQuiet}
 use Rattle.sc_calm_rows_law.proofs.Mailing.{mailed_keeps, order_keeps, made_keeps}
 
+-- A replica keeps its group's name, whatever it takes.
 pub names_stay : NamesStay
 names_stay = record {
   mailed = λ from body r. (mailed_keeps (name_of r) from body (r, []) (refl, tt)).0;
@@ -142,6 +131,7 @@ module _ (name : Draw) where
   client_none client Go = started_none 1 client
   client_none client (Told line) = tt
 
+-- What a replica sends is nothing to another group than its own, and what a client sends, or a node without replica answers, is nothing to any.
 pub others_hear_nothing : OthersHearNothing
 others_hear_nothing = record {
   mailed = λ name who from body r ne. quiet_marks (name_of r) name who (mailed from body (r, [])).0.1 ne (mailed_keeps (name_of r) from body (r, []) (refl, tt)).1;

@@ -1,31 +1,16 @@
 -- What keeps a group following its leader, row by row.
 use Rattle.std.proofs.Common.{◌≡◌, ℕ, true, true≢false, List, Option, Some, inl, inr, refl, sym, ◌∙◌, ap, subst}
 use Rattle.std.proofs.lemmas.Bool.{cases_eq}
-use Rattle.sc_base.specs.declared.names.Ballot.{Ballot}
-use Rattle.sc_base.specs.declared.names.Draw.{Draw}
-use Rattle.sc_cmd.specs.declared.cores.Base.{Base}
-use Rattle.sc_cmd.specs.declared.orders.OrderLine.{OrderLine}
-use Rattle.sc_base.specs.Roster.{IsRoster}
-use Rattle.sc_actor.specs.declared.actors.Seat.{Seat}
-use Rattle.sc_actor.specs.declared.rows.Event.{Event}
-use Rattle.sc_actor.specs.Mail.{mails}
-use Rattle.sc_actor.specs.System.{row_of}
-use Rattle.sc_orderly_law.specs.Timely.{AreInTime}
-use Rattle.sc_node_table.specs.Replica.{ReplicaState, Place, next}
-use Rattle.sc_sound.specs.Players.{Player, player_table}
-use Rattle.sc_calm_law.specs.Charts.{players}
-use Rattle.sc_calm_law.specs.Totals.{Rows}
-use Rattle.sc_following_law.specs.Following.{Course, Progress, Sets}
-use Rattle.sc_following_law.specs.Leading.{IsLeadOf}
-use Rattle.sc_following_law.specs.Rows.{IsRow, IsIdle, Takes, Elects}
-use Rattle.sc_following_law.specs.Tables.{marks_for}
-use Rattle.sc_following_law.proofs.Elects.{elects-keeps}
-use Rattle.sc_following_law.proofs.Keeps.{idle-keeps, takes-keeps}
-use Rattle.sc_following_law.proofs.Leads.{leads-keeps}
-use Rattle.sc_calm_rows_law.specs.Groups.{view_at, next_in, promise_in, progress_at, marks_at, taken_mark, IsLedBy, IsCourseOf, IsFollowedAt}
-use Rattle.sc_calm_rows_law.specs.Kept.{LeavesLead, RowsKeepFollowing}
-use Rattle.sc_calm_rows_law.specs.Steps.{led_course, elected_course, LedBy}
-use Rattle.sc_calm_rows_law.specs.Turns.{with_event, IsKind, IsReplicasRow}
+use Rattle.sc_node_table.specs.Values.{Ballot, Draw, Base, OrderLine, Seat, Event}
+use Rattle.sc_base.specs.Definitions.{IsRoster}
+use Rattle.sc_actor.specs.Definitions.{mails, row_of}
+use Rattle.sc_orderly_law.specs.Definitions.{AreInTime}
+use Rattle.sc_node_table.specs.Definitions.{ReplicaState, Place, next}
+use Rattle.sc_sound.specs.Definitions.{Player, player_table}
+use Rattle.sc_calm_law.specs.Definitions.{players, Rows}
+use Rattle.sc_following_law.specs.Definitions.{Course, Progress, Sets, IsLeadOf, IsRow, IsIdle, Takes, Elects, marks_for}
+use Rattle.sc_following_law.proofs.Lemmas.{elects-keeps, idle-keeps, takes-keeps, leads-keeps}
+use Rattle.sc_calm_rows_law.specs.Definitions.{view_at, next_in, promise_in, progress_at, marks_at, taken_mark, IsLedBy, IsCourseOf, IsFollowedAt, LeavesLead, RowsKeepFollowing, led_course, elected_course, LedBy, with_event, IsKind, IsReplicasRow}
 use Rattle.sc_calm_rows_law.proofs.Leading.{leads_too}
 use Rattle.sc_calm_rows_law.proofs.Marking.{rows_are}
 use Rattle.sc_calm_rows_law.proofs.Viewing.{view_others}
@@ -133,6 +118,7 @@ module _ (at : Sets) (words : ℕ → ℕ → ℕ × ℕ) (births : List (Seat P
       given = course_elected course was.given ballot r after row elects running lead;
     }
 
+-- A group that follows its leader after some rows does so after one more that comes in time: one that does nothing in the group, of a node that takes a mail, of the leader, or of one that elects itself.
 pub rows_keep : RowsKeepFollowing
 rows_keep = record {
   idle = λ at words births rows seat event base course rosters timely was leaves idle. keeps_idle at words births rows seat event base rosters timely course was leaves idle;

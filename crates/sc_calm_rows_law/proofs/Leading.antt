@@ -1,24 +1,14 @@
 -- A leader's row in its table is one in its group.
 use Rattle.std.proofs.Common.{◌≡◌, ℕ, eqb, List, Some, inl, inr, refl, sym, ◌∙◌, ap, subst}
 use Rattle.std.proofs.lemmas.Bool.{cond-true, eq-eqb}
-use Rattle.sc_base.specs.Among.{Among}
-use Rattle.sc_cmd.specs.declared.cores.Base.{Base}
-use Rattle.sc_cmd.specs.declared.orders.OrderLine.{OrderLine}
-use Rattle.sc_actor.specs.declared.actors.Seat.{Seat}
-use Rattle.sc_actor.specs.declared.rows.Event.{Event}
-use Rattle.sc_actor.specs.Mail.{mails}
-use Rattle.sc_actor.specs.System.{row_of}
-use Rattle.sc_node_table.specs.Replica.{ReplicaState, Place, name_of, next}
-use Rattle.sc_sound.specs.Players.{Player, player_table}
-use Rattle.sc_calm_law.specs.Totals.{Rows}
-use Rattle.sc_following_law.specs.Counted.{IsLed}
-use Rattle.sc_following_law.specs.Following.{Mark, Asks, Course, Progress, Sets}
-use Rattle.sc_following_law.specs.Leading.{IsLeadOf, progress_by, LeadsInto}
-use Rattle.sc_following_law.specs.Rows.{IsOffered, Leads}
-use Rattle.sc_following_law.specs.Tables.{marks_for}
-use Rattle.sc_calm_rows_law.specs.Groups.{next_in, promise_in, progress_at, taken_mark}
-use Rattle.sc_calm_rows_law.specs.Steps.{led_course, LedBy, StepsLead}
-use Rattle.sc_calm_rows_law.specs.Turns.{with_event, IsReplicasRow}
+use Rattle.sc_base.specs.Definitions.{Among}
+use Rattle.sc_node_table.specs.Values.{Base, OrderLine, Seat, Event}
+use Rattle.sc_actor.specs.Definitions.{mails, row_of}
+use Rattle.sc_node_table.specs.Definitions.{ReplicaState, Place, name_of, next}
+use Rattle.sc_sound.specs.Definitions.{Player, player_table}
+use Rattle.sc_calm_law.specs.Definitions.{Rows}
+use Rattle.sc_following_law.specs.Definitions.{IsLed, Mark, Asks, Course, Progress, Sets, IsLeadOf, progress_by, LeadsInto, IsOffered, Leads, marks_for}
+use Rattle.sc_calm_rows_law.specs.Definitions.{next_in, promise_in, progress_at, taken_mark, led_course, LedBy, StepsLead, with_event, IsReplicasRow}
 
 -- one leads where it does so in another progress with the same course, in which it is and has promised the same
 pub leads_too : (at : Sets) (one two : Progress) (r : ReplicaState) → one.course ≡ two.course → two.next r.me ≡ next r → two.promise r.me ≡ r.acceptor.promised → IsLeadOf at one r → IsLeadOf at two r
@@ -108,5 +98,6 @@ module _ (at : Sets) (births : List (Seat Player)) (rows : Rows) (seat : Seat Pl
       at_own : (P : ℕ → Type 0) → P seat.who → P after.0.me
       at_own P p = subst P mine p
 
+-- A leader's row in its table is one in its group, whatever it takes; and where it leads on, it leads in the group's course after it.
 pub steps_lead : StepsLead
 steps_lead at births rows seat event base course r after row named me into = led at births rows seat event base course r after row named me into

@@ -3,32 +3,16 @@ use Rattle.std.proofs.Common.{◌≡◌, ℕ, ◌+◌, ◌-◌, ◌^◌, ◌≤�
 use Rattle.std.specs.Prelude.{is_some}
 use Rattle.std.specs.List.{list_any}
 use Rattle.std.proofs.lemmas.Bool.{cond-true, cond-false, eq-eqb, le-ltb}
-use Rattle.sc_cmd.specs.declared.commands.Command.{Command}
-use Rattle.sc_cmd.specs.declared.commands.Command.TheVariants.{Noop, Call, Join, Leave, Split, Begin, Prepared, RecordVote, GiveUp, Finish, Watched, RecordWatch}
-use Rattle.sc_cmd.specs.declared.effects.Effect.{Effect}
-use Rattle.sc_cmd.specs.declared.links.Route.{Route}
-use Rattle.sc_cmd.specs.declared.orders.ToldResult.{ToldResult}
-use Rattle.sc_mail.specs.declared.bodies.AnswerBody.{AnswerBody}
+use Rattle.sc_node_table.specs.Values.{Command, Noop, Call, Join, Leave, Split, Begin, Prepared, RecordVote, GiveUp, Finish, Watched, RecordWatch, Effect, Route, ToldResult, AnswerBody, Ask, Learn, Must, Gap}
 use Rattle.sc_mail.specs.declared.bodies.AnswerBody.TheVariants as Says
-use Rattle.sc_mail.specs.declared.bodies.MailBody.TheVariants.{Ask, Learn}
-use Rattle.sc_base.specs.Roster.{is_member, least_of}
-use Rattle.sc_machine_table.specs.Machine.{applied}
-use Rattle.sc_paxos_words.specs.declared.answers.Must.{Must}
-use Rattle.sc_paxos_words.specs.declared.answers.Must.TheVariants.{Value, Gap, Free as Open}
-use Rattle.sc_paxos_words.specs.Leaders.{must}
+use Rattle.sc_base.specs.Definitions.{is_member, least_of}
+use Rattle.sc_machine_table.specs.Definitions.{applied}
+use Rattle.sc_paxos_words.specs.declared.answers.Must.TheVariants.{Value, Free as Open}
+use Rattle.sc_paxos_words.specs.Definitions.{must}
 use Rattle.sc_node_table.specs.declared.Before.{Before}
-use Rattle.sc_node_table.specs.Election.{elected, ended, stopped}
-use Rattle.sc_node_table.specs.Execute.{entered, order_result, told_effect, announced, learnt_to, welcomed, landed, left_gone, left, is_among, looked_for, looked, executed_one, has_room, next_ready, executed}
-use Rattle.sc_node_table.specs.Mails.{sent}
-use Rattle.sc_node_table.specs.Pump.{Found, is_act, from_calls, from_acts, from_queues, found_by, found_for, offered, pumped_from, pumped}
-use Rattle.sc_node_table.specs.Queues.{put_back}
-use Rattle.sc_node_table.specs.Replica.{ReplicaState, Place, Executed, childless, name_of, next, members, settled, may_offer, taken_at, under_way, is_idle, last_slot, forgotten}
-use Rattle.sc_node_table.specs.Rows.{learn_row, mailed}
-use Rattle.sc_node_table.specs.Slots.{at_slot, without_slot}
-use Rattle.sc_node_table.specs.Spoken.{before_of, spoken}
-use Rattle.sc_law_lemmas.proofs.Places.{executed_place, landed_place}
-use Rattle.sc_law_lemmas.proofs.Ways.{either_way}
-use Rattle.sc_calm_rows_law.specs.Elections.{IsPast, ToldEntriesAreTaken}
+use Rattle.sc_node_table.specs.Definitions.{elected, ended, stopped, entered, order_result, told_effect, announced, learnt_to, welcomed, landed, left_gone, left, is_among, looked_for, looked, executed_one, has_room, next_ready, executed, sent, Found, is_act, from_calls, from_acts, from_queues, found_by, found_for, offered, pumped_from, pumped, put_back, ReplicaState, Place, Executed, childless, name_of, next, members, settled, may_offer, taken_at, under_way, is_idle, last_slot, forgotten, learn_row, mailed, at_slot, without_slot, before_of, spoken}
+use Rattle.sc_law_lemmas.proofs.Lemmas.{executed_place, landed_place, either_way}
+use Rattle.sc_calm_rows_law.specs.Definitions.{IsPast, ToldEntriesAreTaken}
 
 module _ (command : Command) (r : ReplicaState) where
   abbrev Past : Place → Type 0
@@ -191,5 +175,6 @@ module _ (command : Command) (r : ReplicaState) where
       ∙ cond-true (eqb slot (next r)) (executed false command (r, [])) (cond {A = Executed} (nat_lt (next r) slot) (childless (r, sent r.me from (Ask (name_of r) (next r)) [])) (childless (r, []))) (eq-eqb slot (next r) at)))
       (executed_past none)
 
+-- A replica with nothing ready that is told the next entry has the state after it.
 pub told_entries : ToldEntriesAreTaken
 told_entries from slot command r at low none = learn_past command r from slot at low none

@@ -10,9 +10,6 @@ pub mod Learning
 pub mod Mailing
 pub mod Marking
 pub mod Others
-pub mod OwnJournal
-pub mod OwnParts
-pub mod OwnRows
 pub mod Owning
 pub mod Scenes
 pub mod Silent
@@ -21,6 +18,7 @@ pub mod Stepping
 pub mod Through
 pub mod Turning
 pub mod Viewing
-pub mod WellNodes
-pub mod WellParts
-pub mod WellRows
+pub mod Players
+pub mod WellKept
+pub mod OwnAsking
+pub mod Lemmas

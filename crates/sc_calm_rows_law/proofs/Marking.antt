@@ -1,35 +1,23 @@
 -- Each row that comes in time takes the first mark of its receiver, if it takes any, and puts marks behind.
 use Rattle.std.proofs.Common.{◌≡◌, ℕ, ◌&&◌, cond, List, [], ◌∷◌, ◌++◌, drop, refl, sym, ◌∙◌, ap, subst, append_assoc}
 use Rattle.std.proofs.lemmas.Bool.{ne_eqb, eq-eqb}
-use Rattle.sc_base.specs.declared.names.Draw.{Draw}
-use Rattle.sc_cmd.specs.declared.cores.Base.{Base}
-use Rattle.sc_cmd.specs.declared.orders.OrderLine.{OrderLine}
-use Rattle.sc_mail.specs.declared.bodies.Mail.{Mail}
-use Rattle.sc_actor.specs.declared.actors.Seat.{Seat}
-use Rattle.sc_actor.specs.declared.rows.Event.{Event}
-use Rattle.sc_actor.specs.declared.rows.Event.TheVariants.{Deliver, Tick, Go, Told, Crash, Drop, Again}
-use Rattle.sc_actor.specs.declared.rows.Row.{Row}
-use Rattle.sc_actor.specs.Mail.{mails, is_delivery}
-use Rattle.sc_actor.specs.System.{System, row_of}
-use Rattle.sc_orderly_law.specs.Orderly.{IsTidy, IsCalmRow, IsCalmEvent, rest, mail_for, taken}
-use Rattle.sc_orderly_law.proofs.InTime.{in_time_before, in_time_tidy, last_in_time}
-use Rattle.sc_orderly_law.proofs.Resting.{takes_first, is_born-from, rest-calm}
-use Rattle.sc_node_table.specs.Replica.{listed}
-use Rattle.sc_sound.specs.Players.{Player, player_table}
-use Rattle.sc_calm_law.specs.Charts.{players}
-use Rattle.sc_calm_law.specs.Totals.{Rows}
-use Rattle.sc_following_law.specs.Following.{mark_of, marks_of, Course}
-use Rattle.sc_following_law.specs.Rows.{IsRow}
-use Rattle.sc_following_law.specs.Tables.{marks_for}
-use Rattle.sc_calm_rows_law.specs.Groups.{next_in, promise_in, progress_at, marks_at, mark_in, taken_mark}
-use Rattle.sc_calm_rows_law.specs.Turns.{IsSeat, RowsAreOfGroups}
+use Rattle.sc_node_table.specs.Values.{Draw, Base, OrderLine, Mail, Seat, Event, Deliver, Tick, Go, Crash, Drop, Again, Row}
+use Rattle.sc_actor.specs.declared.rows.Event.TheVariants.{Told}
+use Rattle.sc_actor.specs.Definitions.{mails, is_delivery, System, row_of}
+use Rattle.sc_orderly_law.specs.Definitions.{IsTidy, IsCalmRow, IsCalmEvent, rest, mail_for, taken}
+use Rattle.sc_orderly_law.proofs.Lemmas.{in_time_before, in_time_tidy, last_in_time, takes_first, is_born-from, rest-calm}
+use Rattle.sc_node_table.specs.Definitions.{listed}
+use Rattle.sc_sound.specs.Definitions.{Player, player_table}
+use Rattle.sc_calm_law.specs.Definitions.{players, Rows}
+use Rattle.sc_following_law.specs.Definitions.{mark_of, marks_of, Course, IsRow, marks_for}
+use Rattle.sc_calm_rows_law.specs.Definitions.{next_in, promise_in, progress_at, marks_at, mark_in, taken_mark, IsSeat, RowsAreOfGroups}
 use Rattle.sc_calm_rows_law.proofs.Viewing.{view_others}
 
 pub marks-append : (name : Draw) (xs ys : List Mail) → marks_of name (xs ++ ys) ≡ marks_of name xs ++ marks_of name ys
 marks-append name [] ys = refl
 marks-append name (x ∷ xs) ys = ap (λ l. listed (mark_of name x.from x.body) ++ l) (marks-append name xs ys) ∙ sym (append_assoc (listed (mark_of name x.from x.body)) (marks_of name xs) (marks_of name ys))
 
-at_zero : {X : Type 0} (xs : List X) → drop 0 xs ≡ xs
+pub at_zero : {X : Type 0} (xs : List X) → drop 0 xs ≡ xs
 at_zero [] = refl
 at_zero (x ∷ xs) = refl
 
@@ -86,6 +74,7 @@ module _ (words : ℕ → ℕ → ℕ × ℕ) (births : List (Seat Player)) (row
   pub row_is : (row : Row Mail OrderLine) → IsCalmRow (players words births) rows row → RowOf row
   row_is row calm = subst RowOf (sym calm.row_is) (row_by calm.seat calm.event calm.born calm.calm)
 
+-- Each row that comes in time is a row of each group: what is delivered is the first of its receiver's mail, what is sent to each comes behind its mail, and the other nodes stay where they are.
 pub rows_are : RowsAreOfGroups
 rows_are words births rows row base now after timely =
     row_is words births rows base now after (in_time_tidy (players words births) rows (in_time_before (players words births) rows row timely)) row (last_in_time (players words births) rows row timely).0

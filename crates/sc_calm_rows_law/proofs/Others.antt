@@ -1,19 +1,13 @@
 -- A row that does nothing in a group leaves it following its leader, also where a replica is born.
 use Rattle.std.proofs.Common.{◌≡◌, ℕ, ◌+◌, ◌<◌, true, List, None, inl, inr, sym, ◌∙◌, ap, subst, arith}
-use Rattle.sc_cmd.specs.declared.cores.Base.{Base}
-use Rattle.sc_cmd.specs.declared.orders.OrderLine.{OrderLine}
-use Rattle.sc_base.specs.Roster.{IsRoster, is_member}
-use Rattle.sc_actor.specs.declared.actors.Seat.{Seat}
-use Rattle.sc_actor.specs.declared.rows.Event.{Event}
-use Rattle.sc_orderly_law.specs.Timely.{AreInTime}
-use Rattle.sc_node_table.specs.Slots.{slots_ahead}
-use Rattle.sc_sound.specs.Players.{Player}
-use Rattle.sc_calm_law.specs.Charts.{players}
-use Rattle.sc_calm_law.specs.Totals.{Rows}
-use Rattle.sc_following_law.specs.Following.{Course, Sets}
-use Rattle.sc_calm_rows_law.specs.Groups.{view_at, begun_course, IsLedBy, IsFollowedAt}
-use Rattle.sc_calm_rows_law.specs.Kept.{LeavesLead, OthersKeepFollowing}
-use Rattle.sc_calm_rows_law.specs.Turns.{with_event, IsBornOr, LeavesAlone, LeavesOrBears}
+use Rattle.sc_node_table.specs.Values.{Base, OrderLine, Seat, Event}
+use Rattle.sc_base.specs.Definitions.{IsRoster, is_member}
+use Rattle.sc_orderly_law.specs.Definitions.{AreInTime}
+use Rattle.sc_node_table.specs.Definitions.{slots_ahead}
+use Rattle.sc_sound.specs.Definitions.{Player}
+use Rattle.sc_calm_law.specs.Definitions.{players, Rows}
+use Rattle.sc_following_law.specs.Definitions.{Course, Sets}
+use Rattle.sc_calm_rows_law.specs.Definitions.{view_at, begun_course, IsLedBy, IsFollowedAt, LeavesLead, OthersKeepFollowing, with_event, IsBornOr, LeavesAlone, LeavesOrBears}
 use Rattle.sc_calm_rows_law.proofs.Keeping.{rows_keep}
 use Rattle.sc_calm_rows_law.proofs.Staying.{leads_stay}
 
@@ -36,6 +30,7 @@ module _ (at : Sets) (words : ℕ → ℕ → ℕ × ℕ) (births : List (Seat P
     bears : LeavesOrBears births rows seat event base → IsFollowedAt at words births (with_event rows seat event) base course
     bears leaves = rows_keep.idle at words births rows seat event base course rosters timely was (leaves_by leaves.view) (leaves.idle course)
 
+-- A row that does nothing in a group leaves it following its leader, also where a node makes its replica at the group's birth.
 pub others_keep : OthersKeepFollowing
 others_keep = record {
   alone = λ at words births rows seat event base course rosters timely was leaves. alone at words births rows seat event base course rosters timely was leaves;

@@ -1,47 +1,20 @@
 -- A node that takes mail of its group leaves the group following its leader.
 use Rattle.std.proofs.Common.{◌≡◌, ℕ, suc, ◌<◌, ◌≤◌, ◌&&◌, true, false, true≢false, List, [], ◌∷◌, ◌++◌, Some, None, inl, inr, refl, sym, ◌∙◌, ap, subst, arith}
 use Rattle.std.proofs.lemmas.Bool.{cases_Bool, and_right}
-use Rattle.sc_base.specs.Among.{Each}
-use Rattle.sc_base.specs.Same.{same_ballot}
-use Rattle.sc_base.specs.declared.names.Ballot.{Ballot}
-use Rattle.sc_base.specs.declared.names.Draw.{Draw}
-use Rattle.sc_cmd.specs.declared.commands.Command.{Command}
-use Rattle.sc_cmd.specs.declared.cores.Base.{Base}
-use Rattle.sc_cmd.specs.declared.orders.OrderLine.{OrderLine}
-use Rattle.sc_mail.specs.declared.bodies.Mail.{Mail}
-use Rattle.sc_mail.specs.declared.bodies.MailBody.{MailBody}
-use Rattle.sc_mail.specs.declared.bodies.MailBody.TheVariants.{Request, Answer, Prepare, Promise, Accept, Accepted, Nack, Learn, Ask, Install, TxPrepare, TxVote, TxOutcome, TxElsewhere, TxWatch, TxWatched, Told as ToldMail}
-use Rattle.sc_base.specs.Roster.{is_member}
-use Rattle.sc_actor.specs.declared.actors.Seat.{Seat}
-use Rattle.sc_actor.specs.declared.rows.Event.TheVariants.{Deliver, Told}
-use Rattle.sc_actor.specs.Mail.{mails}
-use Rattle.sc_actor.specs.System.{row_of}
-use Rattle.sc_orderly_law.specs.Timely.{AreInTime}
-use Rattle.sc_paxos_words.specs.Ballots.{below}
-use Rattle.sc_paxos_words.specs.declared.reports.Report.{Report}
+use Rattle.sc_base.specs.Definitions.{Each, same_ballot, is_member}
+use Rattle.sc_node_table.specs.Values.{Ballot, Draw, Command, Base, OrderLine, Mail, MailBody, Request, Answer, Prepare, Promise, Accept, Accepted, Nack, Learn, Ask, Install, TxPrepare, TxVote, TxOutcome, TxElsewhere, TxWatch, TxWatched, Told as ToldMail, Seat, Deliver, Report}
+use Rattle.sc_actor.specs.declared.rows.Event.TheVariants.{Told}
+use Rattle.sc_actor.specs.Definitions.{mails, row_of}
+use Rattle.sc_orderly_law.specs.Definitions.{AreInTime}
+use Rattle.sc_paxos_words.specs.Definitions.{below}
 use Rattle.sc_node_table.specs.declared.ReplicaInput.TheVariants as Given
-use Rattle.sc_node_table.specs.Execute.{entered}
-use Rattle.sc_node_table.specs.Node.{NodeState, replica_of, group_of_mail, group_of_order}
-use Rattle.sc_node_table.specs.Ordering.{ordered_row}
-use Rattle.sc_node_table.specs.Replica.{ReplicaState, Place, listed, name_of, next, first_ballot, last_slot}
-use Rattle.sc_node_table.specs.Rows.{mailed, made_by, stepped}
-use Rattle.sc_law_lemmas.specs.Steps.{GoesOn}
-use Rattle.sc_sound.specs.Players.{Player, player_table}
-use Rattle.sc_calm_law.specs.Charts.{players}
-use Rattle.sc_calm_law.specs.Totals.{Rows}
-use Rattle.sc_following_law.specs.Following.{Mark, Asks, Votes, Tells, Installs, Prepares, Promises, mark_of, next_by, promise_by, reached, IsFit, AreFit, Course, Progress, Sets, IsKnown}
-use Rattle.sc_following_law.specs.Leading.{IsLeadOf, LeadsInto, StopsAlone, IsAside, DecidesNext}
-use Rattle.sc_following_law.specs.Rows.{IsRow, IsCount}
-use Rattle.sc_following_law.specs.Tables.{marks_for, StepsBy, Stays}
-use Rattle.sc_following_law.proofs.Asides.{rows_lead}
-use Rattle.sc_following_law.proofs.Learn.{tables}
-use Rattle.sc_following_law.proofs.Marks.{reached-least}
-use Rattle.sc_following_law.proofs.Nodes.{same_mark, states}
-use Rattle.sc_calm_rows_law.specs.Groups.{view_at, next_in, promise_in, progress_at, marks_at, mark_in, taken_mark, IsLedBy, IsFollowedAt, FollowsOn}
-use Rattle.sc_calm_rows_law.specs.Kept.{LeavesLead}
-use Rattle.sc_calm_rows_law.specs.Mailed.{IsScene, TakesMail, HoldsReplica, FollowsAfter, NodesKeepFollowing, LeadsKeepFollowing}
-use Rattle.sc_calm_rows_law.specs.Steps.{WaitsStill, led_course}
-use Rattle.sc_calm_rows_law.specs.Turns.{with_event, IsReplicasRow, IsWholeState}
+use Rattle.sc_node_table.specs.Definitions.{entered, NodeState, replica_of, group_of_mail, group_of_order, ordered_row, ReplicaState, Place, listed, name_of, next, first_ballot, last_slot, mailed, made_by, stepped}
+use Rattle.sc_law_lemmas.specs.Definitions.{GoesOn}
+use Rattle.sc_sound.specs.Definitions.{Player, player_table}
+use Rattle.sc_calm_law.specs.Definitions.{players, Rows}
+use Rattle.sc_following_law.specs.Definitions.{Mark, Asks, Votes, Tells, Installs, Prepares, Promises, mark_of, next_by, promise_by, reached, IsFit, AreFit, Course, Progress, Sets, IsKnown, IsLeadOf, LeadsInto, StopsAlone, IsAside, DecidesNext, IsRow, IsCount, marks_for, StepsBy, Stays}
+use Rattle.sc_following_law.proofs.Lemmas.{rows_lead, tables, reached-least, same_mark, states}
+use Rattle.sc_calm_rows_law.specs.Definitions.{view_at, next_in, promise_in, progress_at, marks_at, mark_in, taken_mark, IsLedBy, IsFollowedAt, FollowsOn, LeavesLead, IsScene, TakesMail, HoldsReplica, FollowsAfter, NodesKeepFollowing, LeadsKeepFollowing, WaitsStill, led_course, with_event, IsReplicasRow, IsWholeState}
 use Rattle.sc_calm_rows_law.proofs.Asides.{asides_still}
 use Rattle.sc_calm_rows_law.proofs.Keeping.{rows_keep}
 use Rattle.sc_calm_rows_law.proofs.Leading.{steps_lead}
@@ -316,6 +289,7 @@ module _ (at : Sets) (words : ℕ → ℕ → ℕ × ℕ) (births : List (Seat P
       rows_keep.idle at words births rows seat (Told line) base course scene.rosters timely scene.followed (leads_stay.quiet at births rows seat (Told line) base course after.0 row.is still.off (idle_apart r row.was off))
       (still_idle births rows seat (Told line) base course r after row refl still.next_is still.promise_is still.silent)
 
+-- A mail of agreement that comes to a node of its group leaves the group following its leader: one that asks to accept or to promise, an entry by which the node does not elect itself, a state, and whatever else comes to one that does not lead.
 pub nodes_keep : NodesKeepFollowing
 nodes_keep = record {
   accept = λ at words births rows seat number mail node base course r ballot slot command scene takes has from body. accepts at words births rows seat node base course scene number mail takes r has ballot slot command from body;
@@ -329,6 +303,7 @@ nodes_keep = record {
   order = λ at words births rows seat line node base course r scene timely has group off. stays_ordered at words births rows seat node base course scene line r timely has group off;
 }
 
+-- So does what its leader takes: a vote, a promise, other mail that comes to it, and an order.
 pub leads_keep : LeadsKeepFollowing
 leads_keep = record {
   vote = λ at words births rows seat number mail node base course r ballot slot scene takes has body runs decides stops. counts_vote at words births rows seat node base course scene number mail takes r has ballot slot body runs decides stops;

@@ -1,40 +1,18 @@
 -- The replica that leads is left as it is by rows of others, and by its own where it only accepts or promises.
 use Rattle.std.proofs.Common.{◌≡◌, ℕ, ◌+◌, ◌<◌, ◌&&◌, nat_le, Bool, true, false, true≢false, cond, List, [], Option, Some, None, refl, sym, ◌∙◌, ap, subst}
 use Rattle.std.proofs.lemmas.Bool.{eqb-true, eq-eqb}
-use Rattle.sc_base.specs.declared.names.Ballot.{Ballot}
-use Rattle.sc_base.specs.declared.names.Draw.{Draw}
-use Rattle.sc_cmd.specs.declared.commands.Command.{Command}
-use Rattle.sc_cmd.specs.declared.cores.Base.{Base}
-use Rattle.sc_cmd.specs.declared.orders.OrderLine.{OrderLine}
-use Rattle.sc_mail.specs.declared.bodies.MailBody.TheVariants.{Prepare, Accept}
-use Rattle.sc_base.specs.Roster.{IsRoster, is_member}
-use Rattle.sc_actor.specs.declared.actors.Seat.{Seat}
-use Rattle.sc_actor.specs.declared.rows.Event.{Event}
-use Rattle.sc_paxos_words.specs.declared.answers.AcceptAnswer.{AcceptAnswer}
+use Rattle.sc_node_table.specs.Values.{Ballot, Draw, Command, Base, OrderLine, Prepare, Accept, Seat, Event, AcceptAnswer, PrepareAnswer, Report}
+use Rattle.sc_base.specs.Definitions.{IsRoster, is_member}
 use Rattle.sc_paxos_words.specs.declared.answers.AcceptAnswer.TheVariants as Asked
-use Rattle.sc_paxos_words.specs.declared.answers.PrepareAnswer.{PrepareAnswer}
 use Rattle.sc_paxos_words.specs.declared.answers.PrepareAnswer.TheVariants as Prepared
-use Rattle.sc_paxos_words.specs.declared.reports.Report.{Report}
-use Rattle.sc_paxos_words.specs.Accepting.{accepted as accepted_by}
-use Rattle.sc_paxos_words.specs.Acceptors.{AcceptorState}
-use Rattle.sc_paxos_words.specs.Ballots.{below}
-use Rattle.sc_paxos_words.specs.Preparing.{prepared}
-use Rattle.sc_node_table.specs.Election.{saw, stopped}
-use Rattle.sc_node_table.specs.Install.{install_to}
-use Rattle.sc_node_table.specs.Replica.{ReplicaState, Place, name_of, next, first_ballot, born_replica}
-use Rattle.sc_node_table.specs.Rows.{mailed}
-use Rattle.sc_node_table.specs.Slots.{slots_ahead}
-use Rattle.sc_node_table.specs.Voting.{hinted, promise_to, promised, prepare_row, accepted_to, took, accept_row}
-use Rattle.sc_law_lemmas.specs.Steps.{GoesOn}
-use Rattle.sc_law_lemmas.proofs.Ways.{either_way}
-use Rattle.sc_sound.specs.Players.{Player}
-use Rattle.sc_calm_law.specs.Totals.{Rows}
-use Rattle.sc_following_law.specs.Counted.{IsLed}
-use Rattle.sc_following_law.specs.Following.{Course, Progress, Sets}
-use Rattle.sc_following_law.specs.Leading.{IsLeadOf}
-use Rattle.sc_calm_rows_law.specs.Groups.{view_at, next_in, promise_in, progress_at, begun_course, IsLedBy, IsFollowedAt}
-use Rattle.sc_calm_rows_law.specs.Kept.{LeavesLead, LeadsStay}
-use Rattle.sc_calm_rows_law.specs.Turns.{with_event, IsReplicasRow}
+use Rattle.sc_paxos_words.specs.Definitions.{accepted as accepted_by, AcceptorState, below, prepared}
+use Rattle.sc_node_table.specs.Definitions.{saw, stopped, install_to, ReplicaState, Place, name_of, next, first_ballot, born_replica, mailed, slots_ahead, hinted, promise_to, promised, prepare_row, accepted_to, took, accept_row}
+use Rattle.sc_law_lemmas.specs.Definitions.{GoesOn}
+use Rattle.sc_law_lemmas.proofs.Lemmas.{either_way}
+use Rattle.sc_sound.specs.Definitions.{Player}
+use Rattle.sc_calm_law.specs.Definitions.{Rows}
+use Rattle.sc_following_law.specs.Definitions.{IsLed, Course, Progress, Sets, IsLeadOf}
+use Rattle.sc_calm_rows_law.specs.Definitions.{view_at, next_in, promise_in, progress_at, begun_course, IsLedBy, IsFollowedAt, LeavesLead, LeadsStay, with_event, IsReplicasRow}
 use Rattle.sc_calm_rows_law.proofs.Beginning.{born_leads}
 use Rattle.sc_calm_rows_law.proofs.Keeping.{same_some, stays_led}
 
@@ -186,6 +164,7 @@ module _ (at : Sets) (births : List (Seat Player)) (rows : Rows) (seat : Seat Pl
         subst (IsLedBy base course) (sym row.is) (ap (λ (x : ReplicaState). x.running) like.is ∙ running));
   }
 
+-- The replica that leads a group is left as it is by a row of another, by one in which it is made, and by its own where it accepts or promises.
 pub leads_stay : LeadsStay
 leads_stay = record {
   same = λ at words births rows seat event base course was stays. same_leaves at births rows seat event base course words was stays;

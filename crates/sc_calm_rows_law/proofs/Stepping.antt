@@ -1,30 +1,18 @@
 -- A row of a replica's table as one of its group's progress.
-use Rattle.std.proofs.Common.{◌≡◌, ℕ, zero, suc, ◌+◌, ◌<◌, ◌≤◌, ◌||◌, eqb, leb, Bool, true, false, true≢false, cond, List, [], ◌∷◌, length, inl, inr, refl, sym, ◌∙◌, ap, subst, arith}
+use Rattle.std.proofs.Common.{◌≡◌, ℕ, ◌+◌, ◌<◌, ◌≤◌, ◌||◌, eqb, leb, Bool, true, false, true≢false, cond, List, [], ◌∷◌, length, inl, inr, refl, sym, ◌∙◌, ap, subst, arith}
 use Rattle.std.specs.List.{filter}
-use Rattle.std.proofs.lemmas.Bool.{cases_Bool, cases_lt, cond_both, cond-true, cond-false, eqb-true, eq-eqb, and_parts, or_left, or_right, leb-true, both_ways}
-use Rattle.sc_base.specs.Limits.{most_nodes}
-use Rattle.sc_base.specs.declared.names.Ballot.{Ballot}
-use Rattle.sc_cmd.specs.declared.commands.Command.{Command}
-use Rattle.sc_mail.specs.declared.bodies.MailBody.TheVariants.{Promise, Accepted}
-use Rattle.sc_base.specs.Roster.{is_member}
-use Rattle.sc_paxos_words.specs.declared.reports.Report.{Report}
-use Rattle.sc_paxos_words.specs.Leaders.{promise_counted}
-use Rattle.sc_node_table.specs.Election.{is_in_some, nodes_to, open_nodes}
-use Rattle.sc_node_table.specs.Pump.{pumped}
-use Rattle.sc_node_table.specs.Replica.{ReplicaState, Place, Executed, childless, name_of, next, set_at}
-use Rattle.sc_node_table.specs.Rows.{mailed}
-use Rattle.sc_node_table.specs.Slots.{numbers_from}
-use Rattle.sc_node_table.specs.Voting.{leads, promise_row, voted, accepted_row}
-use Rattle.sc_following_law.specs.Following.{Mark, Votes, Tells, Installs, Prepares, Promises, next_by, promise_by, Course, Sets, IsOpen}
-use Rattle.sc_following_law.specs.Rows.{answered}
-use Rattle.sc_following_law.specs.Offers.{AreAt}
-use Rattle.sc_following_law.specs.Tables.{marks_for, StepsBy, next_ballot}
-use Rattle.sc_following_law.proofs.Nodes.{states}
-use Rattle.sc_calm_rows_law.specs.Groups.{next_in, promise_in}
-use Rattle.sc_calm_rows_law.specs.Steps.{StepsTake, StatesTake, UncountedPass, IsToLead, StepsElect, StillIdle}
+use Rattle.std.proofs.lemmas.Bool.{cases_Bool, cases_lt, cond_both, cond-true, cond-false, eqb-true, and_parts, or_left, or_right, leb-true, both_ways}
+use Rattle.sc_base.specs.Definitions.{most_nodes, is_member}
+use Rattle.sc_node_table.specs.Values.{Ballot, Command, Promise, Accepted, Report}
+use Rattle.sc_paxos_words.specs.Definitions.{promise_counted}
+use Rattle.sc_node_table.specs.Definitions.{is_in_some, nodes_to, open_nodes, pumped, ReplicaState, Place, Executed, childless, name_of, next, set_at, mailed, numbers_from, leads, promise_row, voted, accepted_row}
+use Rattle.sc_following_law.specs.Definitions.{Mark, Votes, Tells, Installs, Prepares, Promises, next_by, promise_by, Course, Sets, IsOpen, answered, AreAt, marks_for, StepsBy, next_ballot}
+use Rattle.sc_following_law.proofs.Lemmas.{states, among_numbers as in_numbers}
+use Rattle.sc_calm_rows_law.specs.Definitions.{next_in, promise_in, StepsTake, StatesTake, UncountedPass, IsToLead, StepsElect, StillIdle}
 
 -- ---- a node that takes a mail
 
+-- A replica that takes a mail as its mark says takes it so in its group, where no leader takes a vote or a promise, and none that is to lead next executes the last entry.
 pub steps_take : StepsTake
 steps_take at births rows seat event base course mark r after row named me takes steps counts waits =
     let now_next = ap (next_in base seat.who) row.was in
@@ -42,6 +30,7 @@ steps_take at births rows seat event base course mark r after row named me takes
       waits = λ off stands least. subst (λ n. n < course.newest) (sym after_next) (waits off stands least);
     }
 
+-- So does a node that makes a replica of a state that a member sends.
 pub states_take : StatesTake
 states_take at births rows seat event base course me from slot state sets row takes firsts mine waits =
     let now_next = ap (next_in base seat.who) row.was in
@@ -75,6 +64,7 @@ module _ (r : ReplicaState) where
   uncounted_promise from ballot reports off =
       subst (λ (p : Place). StepsBy (Promises from ballot) r p) (sym (cond-false (leads ballot r) (pumped (record r { leader = (promise_counted from ballot reports r.leader).1 }, [])) (r, []) off)) (stays (Promises from ballot) refl refl (λ who. refl))
 
+-- A vote and a promise that no leader counts change nothing, and are not answered.
 pub uncounted_pass : UncountedPass
 uncounted_pass = record {
   vote = λ from ballot slot r off. uncounted_vote r from ballot slot off;
@@ -103,13 +93,6 @@ passed p who (x ∷ xs) e = by (p x) refl e (passed p who xs)
         by_head : (b : Bool) → eqb x who ≡ b → (b || is_member (filter p xs) who) ≡ true → p who ≡ true
         by_head true is e3 = ap p (sym (eqb-true x who is)) ∙ t
         by_head false is e3 = rest e3
-
-in_numbers : (count from who : ℕ) → from ≤ who → who < from + count → is_member (numbers_from from count) who ≡ true
-in_numbers zero from who low high = absurd (omega (arith, low, high))
-in_numbers (suc count) from who low high = elim (cases_lt from who) [
-  | inl lt ↦ or_right (eqb from who) (is_member (numbers_from (from + 1) count) who) (in_numbers count (from + 1) who (omega (arith, lt)) (omega (arith, high)))
-  | inr ge ↦ or_left (eqb from who) (is_member (numbers_from (from + 1) count) who) (eq-eqb from who (omega (arith, low, ge)))
-]
 
 module _ (at : Sets) (who : ℕ) where
   -- one of the sets has the node where it decides one of their slots
@@ -150,6 +133,7 @@ module _ (at : Sets) (course : Course) (slot : ℕ) (open_sets : List (List ℕ)
       let many = l.many in
       record { slot = f.0; from = f.1; to = omega (arith, high, many); decides = f.3 }
 
+-- One that is to lead a group, and elects itself by the last entry, does so in the group: it asks each node that decides an open slot to promise its ballot.
 pub steps_elect : StepsElect
 steps_elect at births rows seat event base course slot open_sets r after row named me takes steps lead =
     let after_next = ap (next_in base seat.who) row.is ∙ steps.reaches in
@@ -182,6 +166,7 @@ steps_elect at births rows seat event base course slot open_sets r after row nam
 
 -- ---- one that stays where it is
 
+-- A replica that stays where it is, and sends nothing of its group, does nothing in it.
 pub still_idle : StillIdle
 still_idle births rows seat event base course r after row takes same_next same_promise silent = record {
   takes = takes;

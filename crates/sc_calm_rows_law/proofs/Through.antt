@@ -1,18 +1,12 @@
 -- A group follows its leader through a journal, where each row keeps it so.
 use Rattle.std.proofs.Common.{◌≡◌, ℕ, List, [], ◌∷◌, ◌++◌, sym, ◌∙◌, ap, subst, append_assoc}
-use Rattle.sc_cmd.specs.declared.cores.Base.{Base}
-use Rattle.sc_cmd.specs.declared.orders.OrderLine.{OrderLine}
-use Rattle.sc_mail.specs.declared.bodies.Mail.{Mail}
-use Rattle.sc_actor.specs.declared.actors.Seat.{Seat}
-use Rattle.sc_actor.specs.declared.rows.Row.{Row}
-use Rattle.sc_orderly_law.specs.Timely.{AreInTime}
-use Rattle.sc_orderly_law.proofs.InTime.{by_time, last_in_time}
-use Rattle.sc_sound.specs.Players.{Player}
-use Rattle.sc_calm_law.specs.Charts.{players}
-use Rattle.sc_calm_law.specs.Totals.{Rows}
-use Rattle.sc_following_law.specs.Following.{Sets}
-use Rattle.sc_calm_rows_law.specs.Groups.{FollowsOn}
-use Rattle.sc_calm_rows_law.specs.Through.{EventsKeep, GroupsFollowThrough}
+use Rattle.sc_node_table.specs.Values.{Base, OrderLine, Mail, Seat, Row}
+use Rattle.sc_orderly_law.specs.Definitions.{AreInTime}
+use Rattle.sc_orderly_law.proofs.Lemmas.{by_time, last_in_time}
+use Rattle.sc_sound.specs.Definitions.{Player}
+use Rattle.sc_calm_law.specs.Definitions.{players, Rows}
+use Rattle.sc_following_law.specs.Definitions.{Sets}
+use Rattle.sc_calm_rows_law.specs.Definitions.{FollowsOn, EventsKeep, GroupsFollowThrough}
 
 module _ (at : Sets) (words : ℕ → ℕ → ℕ × ℕ) (births : List (Seat Player)) (journal : Rows) (base : Base) (keep : EventsKeep at words births journal base) where
   -- after these rows, if they begin the journal
@@ -32,6 +26,7 @@ module _ (at : Sets) (words : ℕ → ℕ → ℕ × ℕ) (births : List (Seat P
   before_in_time : AreInTime (players words births) journal → (rows more : Rows) → journal ≡ rows ++ more → AreInTime (players words births) rows
   before_in_time timely rows more is = λ before row after e. timely before row (after ++ more) (is ∙ (ap (λ rs. rs ++ more) e ∙ append_assoc before (row ∷ after) more))
 
+-- A group follows its leader through a journal whose rows come in time, if it does so at first and each event keeps it so.
 pub follow_through : GroupsFollowThrough
 follow_through at words births journal base timely first keep rows more is =
     by_time (players words births) (Begin at words births journal base keep) (λ all e. first) (after_row at words births journal base keep) rows (before_in_time at words births journal base keep timely rows more is) more is

@@ -2,40 +2,22 @@
 use Rattle.std.proofs.Common.{◌≡◌, ℕ, ◌||◌, not, nat_lt, eqb, true, List, [], length, Option, Some, None, inl, inr, refl, sym, ◌∙◌, ap, subst}
 use Rattle.std.specs.Option.{option_map}
 use Rattle.std.proofs.lemmas.Bool.{cond-true, cond-false, eq-eqb, le-ltb, or_from, not_from_true}
-use Rattle.sc_base.specs.Same.{same_draw}
-use Rattle.sc_base.specs.declared.names.Draw.{Draw}
-use Rattle.sc_base.proofs.NameLemmas.{draw_is, same_name}
-use Rattle.sc_cmd.specs.declared.cores.Base.{Base}
-use Rattle.sc_cmd.specs.declared.orders.OrderLine.{OrderLine}
+use Rattle.sc_base.specs.Definitions.{same_draw}
+use Rattle.sc_node_table.specs.Values.{Draw, Base, OrderLine, Refused, Mail, MailBody, Request, Answer, Prepare, Promise, Accept, Accepted, Nack, Learn, Ask, Install, TxPrepare, TxVote, TxOutcome, TxElsewhere, TxWatch, TxWatched, Told as ToldMail, Node, Client, Seat, Event, Deliver, Go, Input, Got}
+use Rattle.sc_base.proofs.Lemmas.{draw_is, same_name}
 use Rattle.sc_cmd.specs.declared.orders.OrderRefusal.TheVariants.{NotLeader}
-use Rattle.sc_cmd.specs.declared.orders.ToldResult.TheVariants.{Refused}
-use Rattle.sc_mail.specs.declared.bodies.Mail.{Mail}
-use Rattle.sc_mail.specs.declared.bodies.MailBody.{MailBody}
-use Rattle.sc_mail.specs.declared.bodies.MailBody.TheVariants.{Request, Answer, Prepare, Promise, Accept, Accepted, Nack, Learn, Ask, Install, TxPrepare, TxVote, TxOutcome, TxElsewhere, TxWatch, TxWatched, Told as ToldMail}
-use Rattle.sc_mail.specs.declared.roles.Role.TheVariants.{Node, Client}
-use Rattle.sc_actor.specs.declared.actors.Seat.{Seat}
-use Rattle.sc_actor.specs.declared.rows.Event.{Event}
-use Rattle.sc_actor.specs.declared.rows.Event.TheVariants.{Deliver, Go, Told}
-use Rattle.sc_actor.specs.declared.rows.Input.{Input}
-use Rattle.sc_actor.specs.declared.rows.Input.TheVariants.{Got, Go as GoInput, Told as ToldInput}
-use Rattle.sc_actor.specs.Mail.{mails, numbered}
-use Rattle.sc_actor.specs.Replay.{value, acted, input_of}
-use Rattle.sc_client_table.specs.Client.{Client as ClientState}
-use Rattle.sc_paxos_words.proofs.ListLemmas.{find_found}
-use Rattle.sc_node_table.specs.Mails.{told_desk}
-use Rattle.sc_node_table.specs.Node.{NodeState, replica_of, with_replica, with_new, group_of_mail, with_made, unknown, may_come, taken_by, routed, on_mail, group_of_order, ordered_of, on_order, absent, with_children}
-use Rattle.sc_node_table.specs.Ordering.{ordered_row}
-use Rattle.sc_node_table.specs.Replica.{ReplicaState, Place, Executed, name_of, last_slot}
-use Rattle.sc_node_table.specs.Rows.{mailed, made_by}
-use Rattle.sc_node_table.specs.Slots.{slots_ahead}
-use Rattle.sc_law_lemmas.proofs.Ways.{either_way}
-use Rattle.sc_sound.specs.Players.{Player, player_table}
-use Rattle.sc_calm_law.specs.Totals.{Rows}
-use Rattle.sc_calm_law.proofs.OwedParties.{apart, put_found, put_others, children_found}
-use Rattle.sc_following_law.specs.Following.{Mark, Asks, Votes, Tells, Installs, Prepares, Promises, mark_of, named_mark}
-use Rattle.sc_following_law.specs.Tables.{marks_for}
-use Rattle.sc_calm_rows_law.specs.Groups.{replicas_of, next_in, promise_in, mark_in, taken_mark}
-use Rattle.sc_calm_rows_law.specs.Turns.{IsSeat, IsIdleIn, LeavesAlone, IsBornOr, LeavesOrBears, made_children, AreAsBegun, OthersRowsAreIdle, IsReplicasRow, IsWholeState, RowsAreReplicas}
+use Rattle.sc_actor.specs.declared.rows.Event.TheVariants.{Told}
+use Rattle.sc_actor.specs.declared.rows.Input.TheVariants.{Go as GoInput, Told as ToldInput}
+use Rattle.sc_actor.specs.Definitions.{mails, numbered, value, acted, input_of}
+use Rattle.sc_client_table.specs.Definitions.{Client as ClientState}
+use Rattle.sc_paxos_words.proofs.Lemmas.{find_found}
+use Rattle.sc_node_table.specs.Definitions.{told_desk, NodeState, replica_of, with_replica, with_new, group_of_mail, with_made, unknown, may_come, taken_by, routed, on_mail, group_of_order, ordered_of, on_order, absent, with_children, ordered_row, ReplicaState, Place, Executed, name_of, last_slot, mailed, made_by, slots_ahead}
+use Rattle.sc_law_lemmas.proofs.Lemmas.{either_way}
+use Rattle.sc_sound.specs.Definitions.{Player, player_table}
+use Rattle.sc_calm_law.specs.Definitions.{Rows}
+use Rattle.sc_calm_law.proofs.Lemmas.{apart, put_found, put_others, children_found}
+use Rattle.sc_following_law.specs.Definitions.{Mark, Asks, Votes, Tells, Installs, Prepares, Promises, mark_of, named_mark, marks_for}
+use Rattle.sc_calm_rows_law.specs.Definitions.{replicas_of, next_in, promise_in, mark_in, taken_mark, IsSeat, IsIdleIn, LeavesAlone, IsBornOr, LeavesOrBears, made_children, AreAsBegun, OthersRowsAreIdle, IsReplicasRow, IsWholeState, RowsAreReplicas}
 use Rattle.sc_calm_rows_law.proofs.Hearing.{names_stay, others_hear_nothing, none_marked}
 use Rattle.sc_calm_rows_law.proofs.Viewing.{view_was, view_is, sent_is, new_others, new_is, Same, same_both, all_born, all_or}
 
@@ -253,6 +235,7 @@ client_idle births rows seat event base client born is takes None e = alone_by b
 client_idle births rows seat event base client born is takes (Some input) e =
     alone_by births rows seat event born (Client client) is (Some input) e base takes refl (λ who. others_hear_nothing.client base.core.id who client input)
 
+-- A row does nothing in any group but that of its mail or order, and in those whose child is born in it; a client's row does nothing in any.
 pub others_idle : OthersRowsAreIdle
 others_idle = record {
   client = λ births rows seat event base client born is takes. client_idle births rows seat event base client born is takes (input_of (mails rows) event) refl;
@@ -320,6 +303,7 @@ made_row births rows seat number mail group slot base sets node born is at comes
     (ap (λ (x : NodeState × List Mail). replica_of group x.0.replicas) step ∙ made.0)
     (ap (λ (x : NodeState × List Mail). x.1) step ∙ made.1)
 
+-- In the group of a mail or of an order the replica of the node does what its own table says, and what is sent of the group is what that sends; where there is none, it may be made of a state.
 pub rows_replicas : RowsAreReplicas
 rows_replicas = record {
   taken = λ births rows seat number mail group node r born is at comes named here.

@@ -2,31 +2,18 @@
 use Rattle.std.proofs.Common.{◌≡◌, ℕ, eqb, true, false, true≢false, cond, List, [], ◌∷◌, ◌++◌, find, Option, Some, None, inl, inr, refl, sym, ◌∙◌, ap, subst}
 use Rattle.std.specs.Prelude.{is_some}
 use Rattle.std.proofs.lemmas.Bool.{cases_Bool, cond_both, cond-true, cond-false, ne_eqb, eq-eqb}
-use Rattle.sc_base.specs.Same.{same_draw}
-use Rattle.sc_base.specs.declared.names.Draw.{Draw}
-use Rattle.sc_base.proofs.NameLemmas.{draw_is, same_name}
-use Rattle.sc_cmd.specs.declared.cores.Base.{Base}
-use Rattle.sc_cmd.specs.declared.orders.OrderLine.{OrderLine}
-use Rattle.sc_base.specs.Roster.{is_member}
-use Rattle.sc_mail.specs.declared.bodies.Mail.{Mail}
-use Rattle.sc_actor.specs.declared.actors.Seat.{Seat}
-use Rattle.sc_actor.specs.declared.rows.Event.{Event}
-use Rattle.sc_actor.specs.declared.rows.Input.{Input}
-use Rattle.sc_actor.specs.declared.rows.Row.{Row}
-use Rattle.sc_actor.specs.Mail.{mails}
-use Rattle.sc_actor.specs.Replay.{value, acted, input_of}
-use Rattle.sc_actor.specs.System.{row_of}
-use Rattle.sc_actor.proofs.Induction.{find-who}
-use Rattle.sc_actor.proofs.ReplayLemmas.{value-snoc}
-use Rattle.sc_node_table.specs.Node.{NodeState, replica_of, is_before, with_new, with_born, with_children}
-use Rattle.sc_node_table.specs.Replica.{ReplicaState, name_of, born_replica}
-use Rattle.sc_node_table.specs.Slots.{slots_ahead}
-use Rattle.sc_sound.specs.Players.{Player, player_table}
-use Rattle.sc_calm_law.specs.Totals.{Rows}
-use Rattle.sc_calm_law.proofs.OwedParties.{apart}
-use Rattle.sc_law_lemmas.proofs.Ways.{either_way}
-use Rattle.sc_calm_rows_law.specs.Groups.{replicas_of, replica_in, view_at, next_in, promise_in}
-use Rattle.sc_calm_rows_law.specs.Turns.{IsSeat, with_event, IsBornOr, AreAsBegun}
+use Rattle.sc_base.specs.Definitions.{same_draw, is_member}
+use Rattle.sc_node_table.specs.Values.{Draw, Base, OrderLine, Mail, Seat, Event, Input, Row}
+use Rattle.sc_base.proofs.Lemmas.{draw_is, same_name}
+use Rattle.sc_actor.specs.Definitions.{mails, value, acted, input_of, row_of}
+use Rattle.sc_actor.proofs.Lemmas.{find-who, value-snoc}
+use Rattle.sc_node_table.specs.Definitions.{NodeState, replica_of, is_before, with_new, with_born, with_children, ReplicaState, name_of, born_replica, slots_ahead}
+use Rattle.sc_sound.specs.Definitions.{Player, player_table}
+use Rattle.sc_calm_law.specs.Definitions.{Rows}
+use Rattle.sc_calm_law.proofs.Lemmas.{apart}
+use Rattle.sc_law_lemmas.proofs.Lemmas.{either_way}
+use Rattle.sc_calm_rows_law.specs.Definitions.{replicas_of, replica_in, view_at, next_in, promise_in, IsSeat, with_event, IsBornOr, AreAsBegun}
+pub use Rattle.sc_calm_law.proofs.OwedStrangers.{new_is}
 
 -- ---- journals
 
@@ -74,26 +61,13 @@ new_others name new (x ∷ replicas) ne =
     (λ _. ap (λ (o : Option ReplicaState). cond (same_draw (name_of x) name) (Some x) o) (new_others name new replicas ne))
     (λ _. cond-false (same_draw (name_of new) name) (Some new) (cond (same_draw (name_of x) name) (Some x) (replica_of name replicas)) (apart (name_of new) name ne))
 
--- one of this name is found where there was none
-pub new_is : (name : Draw) (new : ReplicaState) (replicas : List ReplicaState) → name_of new ≡ name → replica_of name replicas ≡ None → replica_of name (with_new new replicas) ≡ Some new
-new_is name new [] is none = cond-true (same_draw (name_of new) name) (Some new) None (same_name (name_of new) name is)
-new_is name new (x ∷ replicas) is none =
-    let away : same_draw (name_of x) name ≡ false = elim (cases_Bool (same_draw (name_of x) name)) [
-      | inl t ↦ (let bad : Some x ≡ None = sym (cond-true (same_draw (name_of x) name) (Some x) (replica_of name replicas) t) ∙ none in cc)
-      | inr f ↦ f
-    ] in
-    let rest : replica_of name replicas ≡ None = sym (cond-false (same_draw (name_of x) name) (Some x) (replica_of name replicas) away) ∙ none in
-    cond_both (is_before (name_of x) (name_of new)) (x ∷ with_new new replicas) (new ∷ x ∷ replicas) (λ l. replica_of name l ≡ Some new)
-    (λ _. cond-false (same_draw (name_of x) name) (Some x) (replica_of name (with_new new replicas)) away ∙ new_is name new replicas is rest)
-    (λ _. cond-true (same_draw (name_of new) name) (Some new) (cond (same_draw (name_of x) name) (Some x) (replica_of name replicas)) (same_name (name_of new) name is))
-
 -- a child of another name leaves it
 child_others : (name : Draw) (child : Base) (node : NodeState) → (child.core.id ≡ name → ⊥) → replica_of name (with_born child node).replicas ≡ replica_of name node.replicas
 child_others name child node ne =
     cond_both (is_some (replica_of child.core.id node.replicas)) node (record node { replicas = with_new (born_replica slots_ahead node.me child) node.replicas }) (λ n. replica_of name n.replicas ≡ replica_of name node.replicas)
     (λ _. refl) (λ _. new_others name (born_replica slots_ahead node.me child) node.replicas ne)
 
-child_me : (child : Base) (node : NodeState) → (with_born child node).me ≡ node.me
+pub child_me : (child : Base) (node : NodeState) → (with_born child node).me ≡ node.me
 child_me child node = either_way (λ (n : NodeState). n.me ≡ node.me) (is_some (replica_of child.core.id node.replicas)) node (record node { replicas = with_new (born_replica slots_ahead node.me child) node.replicas }) refl refl
 
 -- what a group's progress says of its replica

@@ -1,14 +1,9 @@
 -- What a replica that does not run does by mail that is no part of the agreement, and by an order.
 use Rattle.std.specs.Prelude.{◌≡◌, ℕ, false, []}
-use Rattle.sc_base.specs.Drawing.{Drawer}
-use Rattle.sc_base.specs.declared.names.Draw.{Draw}
-use Rattle.sc_cmd.specs.declared.orders.OrderLine.{OrderLine}
-use Rattle.sc_mail.specs.declared.bodies.MailBody.{MailBody}
-use Rattle.sc_node_table.specs.Ordering.{ordered_row}
-use Rattle.sc_node_table.specs.Replica.{ReplicaState, Place, next}
-use Rattle.sc_node_table.specs.Rows.{mailed}
-use Rattle.sc_following_law.specs.Leading.{IsAside}
-use Rattle.sc_following_law.specs.Tables.{marks_for}
+use Rattle.sc_base.specs.Definitions.{Drawer}
+use Rattle.sc_node_table.specs.Values.{Draw, OrderLine, MailBody}
+use Rattle.sc_node_table.specs.Definitions.{ordered_row, ReplicaState, Place, next, mailed}
+use Rattle.sc_following_law.specs.Definitions.{IsAside, marks_for}
 
 -- it stays where it is, does not run, takes the same one for the leader, and sends nothing of the group
 pub record IsUnmoved (name : Draw) (r : ReplicaState) (after : Place) : Type 0 where

@@ -1,14 +1,11 @@
 -- How groups begin, over players: those of a scenario at its birth, and the child of a split before that.
 use Rattle.std.specs.Prelude.{◌≡◌, ℕ, true, List, [], None}
-use Rattle.sc_base.specs.Among.{Among}
-use Rattle.sc_cmd.specs.declared.cores.Base.{Base}
-use Rattle.sc_base.specs.Roster.{is_member}
-use Rattle.sc_actor.specs.declared.actors.Seat.{Seat}
-use Rattle.sc_scenario.specs.Valid.{IsBounded}
+use Rattle.sc_base.specs.Definitions.{Among, is_member}
+use Rattle.sc_node_table.specs.Values.{Base, Seat}
+use Rattle.sc_scenario.specs.Definitions.{IsBounded}
 use Rattle.sc_scenario.specs.declared.scenarios.Scenario.{Scenario}
-use Rattle.sc_sound.specs.Players.{Player, births, as_nodes}
-use Rattle.sc_calm_law.specs.Charts.{players}
-use Rattle.sc_calm_law.specs.Totals.{Rows}
+use Rattle.sc_sound.specs.Definitions.{Player, births, as_nodes}
+use Rattle.sc_calm_law.specs.Definitions.{players, Rows}
 use Rattle.sc_calm_rows_law.specs.Groups.{view_at, marks_at, begun_course, IsFollowedAt}
 
 -- a group follows its first member, with the members that it began with, as at its birth

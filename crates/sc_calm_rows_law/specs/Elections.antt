@@ -1,22 +1,12 @@
 -- That a node which elects itself leads its group, and the group follows it.
 use Rattle.std.specs.Prelude.{◌≡◌, ℕ, suc, ◌≤◌, true, false, List, [], length}
-use Rattle.sc_cmd.specs.declared.commands.Command.{Command}
-use Rattle.sc_cmd.specs.declared.cores.Base.{Base}
-use Rattle.sc_mail.specs.declared.bodies.Mail.{Mail}
-use Rattle.sc_mail.specs.declared.bodies.MailBody.TheVariants.{Learn}
-use Rattle.sc_base.specs.Roster.{is_member}
-use Rattle.sc_actor.specs.declared.actors.Seat.{Seat}
-use Rattle.sc_paxos_words.specs.Ballots.{below}
-use Rattle.sc_node_table.specs.Execute.{entered}
-use Rattle.sc_node_table.specs.Node.{NodeState, is_node}
-use Rattle.sc_node_table.specs.Replica.{ReplicaState, name_of, next, members, last_slot}
-use Rattle.sc_node_table.specs.Rows.{mailed}
-use Rattle.sc_node_table.specs.Slots.{slots_ahead}
-use Rattle.sc_sound.specs.Players.{Player}
-use Rattle.sc_calm_law.specs.Totals.{Rows}
-use Rattle.sc_following_law.specs.Following.{Course, Sets, members_at}
-use Rattle.sc_following_law.specs.Offers.{AreAt}
-use Rattle.sc_following_law.specs.Tables.{MayElect, next_ballot}
+use Rattle.sc_node_table.specs.Values.{Command, Base, Mail, Learn, Seat}
+use Rattle.sc_base.specs.Definitions.{is_member}
+use Rattle.sc_paxos_words.specs.Definitions.{below}
+use Rattle.sc_node_table.specs.Definitions.{entered, NodeState, is_node, ReplicaState, name_of, next, members, last_slot, mailed, slots_ahead}
+use Rattle.sc_sound.specs.Definitions.{Player}
+use Rattle.sc_calm_law.specs.Definitions.{Rows}
+use Rattle.sc_following_law.specs.Definitions.{Course, Sets, members_at, AreAt, MayElect, next_ballot}
 use Rattle.sc_calm_rows_law.specs.Mailed.{IsScene, TakesMail, HoldsReplica, FollowsAfter}
 use Rattle.sc_calm_rows_law.specs.Steps.{elected_course}
 

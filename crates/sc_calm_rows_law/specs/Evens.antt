@@ -1,17 +1,13 @@
 -- What a group that follows its leader is in a quiet journal.
 use Rattle.std.specs.Prelude.{◌≡◌, ℕ, true, false, List, [], Some}
-use Rattle.sc_cmd.specs.declared.cores.Base.{Base}
-use Rattle.sc_base.specs.Roster.{IsRoster}
-use Rattle.sc_actor.specs.declared.actors.Seat.{Seat}
-use Rattle.sc_actor.specs.Walk.{is_quiet}
-use Rattle.sc_orderly_law.specs.Orderly.{is_born}
-use Rattle.sc_orderly_law.specs.Timely.{AreInTime}
-use Rattle.sc_node_table.specs.Replica.{ReplicaState}
-use Rattle.sc_sound.specs.Players.{Player}
-use Rattle.sc_calm_law.specs.Charts.{players}
-use Rattle.sc_calm_law.specs.Totals.{Rows}
-use Rattle.sc_following_law.specs.Following.{Course, Sets, IsEven, IsEvenLed}
-use Rattle.sc_following_law.specs.Leading.{IsLeadOf}
+use Rattle.sc_node_table.specs.Values.{Base, Seat}
+use Rattle.sc_base.specs.Definitions.{IsRoster}
+use Rattle.sc_actor.specs.Definitions.{is_quiet}
+use Rattle.sc_orderly_law.specs.Definitions.{is_born, AreInTime}
+use Rattle.sc_node_table.specs.Definitions.{ReplicaState}
+use Rattle.sc_sound.specs.Definitions.{Player}
+use Rattle.sc_calm_law.specs.Definitions.{players, Rows}
+use Rattle.sc_following_law.specs.Definitions.{Course, Sets, IsEven, IsEvenLed, IsLeadOf}
 use Rattle.sc_calm_rows_law.specs.Groups.{view_at, progress_at, marks_at, IsFollowedAt}
 
 -- All members of the group have executed all; and if it stands, the replica at the node of its ballot leads, to which each node of an open slot has promised, and no other runs.

@@ -1,28 +1,14 @@
 -- A group after some rows of players: its replicas, the marks of its mail that is under way, and how far it has come.
 use Rattle.std.specs.Prelude.{◌≡◌, ℕ, ◌==◌, true, List, [], find, if◌then◌else◌, Option, Some, None}
-use Rattle.sc_base.specs.declared.names.Ballot.{Ballot}
-use Rattle.sc_base.specs.declared.names.Draw.{Draw}
-use Rattle.sc_cmd.specs.declared.cores.Base.{Base}
-use Rattle.sc_cmd.specs.declared.orders.OrderLine.{OrderLine}
-use Rattle.sc_mail.specs.declared.bodies.Mail.{Mail}
-use Rattle.sc_mail.specs.declared.roles.Role.TheVariants.{Node, Client}
-use Rattle.sc_base.specs.Roster.{is_member}
-use Rattle.sc_actor.specs.declared.actors.Seat.{Seat}
-use Rattle.sc_actor.specs.declared.rows.Event.{Event}
-use Rattle.sc_actor.specs.declared.rows.Event.TheVariants.{Deliver, Tick, Go, Told, Crash, Drop, Again}
-use Rattle.sc_actor.specs.Mail.{numbered}
-use Rattle.sc_actor.specs.Replay.{value}
-use Rattle.sc_actor.specs.System.{System}
-use Rattle.sc_orderly_law.specs.Orderly.{rest}
-use Rattle.sc_node_table.specs.Node.{replica_of}
-use Rattle.sc_node_table.specs.Replica.{ReplicaState, next, first_ballot}
-use Rattle.sc_sound.specs.Players.{Player, player_table}
-use Rattle.sc_calm_law.specs.Charts.{players}
-use Rattle.sc_calm_law.specs.Quiet.{View}
-use Rattle.sc_calm_law.specs.Totals.{Rows}
-use Rattle.sc_following_law.specs.Following.{Mark, mark_of, marks_of, Course, Progress, Sets, IsFollowing}
-use Rattle.sc_following_law.specs.Leading.{IsLeadOf}
-use Rattle.sc_following_law.specs.Rows.{begun}
+use Rattle.sc_node_table.specs.Values.{Ballot, Draw, Base, OrderLine, Mail, Node, Client, Seat, Event, Deliver, Tick, Go, Crash, Drop, Again}
+use Rattle.sc_base.specs.Definitions.{is_member}
+use Rattle.sc_actor.specs.declared.rows.Event.TheVariants.{Told}
+use Rattle.sc_actor.specs.Definitions.{numbered, value, System}
+use Rattle.sc_orderly_law.specs.Definitions.{rest}
+use Rattle.sc_node_table.specs.Definitions.{replica_of, ReplicaState, next, first_ballot}
+use Rattle.sc_sound.specs.Definitions.{Player, player_table}
+use Rattle.sc_calm_law.specs.Definitions.{players, View, Rows}
+use Rattle.sc_following_law.specs.Definitions.{Mark, mark_of, marks_of, Course, Progress, Sets, IsFollowing, IsLeadOf, begun}
 
 -- the replicas of a player: a client has none
 abbrev pub replicas_of : Player → List ReplicaState

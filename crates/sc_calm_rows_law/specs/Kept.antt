@@ -1,24 +1,13 @@
 -- What keeps a group following its leader, row by row.
 use Rattle.std.specs.Prelude.{◌≡◌, ℕ, ◌+◌, ◌<◌, true, false, List, [], Some, None}
-use Rattle.sc_cmd.specs.declared.commands.Command.{Command}
-use Rattle.sc_base.specs.declared.names.Ballot.{Ballot}
-use Rattle.sc_cmd.specs.declared.cores.Base.{Base}
-use Rattle.sc_cmd.specs.declared.orders.OrderLine.{OrderLine}
-use Rattle.sc_mail.specs.declared.bodies.MailBody.TheVariants.{Prepare, Accept}
-use Rattle.sc_base.specs.Roster.{IsRoster, is_member}
-use Rattle.sc_actor.specs.declared.actors.Seat.{Seat}
-use Rattle.sc_actor.specs.declared.rows.Event.{Event}
-use Rattle.sc_orderly_law.specs.Timely.{AreInTime}
-use Rattle.sc_node_table.specs.Replica.{ReplicaState, Place, name_of, born_replica}
-use Rattle.sc_node_table.specs.Rows.{mailed}
-use Rattle.sc_node_table.specs.Slots.{slots_ahead}
-use Rattle.sc_law_lemmas.specs.Steps.{GoesOn}
-use Rattle.sc_sound.specs.Players.{Player}
-use Rattle.sc_calm_law.specs.Charts.{players}
-use Rattle.sc_calm_law.specs.Totals.{Rows}
-use Rattle.sc_following_law.specs.Following.{Course, Sets}
-use Rattle.sc_following_law.specs.Leading.{IsLeadOf}
-use Rattle.sc_following_law.specs.Rows.{IsIdle, Takes, Elects}
+use Rattle.sc_node_table.specs.Values.{Command, Ballot, Base, OrderLine, Prepare, Accept, Seat, Event}
+use Rattle.sc_base.specs.Definitions.{IsRoster, is_member}
+use Rattle.sc_orderly_law.specs.Definitions.{AreInTime}
+use Rattle.sc_node_table.specs.Definitions.{ReplicaState, Place, name_of, born_replica, mailed, slots_ahead}
+use Rattle.sc_law_lemmas.specs.Definitions.{GoesOn}
+use Rattle.sc_sound.specs.Definitions.{Player}
+use Rattle.sc_calm_law.specs.Definitions.{players, Rows}
+use Rattle.sc_following_law.specs.Definitions.{Course, Sets, IsLeadOf, IsIdle, Takes, Elects}
 use Rattle.sc_calm_rows_law.specs.Groups.{view_at, progress_at, begun_course, IsLedBy, IsFollowedAt}
 use Rattle.sc_calm_rows_law.specs.Steps.{led_course, elected_course, LedBy}
 use Rattle.sc_calm_rows_law.specs.Turns.{with_event, IsKind, LeavesAlone, LeavesOrBears, IsReplicasRow}

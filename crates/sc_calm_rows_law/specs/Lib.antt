@@ -10,3 +10,4 @@ pub mod Steps
 pub mod Through
 pub mod Turns
 pub mod WellKept
+pub mod Definitions

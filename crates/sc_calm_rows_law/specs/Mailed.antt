@@ -1,29 +1,14 @@
 -- That a node that takes mail of its group leaves the group following its leader.
 use Rattle.std.specs.Prelude.{◌≡◌, ℕ, suc, ◌<◌, ◌≤◌, true, false, List, [], Some, None}
-use Rattle.sc_base.specs.declared.names.Ballot.{Ballot}
-use Rattle.sc_cmd.specs.declared.commands.Command.{Command}
-use Rattle.sc_cmd.specs.declared.cores.Base.{Base}
-use Rattle.sc_cmd.specs.declared.orders.OrderLine.{OrderLine}
-use Rattle.sc_mail.specs.declared.bodies.Mail.{Mail}
-use Rattle.sc_mail.specs.declared.bodies.MailBody.TheVariants.{Prepare, Promise, Accept, Accepted, Learn, Install}
-use Rattle.sc_mail.specs.declared.roles.Role.TheVariants.{Node}
-use Rattle.sc_base.specs.Roster.{IsRoster, is_member}
-use Rattle.sc_actor.specs.declared.actors.Seat.{Seat}
-use Rattle.sc_actor.specs.declared.rows.Event.TheVariants.{Deliver, Told}
-use Rattle.sc_actor.specs.Mail.{mails, numbered}
-use Rattle.sc_actor.specs.Replay.{value}
-use Rattle.sc_orderly_law.specs.Timely.{AreInTime}
-use Rattle.sc_paxos_words.specs.declared.reports.Report.{Report}
-use Rattle.sc_node_table.specs.Execute.{entered}
-use Rattle.sc_node_table.specs.Node.{NodeState, replica_of, group_of_mail, may_come, group_of_order}
-use Rattle.sc_node_table.specs.Replica.{ReplicaState, first_ballot, last_slot}
-use Rattle.sc_node_table.specs.Rows.{mailed}
-use Rattle.sc_sound.specs.Players.{Player, player_table}
-use Rattle.sc_calm_law.specs.Charts.{players}
-use Rattle.sc_calm_law.specs.Totals.{Rows}
-use Rattle.sc_following_law.specs.Following.{Course, Sets}
-use Rattle.sc_following_law.specs.Leading.{StopsAlone, IsAside, DecidesNext}
-use Rattle.sc_following_law.specs.Tables.{Stays}
+use Rattle.sc_node_table.specs.Values.{Ballot, Command, Base, OrderLine, Mail, Prepare, Promise, Accept, Accepted, Learn, Install, Node, Seat, Deliver, Report}
+use Rattle.sc_base.specs.Definitions.{IsRoster, is_member}
+use Rattle.sc_actor.specs.declared.rows.Event.TheVariants.{Told}
+use Rattle.sc_actor.specs.Definitions.{mails, numbered, value}
+use Rattle.sc_orderly_law.specs.Definitions.{AreInTime}
+use Rattle.sc_node_table.specs.Definitions.{entered, NodeState, replica_of, group_of_mail, may_come, group_of_order, ReplicaState, first_ballot, last_slot, mailed}
+use Rattle.sc_sound.specs.Definitions.{Player, player_table}
+use Rattle.sc_calm_law.specs.Definitions.{players, Rows}
+use Rattle.sc_following_law.specs.Definitions.{Course, Sets, StopsAlone, IsAside, DecidesNext, Stays}
 use Rattle.sc_calm_rows_law.specs.Groups.{IsFollowedAt, FollowsOn}
 use Rattle.sc_calm_rows_law.specs.Steps.{WaitsStill}
 use Rattle.sc_calm_rows_law.specs.WellKept.{IsWellKept}

@@ -1,18 +1,14 @@
 -- Who sends what asks to accept or to promise: the node of its ballot.
 use Rattle.std.specs.Prelude.{◌≡◌, ℕ, true, List}
-use Rattle.sc_base.specs.Among.{Each}
-use Rattle.sc_mail.specs.declared.bodies.Mail.{Mail}
-use Rattle.sc_mail.specs.declared.bodies.MailBody.{MailBody}
-use Rattle.sc_mail.specs.declared.bodies.MailBody.TheVariants.{Request, Answer, Prepare, Promise, Accept, Accepted, Nack, Learn, Ask, Install, TxPrepare, TxVote, TxOutcome, TxElsewhere, TxWatch, TxWatched, Told}
-use Rattle.sc_actor.specs.declared.actors.Seat.{Seat}
-use Rattle.sc_actor.specs.Mail.{mails}
-use Rattle.sc_orderly_law.specs.Timely.{AreInTime}
-use Rattle.sc_mail.specs.declared.roles.Role.TheVariants.{Node, Client}
-use Rattle.sc_node_table.specs.Replica.{ReplicaState}
+use Rattle.sc_base.specs.Definitions.{Each}
+use Rattle.sc_node_table.specs.Values.{Mail, MailBody, Request, Answer, Prepare, Promise, Accept, Accepted, Nack, Learn, Ask, Install, TxPrepare, TxVote, TxOutcome, TxElsewhere, TxWatch, TxWatched, Told, Seat, Node, Client}
+use Rattle.sc_actor.specs.Definitions.{mails}
+use Rattle.sc_orderly_law.specs.Definitions.{AreInTime}
+use Rattle.sc_node_table.specs.Definitions.{ReplicaState}
 use Rattle.sc_scenario.specs.declared.scenarios.Scenario.{Scenario}
-use Rattle.sc_sound.specs.Players.{Player, births, as_nodes}
-use Rattle.sc_calm_law.specs.Charts.{players}
-use Rattle.sc_calm_law.specs.Totals.{Rows}
+use Rattle.sc_sound.specs.Definitions.{Player, births, as_nodes}
+use Rattle.sc_calm_law.specs.Definitions.{players, Rows}
+use Rattle.sc_law_lemmas.specs.Definitions.{IsKept}
 
 -- a body from a node: what it asks to accept or to promise is of a ballot of that node
 abbrev pub IsOwnAsking : ℕ → MailBody → Type 0
@@ -46,9 +42,9 @@ AreOwn mails = Each IsOwnMail mails
 abbrev pub RunsAlone : ReplicaState → Type 0
 RunsAlone r = r.running ≡ true → r.me ≡ r.leader.ballot.node
 
--- .. each of a player
+-- .. each of a player, which is kept as any replica is
 abbrev pub PlaysAlone : Player → Type 0
-PlaysAlone (Node node) = Each RunsAlone node.replicas
+PlaysAlone (Node node) = Each (λ r. IsKept node.me r × RunsAlone r) node.replicas
 PlaysAlone (Client client) = Unit {0}
 
 -- Where it is so at the births, all mail of a journal whose rows come in time is.

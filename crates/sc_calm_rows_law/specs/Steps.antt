@@ -1,28 +1,13 @@
 -- A row of a replica's table as one of its group's progress: its node takes a mail, elects itself, or does nothing.
 use Rattle.std.specs.Prelude.{◌≡◌, ℕ, suc, ◌<◌, true, false, List, [], length, Some, None, is_some}
-use Rattle.sc_base.specs.declared.names.Ballot.{Ballot}
-use Rattle.sc_cmd.specs.declared.cores.Base.{Base}
-use Rattle.sc_cmd.specs.declared.orders.OrderLine.{OrderLine}
-use Rattle.sc_mail.specs.declared.bodies.MailBody.TheVariants.{Promise, Accepted}
-use Rattle.sc_base.specs.Roster.{is_member, least_of}
-use Rattle.sc_actor.specs.declared.actors.Seat.{Seat}
-use Rattle.sc_actor.specs.declared.rows.Event.{Event}
-use Rattle.sc_actor.specs.Mail.{mails}
-use Rattle.sc_cmd.specs.declared.commands.Command.{Command}
-use Rattle.sc_paxos_words.specs.declared.reports.Report.{Report}
-use Rattle.sc_paxos_words.specs.Ballots.{below}
-use Rattle.sc_node_table.specs.Node.{is_node}
-use Rattle.sc_node_table.specs.Replica.{ReplicaState, Place, name_of, next, first_ballot}
-use Rattle.sc_node_table.specs.Rows.{mailed, made_by}
-use Rattle.sc_node_table.specs.Slots.{slots_ahead}
-use Rattle.sc_node_table.specs.Voting.{leads}
-use Rattle.sc_sound.specs.Players.{Player}
-use Rattle.sc_calm_law.specs.Totals.{Rows}
-use Rattle.sc_following_law.specs.Following.{Mark, Votes, Tells, Installs, Promises, Course, Sets, members_at}
-use Rattle.sc_following_law.specs.Leading.{voters_of, IsLeadOf, LeadsInto}
-use Rattle.sc_following_law.specs.Offers.{AreAt}
-use Rattle.sc_following_law.specs.Rows.{IsCount, IsIdle, Takes, Leads, Elects}
-use Rattle.sc_following_law.specs.Tables.{marks_for, StepsBy, ElectsBy, next_ballot}
+use Rattle.sc_node_table.specs.Values.{Ballot, Base, OrderLine, Promise, Accepted, Seat, Event, Command, Report}
+use Rattle.sc_base.specs.Definitions.{is_member, least_of}
+use Rattle.sc_actor.specs.Definitions.{mails}
+use Rattle.sc_paxos_words.specs.Definitions.{below}
+use Rattle.sc_node_table.specs.Definitions.{is_node, ReplicaState, Place, name_of, next, first_ballot, mailed, made_by, slots_ahead, leads}
+use Rattle.sc_sound.specs.Definitions.{Player}
+use Rattle.sc_calm_law.specs.Definitions.{Rows}
+use Rattle.sc_following_law.specs.Definitions.{Mark, Votes, Tells, Installs, Promises, Course, Sets, members_at, voters_of, IsLeadOf, LeadsInto, AreAt, IsCount, IsIdle, Takes, Leads, Elects, marks_for, StepsBy, ElectsBy, next_ballot}
 use Rattle.sc_calm_rows_law.specs.Groups.{progress_at, taken_mark}
 use Rattle.sc_calm_rows_law.specs.Turns.{with_event, IsKind, IsReplicasRow}
 

@@ -1,15 +1,10 @@
 -- That a group follows its leader through a journal, where each row keeps it so.
 use Rattle.std.specs.Prelude.{◌≡◌, ℕ, List, [], ◌++◌}
-use Rattle.sc_cmd.specs.declared.cores.Base.{Base}
-use Rattle.sc_cmd.specs.declared.orders.OrderLine.{OrderLine}
-use Rattle.sc_actor.specs.declared.actors.Seat.{Seat}
-use Rattle.sc_actor.specs.declared.rows.Event.{Event}
-use Rattle.sc_orderly_law.specs.Orderly.{IsCalmEvent}
-use Rattle.sc_orderly_law.specs.Timely.{AreInTime}
-use Rattle.sc_sound.specs.Players.{Player}
-use Rattle.sc_calm_law.specs.Charts.{players}
-use Rattle.sc_calm_law.specs.Totals.{Rows}
-use Rattle.sc_following_law.specs.Following.{Course, Sets}
+use Rattle.sc_node_table.specs.Values.{Base, OrderLine, Seat, Event}
+use Rattle.sc_orderly_law.specs.Definitions.{IsCalmEvent, AreInTime}
+use Rattle.sc_sound.specs.Definitions.{Player}
+use Rattle.sc_calm_law.specs.Definitions.{players, Rows}
+use Rattle.sc_following_law.specs.Definitions.{Course, Sets}
 use Rattle.sc_calm_rows_law.specs.Groups.{IsFollowedAt, FollowsOn}
 use Rattle.sc_calm_rows_law.specs.Turns.{IsSeat, with_event}
 

@@ -1,37 +1,15 @@
 -- What one row of players does to a group, as the rows of its progress say it.
 use Rattle.std.specs.Prelude.{◌≡◌, ℕ, ◌==◌, ◌≤◌, true, false, List, [], ◌∷◌, ◌++◌, length, find, Option, Some, None, ◌⊎◌}
-use Rattle.sc_base.specs.Among.{Each}
-use Rattle.sc_base.specs.Drawing.{Drawer}
-use Rattle.sc_base.specs.declared.names.Draw.{Draw}
-use Rattle.sc_cmd.specs.declared.cores.Base.{Base}
-use Rattle.sc_cmd.specs.declared.orders.OrderLine.{OrderLine}
-use Rattle.sc_mail.specs.declared.bodies.Mail.{Mail}
-use Rattle.sc_mail.specs.declared.bodies.MailBody.{MailBody}
-use Rattle.sc_mail.specs.declared.bodies.MailBody.TheVariants.{Install}
-use Rattle.sc_base.specs.Roster.{is_member}
-use Rattle.sc_mail.specs.declared.roles.Role.TheVariants.{Node, Client}
-use Rattle.sc_actor.specs.declared.actors.Seat.{Seat}
-use Rattle.sc_actor.specs.declared.rows.Event.{Event}
-use Rattle.sc_actor.specs.declared.rows.Event.TheVariants.{Deliver, Go, Told}
-use Rattle.sc_actor.specs.declared.rows.Input.{Input}
-use Rattle.sc_actor.specs.declared.rows.Row.{Row}
-use Rattle.sc_actor.specs.Mail.{mails, numbered}
-use Rattle.sc_actor.specs.Replay.{value}
-use Rattle.sc_actor.specs.System.{row_of}
-use Rattle.sc_orderly_law.specs.Timely.{AreInTime}
-use Rattle.sc_client_table.specs.Client.{Client as ClientState}
-use Rattle.sc_client_table.specs.Table.{table}
-use Rattle.sc_node_table.specs.Node.{NodeState, replica_of, group_of_mail, may_come, absent, group_of_order}
-use Rattle.sc_node_table.specs.Ordering.{ordered_row}
-use Rattle.sc_node_table.specs.Replica.{ReplicaState, Place, name_of, last_slot, born_replica}
-use Rattle.sc_node_table.specs.Rows.{mailed, made_by}
-use Rattle.sc_node_table.specs.Slots.{slots_ahead}
-use Rattle.sc_sound.specs.Players.{Player, player_table}
-use Rattle.sc_calm_law.specs.Charts.{players}
-use Rattle.sc_calm_law.specs.Totals.{Rows}
-use Rattle.sc_following_law.specs.Following.{Mark, mark_of, Course, Progress}
-use Rattle.sc_following_law.specs.Rows.{IsRow, IsIdle}
-use Rattle.sc_following_law.specs.Tables.{marks_for}
+use Rattle.sc_base.specs.Definitions.{Each, Drawer, is_member}
+use Rattle.sc_node_table.specs.Values.{Draw, Base, OrderLine, Mail, MailBody, Install, Node, Client, Seat, Event, Deliver, Go, Input, Row}
+use Rattle.sc_actor.specs.declared.rows.Event.TheVariants.{Told}
+use Rattle.sc_actor.specs.Definitions.{mails, numbered, value, row_of}
+use Rattle.sc_orderly_law.specs.Definitions.{AreInTime}
+use Rattle.sc_client_table.specs.Definitions.{Client as ClientState, table}
+use Rattle.sc_node_table.specs.Definitions.{NodeState, replica_of, group_of_mail, may_come, absent, group_of_order, ordered_row, ReplicaState, Place, name_of, last_slot, born_replica, mailed, made_by, slots_ahead}
+use Rattle.sc_sound.specs.Definitions.{Player, player_table}
+use Rattle.sc_calm_law.specs.Definitions.{players, Rows}
+use Rattle.sc_following_law.specs.Definitions.{Mark, mark_of, Course, Progress, IsRow, IsIdle, marks_for}
 use Rattle.sc_calm_rows_law.specs.Groups.{view_at, progress_at, marks_at, taken_mark}
 
 -- Each row that comes in time is a row of each group, whatever its course: the mark of the mail that is delivered is the first of its receiver's, what is sent to each comes behind its mail, and the other nodes stay where they are.

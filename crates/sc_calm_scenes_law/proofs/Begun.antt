@@ -1,29 +1,19 @@
 -- Before the first row of a scenario nothing is under way.
 use Rattle.std.proofs.Common.{◌≡◌, ℕ, zero, suc, eqb, Bool, List, [], ◌∷◌, ◌++◌, length, map, filter, find, Option, Some, None, refl, sym, ◌∙◌, ap, subst}
 use Rattle.std.proofs.lemmas.Bool.{cond_both}
-use Rattle.sc_base.specs.Among.{Each}
-use Rattle.sc_base.specs.Same.{same_draw}
-use Rattle.sc_base.specs.declared.names.Draw.{Draw}
-use Rattle.sc_cmd.specs.declared.cores.Base.{Base}
-use Rattle.sc_cmd.specs.declared.cores.Lock.TheVariants.{Free}
-use Rattle.sc_base.specs.Roster.{is_member}
-use Rattle.sc_actor.specs.declared.actors.Seat.{Seat}
-use Rattle.sc_actor.specs.System.{numbers_of}
-use Rattle.sc_paxos_words.proofs.ListLemmas.{Each-among, find_found}
-use Rattle.sc_node_table.specs.Node.{born_replicas, replica_of}
-use Rattle.sc_node_table.specs.Replica.{ReplicaState, name_of, born_replica}
-use Rattle.sc_node_table.specs.Slots.{slots_ahead, numbers_from}
-use Rattle.sc_scenario.specs.Groups.{base_at, bases_up_to}
-use Rattle.sc_scenario.specs.Valid.{IsBounded}
+use Rattle.sc_base.specs.Definitions.{Each, same_draw, is_member}
+use Rattle.sc_node_table.specs.Values.{Draw, Base, Free, Seat}
+use Rattle.sc_actor.specs.Definitions.{numbers_of}
+use Rattle.sc_paxos_words.proofs.Lemmas.{Each-among, find_found}
+use Rattle.sc_node_table.specs.Definitions.{born_replicas, replica_of, ReplicaState, name_of, born_replica, slots_ahead, numbers_from}
+use Rattle.sc_scenario.specs.Definitions.{base_at, bases_up_to, IsBounded}
 use Rattle.sc_scenario.specs.declared.drafts.GroupLine.{GroupLine}
 use Rattle.sc_scenario.specs.declared.scenarios.Asks.{Asks}
 use Rattle.sc_scenario.specs.declared.scenarios.Scenario.{Scenario}
-use Rattle.sc_sound.specs.Players.{Player, node_seat, client_seat, client_seats, route_of, births, as_nodes}
-use Rattle.sc_calm_orders_law.specs.Scenes.{Bond, Unbound, Work, Here, free}
-use Rattle.sc_calm_orders_law.specs.Parts.{bond_in, bond_of, works}
-use Rattle.sc_calm_rows_law.specs.Groups.{replicas_of, replica_in, view_at}
-use Rattle.sc_calm_scenes_law.specs.Begun.{ScenariosBeginStill}
-use Rattle.sc_calm_scenes_law.specs.Scenes.{lead_of, newest_of, bond_there, works_of, bond_by, work_at, scene_at}
+use Rattle.sc_sound.specs.Definitions.{Player, node_seat, client_seat, client_seats, route_of, births, as_nodes}
+use Rattle.sc_calm_orders_law.specs.Definitions.{Bond, Unbound, Work, Here, free, bond_in, bond_of, works}
+use Rattle.sc_calm_rows_law.specs.Definitions.{replicas_of, replica_in, view_at}
+use Rattle.sc_calm_scenes_law.specs.Definitions.{ScenariosBeginStill, lead_of, newest_of, bond_there, works_of, bond_by, work_at, scene_at}
 use Rattle.sc_calm_scenes_law.proofs.Newest.{IsNewest, newest_is}
 
 -- ---- lists
@@ -127,5 +117,6 @@ module _ (scenario : Scenario) (bounded : IsBounded scenario) where
         let lead = lead_of at (numbers_of seats) in
         ap (λ b. part b (work_at at lead)) (bond_fresh lead) ∙ ap (part Unbound) (work_fresh lead)
 
+-- Before the first row of a bounded scenario nothing is under way: all groups are free, no leader has work, and no mail is under way.
 pub scenarios_still : ScenariosBeginStill
 scenarios_still scenario bounded = record { parties = (tt, λ name none. part_fresh scenario bounded name); leads = tt; apart = tt; sound = tt }

@@ -1,44 +1,17 @@
 -- That an order stays under way where a vote is counted, and where an order is told.
 use Rattle.std.proofs.Common.{◌≡◌, ℕ, true, false, cond, List, [], ◌∷◌, ◌++◌, Option, Some, None, ◌⊎◌, inl, inr, refl, sym, ◌∙◌, ap, subst}
-use Rattle.sc_base.specs.declared.names.Draw.{Draw}
-use Rattle.sc_cmd.specs.declared.commands.Command.{Command}
-use Rattle.sc_cmd.specs.declared.orders.OrderLine.{OrderLine}
-use Rattle.sc_cmd.specs.declared.orders.OrderRefusal.{OrderRefusal}
-use Rattle.sc_machine_table.specs.Machine.{applied}
-use Rattle.sc_mail.specs.declared.bodies.Mail.{Mail}
-use Rattle.sc_mail.specs.declared.bodies.MailBody.TheVariants.{Accepted}
-use Rattle.sc_actor.specs.declared.actors.Seat.{Seat}
-use Rattle.sc_actor.specs.declared.rows.Event.{Event}
-use Rattle.sc_actor.specs.declared.rows.Event.TheVariants.{Deliver, Told}
-use Rattle.sc_node_table.specs.Node.{NodeState, group_of_order}
-use Rattle.sc_node_table.specs.Ordering.{ordered_row, untaken}
-use Rattle.sc_node_table.specs.Replica.{ReplicaState, Place, listed}
-use Rattle.sc_node_table.specs.Rows.{mailed}
-use Rattle.sc_node_table.specs.Spoken.{before_of, went_on}
-use Rattle.sc_paxos_words.specs.declared.flights.Flight.{Flight}
-use Rattle.sc_sound.specs.Players.{Player}
-use Rattle.sc_calm_law.specs.Totals.{Rows}
-use Rattle.sc_calm_orders_law.specs.Scenes.{First, Lone, Next, is_watch, Bond, Unbound, Asking, Errand, Question, Reply, Work, Opens, Answers, Records, Ends}
-use Rattle.sc_calm_orders_law.specs.Stages.{bound_by, Stage, IsAt, Still}
+use Rattle.sc_node_table.specs.Values.{Draw, Command, OrderLine, OrderRefusal, Mail, Accepted, Seat, Event, Deliver, Flight}
+use Rattle.sc_machine_table.specs.Definitions.{applied}
+use Rattle.sc_actor.specs.declared.rows.Event.TheVariants.{Told}
+use Rattle.sc_node_table.specs.Definitions.{NodeState, group_of_order, ordered_row, untaken, ReplicaState, Place, listed, mailed, before_of, went_on}
+use Rattle.sc_sound.specs.Definitions.{Player}
+use Rattle.sc_calm_law.specs.Definitions.{Rows}
+use Rattle.sc_calm_orders_law.specs.Definitions.{First, Lone, Next, is_watch, Bond, Unbound, Asking, Errand, Question, Reply, Work, Opens, Answers, Records, Ends, bound_by, Stage, IsAt, Still, Step, BeginsDeal, Votes, Aborts, Hears, IsFreed, LastFreed, OneFreed, TwoFreed, ByOrder, ByChange, ByDeal, ByVote, ByNo, ByHearing, ByDeciding, ByEnd, StepsBy, Kind, Changed, Opened, Voted, Aborted, Decided, Heard, Ended, results, work_by, works_in, works_flying, works_ready, works, bond_of, errands_for, EntryLeaves, FliesLone, Decides, RunsAlone, Works, MayFile}
 use Rattle.sc_calm_orders_law.specs.Follows as Follow
-use Rattle.sc_calm_orders_law.specs.Follows.{Step, Changes, BeginsDeal, Votes, Aborts, Hears, IsFreed, LastFreed, OneFreed, TwoFreed, ByOrder, ByChange, ByDeal, ByVote, ByNo, ByHearing, ByDeciding, ByEnd, StepsBy}
-use Rattle.sc_calm_orders_law.specs.Rows.{Kind, Changed, Opened, Voted, Aborted, Decided, Heard, Ended, results}
-use Rattle.sc_calm_orders_law.specs.Parts.{work_by, works_in, works_flying, works_ready, works, bond_of, errands_for}
-use Rattle.sc_calm_orders_law.specs.Entries.{EntryLeaves}
-use Rattle.sc_calm_orders_law.specs.Running.{FliesLone, Decides, RunsAlone}
-use Rattle.sc_calm_orders_law.specs.Tables.{Works, MayFile}
-use Rattle.sc_calm_orders_law.proofs.Begun.{changed-step, opened-step, voted-step}
-use Rattle.sc_calm_orders_law.proofs.Counting.{votes-count-alone}
-use Rattle.sc_calm_orders_law.proofs.Decided.{aborted-step, decided-step, heard-step, ended-step}
-use Rattle.sc_calm_orders_law.proofs.Ordering.{tables-order}
-use Rattle.sc_calm_orders_law.proofs.Runs.{entries-run-alone}
-use Rattle.sc_calm_orders_law.proofs.Told.{told-step}
-use Rattle.sc_calm_rows_law.specs.Turns.{with_event}
-use Rattle.sc_calm_scenes_law.specs.Scenes.{scene_at}
-use Rattle.sc_calm_scenes_law.specs.Turns.{errands_sent, IsSceneKind, IsOfGroup, IsTablesRow, LeadsAlone}
-use Rattle.sc_calm_scenes_law.specs.Kinds.{Stays, IsEntrysRow}
-use Rattle.sc_calm_scenes_law.specs.Kept.{StageAfter, KeepsStage, IsBeside, Led, Unled}
-use Rattle.sc_calm_scenes_law.specs.Counted.{IsCounting, IsEntry, StaysIn, VotesKeep, IsOrdered, OrdersKeep}
+use Rattle.sc_calm_orders_law.specs.Follows.{Changes}
+use Rattle.sc_calm_orders_law.proofs.Lemmas.{changed-step, opened-step, voted-step, votes-count-alone, aborted-step, decided-step, heard-step, ended-step, tables-order, entries-run-alone, told-step}
+use Rattle.sc_calm_rows_law.specs.Definitions.{with_event}
+use Rattle.sc_calm_scenes_law.specs.Definitions.{scene_at, errands_sent, IsSceneKind, IsOfGroup, IsTablesRow, LeadsAlone, Stays, IsEntrysRow, StageAfter, KeepsStage, IsBeside, Led, Unled, IsCounting, IsEntry, StaysIn, VotesKeep, IsOrdered, OrdersKeep}
 use Rattle.sc_calm_scenes_law.proofs.Doing.{only_as, asides_stay, asides_are, leaders_are, entries_are}
 use Rattle.sc_calm_scenes_law.proofs.Keeping.{IsOnward, rests_by, steps_by, event_of, after, row_of_comes, errand_is, lead_rests}
 use Rattle.sc_calm_scenes_law.proofs.Taking.{rows_taken}
@@ -99,6 +72,7 @@ freed_on group before after (LastFreed tx party e l g a) still = cc
 freed_on group before after (OneFreed tx one two e l g a) still = cc
 freed_on group before after (TwoFreed tx one two e l g a) still = cc
 
+-- So it does where a vote comes to a leader for the one command that it has in flight: that stays, or is decided and executed, and the row is of the kind of its entry.
 pub votes_keep : VotesKeep
 votes_keep = record {
   changed = λ words births rows seat number mail group flight r order c e is.
@@ -166,6 +140,7 @@ module _ (words : ℕ → ℕ → ℕ × ℕ) (births : List (Seat Player)) (row
       (asides_are.rests births rows seat told group (stays_by beside) refl
       (only_as [] (λ n. errands_for n place.1) (errands_sent rows seat told) (λ n. ap (errands_for n) row.1.sends) (tables-order.refused node.draws line why r e).sends))
 
+-- Where nothing is under way, an order that a leader is told begins to be, or is refused; one that is refused beside the leader changes nothing.
 pub orders_keep : OrdersKeep
 orders_keep = record {
   led = λ words births rows seat line node r o leads may still. led_by words births rows seat line node r o leads may still (untaken node.draws line r) refl;

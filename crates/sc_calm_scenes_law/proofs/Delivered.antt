@@ -1,55 +1,27 @@
 -- A delivery leaves the groups that an order has not touched as they were; so does the order, and so all deliveries behind it.
-use Rattle.sc_base.specs.Among.{Each}
-use Rattle.sc_calm_orders_law.specs.Scenes.{Elsewhere}
-use Rattle.sc_calm_rows_law.proofs.Mailing.{mailed_keeps, order_keeps}
-use Rattle.sc_calm_scenes_law.specs.Fresh.{IsErrandFor}
+use Rattle.sc_base.specs.Definitions.{Each}
+use Rattle.sc_calm_orders_law.specs.Definitions.{Elsewhere, Errand, Deal, Asks, Stage, Still, IsAt, errand_by, ByTaking}
+use Rattle.sc_calm_rows_law.proofs.Lemmas.{mailed_keeps, order_keeps, view_was, names_stay, found_name, none_some}
+use Rattle.sc_calm_scenes_law.specs.Definitions.{IsErrandFor, is_running, lead_of, scene_at, IsTaking, GoesBy, ComesTo, StageAfter, BesideFinds, FindsReplica, AtLeader, AtAnother, IsFresh, IsThere, AreThere, IsNowhere, AreUntouched, IsDelivered, after_all, AreDelivered, IsToldInQuiet, FreshGroupsStay}
 use Rattle.sc_calm_scenes_law.proofs.Fresh.{quiet_errands, absent_errand, got_nothing}
 use Rattle.std.proofs.Common.{◌≡◌, ◌⊎◌, ℕ, Bool, true, false, List, [], ◌∷◌, Option, Some, None, inl, inr, refl, sym, ◌∙◌, ap, subst}
 use Rattle.std.specs.Option.{option_map}
 use Rattle.std.proofs.lemmas.Bool.{cond-true, cond-false}
-use Rattle.sc_base.specs.declared.names.Draw.{Draw}
-use Rattle.sc_cmd.specs.declared.cores.Base.{Base}
-use Rattle.sc_cmd.specs.declared.orders.OrderLine.{OrderLine}
+use Rattle.sc_node_table.specs.Values.{Draw, Base, OrderLine, Refused, Mail, Node, Client, Seat, Event, Deliver, Got}
 use Rattle.sc_cmd.specs.declared.orders.OrderRefusal.TheVariants.{NotLeader}
-use Rattle.sc_cmd.specs.declared.orders.ToldResult.TheVariants.{Refused}
-use Rattle.sc_mail.specs.declared.bodies.Mail.{Mail}
-use Rattle.sc_mail.specs.declared.roles.Role.TheVariants.{Node, Client}
-use Rattle.sc_actor.specs.declared.actors.Seat.{Seat}
-use Rattle.sc_actor.specs.declared.rows.Event.{Event}
-use Rattle.sc_actor.specs.declared.rows.Event.TheVariants.{Deliver, Told}
-use Rattle.sc_actor.specs.declared.rows.Input.TheVariants.{Got, Told as ToldInput}
-use Rattle.sc_actor.specs.Mail.{mails, numbered}
-use Rattle.sc_actor.specs.Replay.{value}
-use Rattle.sc_actor.specs.System.{System, row_of, numbers_of}
-use Rattle.sc_calm_rows_law.proofs.Viewing.{view_was}
-use Rattle.sc_orderly_law.specs.Orderly.{IsCalmRow, is_born}
-use Rattle.sc_orderly_law.proofs.InTime.{in_time_before, in_time_tidy, last_in_time}
-use Rattle.sc_orderly_law.proofs.Resting.{TakesFirst, quiet-empty, is_born-from, takes_first}
-use Rattle.sc_node_table.specs.Node.{NodeState, replica_of, with_replica, with_children, group_of_mail, may_come, unknown, taken_by, routed, on_mail, absent, group_of_order, ordered_of}
-use Rattle.sc_node_table.specs.Mails.{told_desk}
-use Rattle.sc_node_table.specs.Ordering.{ordered_row}
-use Rattle.sc_node_table.specs.Replica.{ReplicaState, Place, Executed, name_of}
-use Rattle.sc_node_table.specs.Rows.{mailed}
-use Rattle.sc_law_lemmas.proofs.Ways.{either_way}
-use Rattle.sc_sound.specs.Players.{Player, player_table}
-use Rattle.sc_calm_law.specs.Charts.{players}
-use Rattle.sc_calm_law.specs.Totals.{Rows}
-use Rattle.sc_calm_law.proofs.OwedParties.{put_others}
-use Rattle.sc_calm_orders_law.specs.Scenes.{Errand}
-use Rattle.sc_calm_orders_law.specs.Stages.{Deal, Asks, Stage, Still, IsAt}
-use Rattle.sc_calm_orders_law.specs.Parts.{errand_by}
-use Rattle.sc_calm_orders_law.proofs.Lists.{cases-draw}
-use Rattle.sc_calm_rows_law.specs.Groups.{view_at}
-use Rattle.sc_calm_rows_law.specs.Turns.{with_event}
-use Rattle.sc_calm_rows_law.proofs.Hearing.{names_stay}
-use Rattle.sc_calm_rows_law.proofs.Turning.{found_name}
-use Rattle.sc_calm_scenes_law.specs.Scenes.{is_running, lead_of, scene_at}
-use Rattle.sc_calm_orders_law.specs.Follows.{ByTaking}
+use Rattle.sc_actor.specs.declared.rows.Event.TheVariants.{Told}
+use Rattle.sc_actor.specs.declared.rows.Input.TheVariants.{Told as ToldInput}
+use Rattle.sc_actor.specs.Definitions.{mails, numbered, value, System, row_of, numbers_of}
+use Rattle.sc_orderly_law.specs.Definitions.{IsCalmRow, is_born}
+use Rattle.sc_orderly_law.proofs.Lemmas.{in_time_before, in_time_tidy, last_in_time, TakesFirst, quiet-empty, is_born-from, takes_first}
+use Rattle.sc_node_table.specs.Definitions.{NodeState, replica_of, with_replica, with_children, group_of_mail, may_come, unknown, taken_by, routed, on_mail, absent, group_of_order, ordered_of, told_desk, ordered_row, ReplicaState, Place, Executed, name_of, mailed}
+use Rattle.sc_law_lemmas.proofs.Lemmas.{either_way}
+use Rattle.sc_sound.specs.Definitions.{Player, player_table}
+use Rattle.sc_calm_law.specs.Definitions.{players, Rows}
+use Rattle.sc_calm_law.proofs.Lemmas.{put_others}
+use Rattle.sc_calm_orders_law.proofs.Lemmas.{cases-draw}
+use Rattle.sc_calm_rows_law.specs.Definitions.{view_at, with_event}
 use Rattle.sc_calm_scenes_law.proofs.Newest.{lead_runs}
-use Rattle.sc_calm_scenes_law.specs.Taken.{IsTaking}
-use Rattle.sc_calm_scenes_law.specs.Kept.{GoesBy, ComesTo, StageAfter}
-use Rattle.sc_calm_scenes_law.specs.Found.{BesideFinds, FindsReplica, AtLeader, AtAnother}
-use Rattle.sc_calm_scenes_law.specs.Fresh.{IsFresh, IsThere, AreThere, IsNowhere, AreUntouched, IsDelivered, after_all, AreDelivered, IsToldInQuiet, FreshGroupsStay}
 use Rattle.sc_calm_scenes_law.proofs.Found.{IsQuestion, leader_asked, found_step}
 use Rattle.sc_calm_scenes_law.proofs.Keeping.{taken_on, row_of_comes}
 use Rattle.sc_calm_scenes_law.proofs.Left.{takes_one}
@@ -58,9 +30,6 @@ use Rattle.sc_calm_scenes_law.proofs.Taking.{errand_unknown, OneOf, all_children
 use Rattle.sc_calm_scenes_law.proofs.Turning.{calm_is}
 use Rattle.sc_calm_scenes_law.proofs.Untouched.{taken_back, step_back, step_there, begun_other, begun_there, fresh_errand, asked_fresh, sent_on_fresh}
 use Rattle.sc_calm_scenes_law.proofs.Fresh.{Leaves, left_view, left_mail, client_leaves, node_leaves, is_asked, asks_it, aside_is, unknown_apart}
-
-none_some : {X : Type 0} {x : X} → None ≡ Some x → ⊥
-none_some e = cc
 
 module _ (words : ℕ → ℕ → ℕ × ℕ) (births : List (Seat Player)) (quiet rows : Rows) (seat : Seat Player) (number : ℕ) (stage : Stage) (u : AreUntouched words births quiet rows stage) (d : IsDelivered words births quiet rows seat number) where
   abbrev s : System Player Mail OrderLine
@@ -315,6 +284,7 @@ all_so : (words : ℕ → ℕ → ℕ × ℕ) (births : List (Seat Player)) (qui
 all_so words births quiet rows [] u d = u
 all_so words births quiet rows (turn ∷ turns) u d = all_so words births quiet (with_event rows turn.0 (Deliver turn.1)) turns (let next = delivered_so words births quiet rows turn.0 turn.1 u.0 u.1 d.0 in (next.0, next.1)) d.1
 
+-- A group that an order has not touched so far has the replicas that it had in the quiet before the order, and all mail under way for it are errands. The groups that have a part in the order were there in that quiet, and one that is asked, and has not taken the question, is untouched.
 pub fresh_stay : FreshGroupsStay
 fresh_stay = record {
   begins = begun_so;

@@ -1,26 +1,16 @@
 -- Which kinds of rows the rows of a group are.
 use Rattle.std.proofs.Common.{◌≡◌, ℕ, eqb, true, false, true≢false, cond, List, [], ◌∷◌, ◌++◌, Option, Some, None, ◌⊎◌, inl, inr, sym, ◌∙◌, ap, subst}
 use Rattle.std.proofs.lemmas.Bool.{cases_Bool, eqb-true, eq-eqb}
-use Rattle.sc_base.specs.Among.{Each}
-use Rattle.sc_base.specs.declared.names.Draw.{Draw}
-use Rattle.sc_cmd.specs.declared.orders.OrderLine.{OrderLine}
-use Rattle.sc_actor.specs.declared.actors.Seat.{Seat}
-use Rattle.sc_actor.specs.declared.rows.Event.{Event}
-use Rattle.sc_actor.specs.Mail.{mails}
-use Rattle.sc_actor.specs.System.{numbers_of, row_of}
-use Rattle.sc_node_table.specs.Replica.{ReplicaState, Place}
-use Rattle.sc_sound.specs.Players.{Player, player_table}
-use Rattle.sc_calm_law.specs.Totals.{Rows}
-use Rattle.sc_calm_orders_law.specs.Scenes.{First, Lone, Next, is_watch, Bond, Unbound, Asking, Errand, Question, Reply, Work, Opens, Answers, Records, Ends, Scene, IsOnly}
-use Rattle.sc_calm_orders_law.specs.Stages.{bound_by}
-use Rattle.sc_calm_orders_law.specs.Rows.{GoesOn, Executes, results}
-use Rattle.sc_calm_orders_law.specs.Parts.{bond_of, works, errands_for}
-use Rattle.sc_calm_rows_law.specs.Groups.{view_at}
-use Rattle.sc_calm_rows_law.specs.Turns.{with_event}
-use Rattle.sc_calm_rows_law.proofs.Viewing.{view_others}
-use Rattle.sc_calm_scenes_law.specs.Scenes.{scene_at, taken_errand}
-use Rattle.sc_calm_scenes_law.specs.Turns.{errands_sent, IsTablesRow, LeadsAlone, NoneRuns}
-use Rattle.sc_calm_scenes_law.specs.Kinds.{Stays, IsUnled, AsidesStay, AsidesAre, IsLeadsRow, LeadersAre, IsEntrysRow, EntriesAre}
+use Rattle.sc_base.specs.Definitions.{Each}
+use Rattle.sc_node_table.specs.Values.{Draw, OrderLine, Seat, Event}
+use Rattle.sc_actor.specs.Definitions.{mails, numbers_of, row_of}
+use Rattle.sc_node_table.specs.Definitions.{ReplicaState, Place}
+use Rattle.sc_sound.specs.Definitions.{Player, player_table}
+use Rattle.sc_calm_law.specs.Definitions.{Rows}
+use Rattle.sc_calm_orders_law.specs.Definitions.{First, Lone, Next, is_watch, Bond, Unbound, Asking, Errand, Question, Reply, Work, Opens, Answers, Records, Ends, Scene, IsOnly, bound_by, GoesOn, Executes, results, bond_of, works, errands_for}
+use Rattle.sc_calm_rows_law.specs.Definitions.{view_at, with_event}
+use Rattle.sc_calm_rows_law.proofs.Lemmas.{view_others}
+use Rattle.sc_calm_scenes_law.specs.Definitions.{scene_at, taken_errand, errands_sent, IsTablesRow, LeadsAlone, NoneRuns, Stays, IsUnled, AsidesStay, AsidesAre, IsLeadsRow, LeadersAre, IsEntrysRow, EntriesAre}
 use Rattle.sc_calm_scenes_law.proofs.Parts.{same_part}
 use Rattle.sc_calm_scenes_law.proofs.Viewing.{tell}
 
@@ -193,6 +183,7 @@ module _ (births : List (Seat Player)) (rows : Rows) (seat : Seat Player) (event
         sends = sends_as r after row.table sent row.sends;
       }
 
+-- A row at a node without replica that makes none, one of a replica that does not run where another leads, and one where none runs leave their group as it is.
 pub asides_stay : AsidesStay
 asides_stay = record {
   missed = missed_stays;
@@ -200,6 +191,7 @@ asides_stay = record {
   unled = λ births rows seat event name r after table u. unled_stays births rows seat event name r after table u;
 }
 
+-- Such a row does nothing of the order, or passes a question on.
 pub asides_are : AsidesAre
 asides_are = record {
   rests = λ births rows seat event name stays none sends. record { takes = none; bond = stays.bond; work = stays.work; leads = stays.leads; sends = sends };
@@ -217,6 +209,7 @@ asides_are = record {
   };
 }
 
+-- A row of the leader alone does nothing of the order, or is that it is told one, takes what comes to it, or asks elsewhere, by the work that its table leaves and the errands that it sends.
 pub leaders_are : LeadersAre
 leaders_are = record {
   rests = λ births rows seat event name r after row none.
@@ -266,6 +259,7 @@ leaders_are = record {
       });
 }
 
+-- A row in which the leader alone executes the command that was its one work is of the kind of its entry, by the bond that this leaves and the errands that it sends.
 pub entries_are : EntriesAre
 entries_are = record {
   changed = λ births rows seat event name order r after row is.

@@ -1,22 +1,14 @@
 -- What each entry of an order leaves, by the laws of a group's table.
 use Rattle.std.proofs.Common.{◌≡◌, ℕ, Bool, true, false, List, [], ◌∷◌, Some, refl, subst}
-use Rattle.sc_base.specs.declared.names.Draw.{Draw}
-use Rattle.sc_cmd.specs.declared.commands.Command.{Command}
-use Rattle.sc_cmd.specs.declared.commands.Command.TheVariants.{Split, Begin, RecordVote}
+use Rattle.sc_node_table.specs.Values.{Draw, Command, Split, Begin, RecordVote, Mail, Seat}
 use Rattle.sc_cmd.specs.declared.votes.Vote.TheVariants as Says
-use Rattle.sc_mail.specs.declared.bodies.Mail.{Mail}
-use Rattle.sc_base.specs.Roster.{least_of}
-use Rattle.sc_actor.specs.declared.actors.Seat.{Seat}
-use Rattle.sc_node_table.specs.Replica.{ReplicaState}
-use Rattle.sc_sound.specs.Players.{Player}
-use Rattle.sc_calm_law.specs.Totals.{Rows}
-use Rattle.sc_calm_orders_law.specs.Scenes.{First, Lone, Next, Bond, Asking, Question, Work, Opens, Records}
-use Rattle.sc_calm_orders_law.specs.Parts.{work_by}
-use Rattle.sc_calm_orders_law.specs.Entries.{EntryLeaves}
-use Rattle.sc_calm_orders_law.proofs.Entries.{orders-leave, votes-leave}
-use Rattle.sc_calm_orders_law.proofs.Records.{records-leave, watch-records-leave, ends-leave}
-use Rattle.sc_calm_scenes_law.specs.Counted.{IsEntry}
-use Rattle.sc_calm_scenes_law.specs.Fitting.{IsSpoken, EntriesFit}
+use Rattle.sc_base.specs.Definitions.{least_of}
+use Rattle.sc_node_table.specs.Definitions.{ReplicaState}
+use Rattle.sc_sound.specs.Definitions.{Player}
+use Rattle.sc_calm_law.specs.Definitions.{Rows}
+use Rattle.sc_calm_orders_law.specs.Definitions.{First, Lone, Next, Bond, Asking, Question, Work, Opens, Records, work_by, EntryLeaves}
+use Rattle.sc_calm_orders_law.proofs.Lemmas.{orders-leave, votes-leave, records-leave, watch-records-leave, ends-leave}
+use Rattle.sc_calm_scenes_law.specs.Definitions.{IsEntry, IsSpoken, EntriesFit}
 
 -- by what it leaves, where it asks in its own name
 asks : (births : List (Seat Player)) (rows : Rows) (seat : Seat Player) (number : ℕ) (mail : Mail) (group : Draw) (work : Work) (bond : Bond) (tx asked : Draw) (watch : Bool) (node : ℕ) (command : Command) (r : ReplicaState) → work_by command ≡ Some work
@@ -28,6 +20,7 @@ asks births rows seat number mail group work bond tx asked watch node command r 
   newest = spoken.newest;
 }
 
+-- What each entry of an order leaves and sends is what its group's table says: an order of a group that is free, a vote that is true, a vote that is recorded, and an outcome that is taken.
 pub entries_fit : EntriesFit
 entries_fit = record {
   join = λ births rows seat number mail group r node order free spoken. record { work_is = refl; leaves = orders-leave.join node order seat.who r.group free; newest = spoken.newest };

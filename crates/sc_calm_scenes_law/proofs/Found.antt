@@ -1,45 +1,20 @@
 -- A row that finds what is said keeps an order under way: by the mail that it takes, and who takes it.
 use Rattle.std.proofs.Common.{◌≡◌, ℕ, Bool, true, false, List, [], Option, Some, None, refl, sym, ◌∙◌, ap, subst}
 use Rattle.std.specs.Option.{option_map}
-use Rattle.sc_base.specs.declared.names.Draw.{Draw}
-use Rattle.sc_base.specs.declared.names.Ballot.{Ballot}
-use Rattle.sc_base.specs.declared.ops.Op.{Op}
-use Rattle.sc_cmd.specs.declared.links.Route.{Route}
-use Rattle.sc_cmd.specs.declared.orders.OrderLine.{OrderLine}
+use Rattle.sc_node_table.specs.Values.{Draw, Ballot, Op, Route, OrderLine, Mail, MailBody, Request, Answer, Prepare, Promise, Accept, Accepted, Nack, Learn, Ask, Install, TxPrepare, TxVote, TxOutcome, TxElsewhere, TxWatch, TxWatched, Told as ToldMail, Node, Client, Seat, Event, Deliver, Tick, Go, Crash, Drop, Again}
 use Rattle.sc_mail.specs.declared.bodies.AnswerBody.TheVariants as Says
-use Rattle.sc_mail.specs.declared.bodies.Mail.{Mail}
-use Rattle.sc_mail.specs.declared.bodies.MailBody.{MailBody}
-use Rattle.sc_mail.specs.declared.bodies.MailBody.TheVariants.{Request, Answer, Prepare, Promise, Accept, Accepted, Nack, Learn, Ask, Install, TxPrepare, TxVote, TxOutcome, TxElsewhere, TxWatch, TxWatched, Told as ToldMail}
-use Rattle.sc_mail.specs.declared.roles.Role.TheVariants.{Node, Client}
-use Rattle.sc_base.specs.Limits.{client_actor}
-use Rattle.sc_actor.specs.declared.actors.Seat.{Seat}
-use Rattle.sc_actor.specs.declared.rows.Event.{Event}
-use Rattle.sc_actor.specs.declared.rows.Event.TheVariants.{Deliver, Tick, Go, Told, Crash, Drop, Again}
-use Rattle.sc_actor.specs.Mail.{mails, numbered}
-use Rattle.sc_actor.specs.Replay.{value}
-use Rattle.sc_actor.specs.System.{row_of}
-use Rattle.sc_orderly_law.specs.Timely.{AreInTime}
-use Rattle.sc_orderly_law.proofs.InTime.{last_in_time}
-use Rattle.sc_node_table.specs.Node.{NodeState, replica_of, group_of_mail, may_come, absent, unknown, group_of_order}
-use Rattle.sc_node_table.specs.Replica.{ReplicaState, name_of}
-use Rattle.sc_node_table.specs.Rows.{mailed, request_row, requested, call_refusal}
-use Rattle.sc_sound.specs.Players.{Player, player_table, births, as_nodes}
-use Rattle.sc_calm_law.specs.Charts.{players}
-use Rattle.sc_calm_law.specs.Totals.{Rows}
-use Rattle.sc_calm_orders_law.specs.Scenes.{Unbound, Bound, Errand, Question, Elsewhere, Reply, Result, Answers, Here, IsOnly}
-use Rattle.sc_calm_orders_law.specs.Follows.{IsTaken, Comes}
-use Rattle.sc_calm_orders_law.specs.Stages.{IsUnderWay}
-use Rattle.sc_calm_orders_law.specs.Tables.{IsUnbound, MayFile}
-use Rattle.sc_calm_orders_law.specs.Parts.{bond_of, errand_by, errands_for, is_yes, is_cast_yes}
-use Rattle.sc_calm_orders_law.proofs.Filing.{tables-file}
-use Rattle.sc_calm_orders_law.proofs.Errands.{errands-none}
-use Rattle.sc_calm_rows_law.specs.Turns.{IsSeat, with_event}
-use Rattle.sc_calm_scenes_law.specs.Asked.{IsAsking, IsWaiting, Expects}
-use Rattle.sc_calm_scenes_law.specs.Counted.{IsOrdered}
-use Rattle.sc_calm_scenes_law.specs.Found.{LeaderFinds, BesideFinds, FindsReplica, AtLeader, AtAnother, NodeFinds, FindsFlight, Late, Leaves, Changed, Opened, Voted, Aborted, Decided, Heard, Ended, FindsQuiet, ByLeader, ByAnother, FindsOrder, FoundOrdersStep, FoundOrdersKeep, FoundOrdersGoThrough}
-use Rattle.sc_calm_scenes_law.specs.Kept.{KeepsStage, ComesTo, ComesToLeader, ComesBeside, ComesToNone}
-use Rattle.sc_calm_scenes_law.specs.Scenes.{scene_at}
-use Rattle.sc_calm_scenes_law.specs.Taken.{IsTaking}
+use Rattle.sc_base.specs.Definitions.{client_actor}
+use Rattle.sc_actor.specs.declared.rows.Event.TheVariants.{Told}
+use Rattle.sc_actor.specs.Definitions.{mails, numbered, value, row_of}
+use Rattle.sc_orderly_law.specs.Definitions.{AreInTime}
+use Rattle.sc_orderly_law.proofs.Lemmas.{last_in_time}
+use Rattle.sc_node_table.specs.Definitions.{NodeState, replica_of, group_of_mail, may_come, absent, unknown, group_of_order, ReplicaState, name_of, mailed, request_row, requested, call_refusal}
+use Rattle.sc_sound.specs.Definitions.{Player, player_table, births, as_nodes}
+use Rattle.sc_calm_law.specs.Definitions.{players, Rows}
+use Rattle.sc_calm_orders_law.specs.Definitions.{Unbound, Bound, Errand, Question, Elsewhere, Reply, Result, Answers, Here, IsOnly, IsTaken, Comes, IsUnderWay, IsUnbound, MayFile, bond_of, errand_by, errands_for, is_yes, is_cast_yes}
+use Rattle.sc_calm_orders_law.proofs.Lemmas.{tables-file, errands-none}
+use Rattle.sc_calm_rows_law.specs.Definitions.{IsSeat, with_event}
+use Rattle.sc_calm_scenes_law.specs.Definitions.{IsAsking, IsWaiting, Expects, IsOrdered, LeaderFinds, BesideFinds, FindsReplica, AtLeader, AtAnother, NodeFinds, FindsFlight, Late, Leaves, Changed, Opened, Voted, Aborted, Decided, Heard, Ended, FindsQuiet, ByLeader, ByAnother, FindsOrder, FoundOrdersStep, FoundOrdersKeep, FoundOrdersGoThrough, KeepsStage, ComesTo, ComesToLeader, ComesBeside, ComesToNone, scene_at, IsTaking}
 use Rattle.sc_calm_scenes_law.proofs.Asked.{asked_keep}
 use Rattle.sc_calm_scenes_law.proofs.Begun.{scenarios_still}
 use Rattle.sc_calm_scenes_law.proofs.Counting.{votes_keep, orders_keep}
@@ -51,9 +26,7 @@ use Rattle.sc_calm_scenes_law.proofs.Over.{begin_in_quiet, go_through}
 use Rattle.sc_calm_scenes_law.proofs.Reaching.{errand_among, answers_reach}
 use Rattle.sc_calm_scenes_law.proofs.Turning.{calm_is}
 use Rattle.sc_calm_scenes_law.proofs.Viewing.{tell}
-
-none_some : {X : Type 0} {x : X} → None ≡ Some x → ⊥
-none_some e = cc
+use Rattle.sc_calm_rows_law.proofs.Lemmas.{none_some}
 
 -- ---- a request beside the leader
 
@@ -281,12 +254,15 @@ found_keeps : (words : ℕ → ℕ → ℕ × ℕ) (births : List (Seat Player))
     → FindsOrder words births rows seat event → KeepsStage births rows seat event
 found_keeps words births rows seat event born timely finds = player_keeps words births rows seat born event timely finds (value player_table seat rows) refl
 
+-- A row that finds what `FindsOrder` says, by the mail that it takes or the order that it tells, leaves the stage of an order, or is a step of its group to one that follows.
 pub found_step : FoundOrdersStep
 found_step words births rows seat event born timely finds stage a = found_keeps words births rows seat event born timely finds (stage, a)
 
+-- So it keeps an order under way.
 pub found_keep : FoundOrdersKeep
 found_keep words births rows seat event born timely finds under = (let to = found_keeps words births rows seat event born timely finds under in (to.0, to.1))
 
+-- So an order stays under way through a journal of a bounded scenario that comes in time, if each of its rows finds that.
 pub found_through : FoundOrdersGoThrough
 found_through words scenario journal bounded timely finds =
     go_through words (births as_nodes scenario) journal timely (scenarios_still scenario bounded) (λ rows seat event born t. found_keeps words (births as_nodes scenario) rows seat event born t (finds rows seat event born t))

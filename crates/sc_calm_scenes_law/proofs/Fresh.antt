@@ -1,61 +1,29 @@
 -- The groups that an order has not touched stay as they were, row by row.
-use Rattle.sc_base.specs.Among.{Each}
-use Rattle.sc_base.specs.Same.{same_draw}
-use Rattle.sc_base.proofs.NameLemmas.{same_name}
+use Rattle.sc_base.specs.Definitions.{Each, same_draw}
+use Rattle.sc_base.proofs.Lemmas.{same_name}
 use Rattle.std.specs.List.{filter}
-use Rattle.sc_mail.specs.declared.bodies.AnswerBody.{AnswerBody}
-use Rattle.sc_client_table.specs.Table.{got, table}
-use Rattle.sc_paxos_words.proofs.ListLemmas.{Each-append}
-use Rattle.sc_calm_law.proofs.OwedParties.{apart}
-use Rattle.sc_calm_orders_law.specs.Parts.{is_yes, is_cast_yes}
-use Rattle.sc_calm_orders_law.specs.Scenes.{Question, Elsewhere, Reply, Result}
-use Rattle.sc_following_law.specs.Following.{Asks, Votes, Tells, Installs, Prepares, Promises}
-use Rattle.sc_calm_rows_law.proofs.Silent.{AreQuiet, wide_mark}
-use Rattle.sc_calm_rows_law.proofs.Mailing.{made_keeps}
-use Rattle.sc_calm_scenes_law.specs.Fresh.{IsErrandFor}
+use Rattle.sc_node_table.specs.Values.{AnswerBody, Draw, OrderLine, Mail, MailBody, Request, Answer, Prepare, Promise, Accept, Accepted, Nack, Learn, Ask, Install, TxPrepare, TxVote, TxOutcome, TxElsewhere, TxWatch, TxWatched, Told as ToldMail, Node, Client, Seat, Event, Input}
+use Rattle.sc_client_table.specs.Definitions.{got, table, Client as ClientState}
+use Rattle.sc_paxos_words.proofs.Lemmas.{Each-append}
+use Rattle.sc_calm_law.proofs.Lemmas.{apart}
+use Rattle.sc_calm_orders_law.specs.Definitions.{is_yes, is_cast_yes, Question, Elsewhere, Reply, Result, Errand, errand_by}
+use Rattle.sc_following_law.specs.Definitions.{Asks, Votes, Tells, Installs, Prepares, Promises, Mark}
+use Rattle.sc_calm_rows_law.proofs.Lemmas.{AreQuiet, wide_mark, made_keeps, names_stay, view_others, view_was, view_is, sent_is, new_others, none_some}
+use Rattle.sc_calm_scenes_law.specs.Definitions.{IsErrandFor, BesideFinds}
 use Rattle.std.proofs.Common.{◌≡◌, ℕ, eqb, Bool, true, false, cond, List, [], ◌∷◌, ◌&&◌, ◌||◌, not, nat_lt, length, drop, Option, Some, None, ◌⊎◌, inl, inr, refl, sym, ◌∙◌, ap, subst}
 use Rattle.std.proofs.lemmas.Bool.{cases_Bool, eq-eqb, eqb-true}
-use Rattle.sc_base.specs.declared.names.Draw.{Draw}
-use Rattle.sc_cmd.specs.declared.orders.OrderLine.{OrderLine}
-use Rattle.sc_mail.specs.declared.bodies.Mail.{Mail}
-use Rattle.sc_mail.specs.declared.bodies.MailBody.{MailBody}
-use Rattle.sc_mail.specs.declared.bodies.MailBody.TheVariants.{Request, Answer, Prepare, Promise, Accept, Accepted, Nack, Learn, Ask, Install, TxPrepare, TxVote, TxOutcome, TxElsewhere, TxWatch, TxWatched, Told as ToldMail}
-use Rattle.sc_mail.specs.declared.roles.Role.TheVariants.{Node, Client}
-use Rattle.sc_actor.specs.declared.actors.Seat.{Seat}
-use Rattle.sc_actor.specs.declared.rows.Event.{Event}
-use Rattle.sc_actor.specs.declared.rows.Input.{Input}
-use Rattle.sc_actor.specs.Mail.{mails, is_delivery}
-use Rattle.sc_actor.specs.Replay.{value, acted, input_of}
-use Rattle.sc_actor.specs.System.{System, row_of}
-use Rattle.sc_orderly_law.specs.Orderly.{rest, mail_for, taken}
-use Rattle.sc_orderly_law.specs.Timely.{AreInTime}
-use Rattle.sc_orderly_law.proofs.InTime.{in_time_before, in_time_tidy, last_in_time}
-use Rattle.sc_orderly_law.proofs.Resting.{rest-calm}
-use Rattle.sc_node_table.specs.Node.{NodeState, replica_of, with_made, group_of_mail, unknown, absent}
-use Rattle.sc_node_table.specs.Replica.{ReplicaState, Place, last_slot}
-use Rattle.sc_node_table.specs.Rows.{mailed, made_by}
-use Rattle.sc_node_table.specs.Slots.{slots_ahead}
-use Rattle.sc_node_table.specs.Transactions.{sent_elsewhere}
-use Rattle.sc_client_table.specs.Client.{Client as ClientState}
-use Rattle.sc_law_lemmas.proofs.Ways.{either_way}
-use Rattle.sc_sound.specs.Players.{Player, player_table}
-use Rattle.sc_following_law.specs.Following.{Mark}
-use Rattle.sc_calm_law.specs.Charts.{players}
-use Rattle.sc_calm_law.specs.Totals.{Rows}
-use Rattle.sc_calm_orders_law.specs.Scenes.{Errand}
-use Rattle.sc_calm_orders_law.specs.Parts.{errand_by}
-use Rattle.sc_calm_orders_law.proofs.Filing.{offer_is, watch_row_is}
-use Rattle.sc_calm_rows_law.specs.Groups.{view_at}
-use Rattle.sc_calm_rows_law.specs.Turns.{IsSeat, with_event}
-use Rattle.sc_calm_rows_law.proofs.Hearing.{names_stay}
-use Rattle.sc_calm_rows_law.proofs.Viewing.{view_others, view_was, view_is, sent_is, new_others}
-use Rattle.sc_calm_scenes_law.specs.Found.{BesideFinds}
+use Rattle.sc_actor.specs.Definitions.{mails, is_delivery, value, acted, input_of, System, row_of}
+use Rattle.sc_orderly_law.specs.Definitions.{rest, mail_for, taken, AreInTime}
+use Rattle.sc_orderly_law.proofs.Lemmas.{in_time_before, in_time_tidy, last_in_time, rest-calm}
+use Rattle.sc_node_table.specs.Definitions.{NodeState, replica_of, with_made, group_of_mail, unknown, absent, ReplicaState, Place, last_slot, mailed, made_by, slots_ahead, sent_elsewhere}
+use Rattle.sc_law_lemmas.proofs.Lemmas.{either_way}
+use Rattle.sc_sound.specs.Definitions.{Player, player_table}
+use Rattle.sc_calm_law.specs.Definitions.{players, Rows}
+use Rattle.sc_calm_orders_law.proofs.Lemmas.{offer_is, watch_row_is}
+use Rattle.sc_calm_rows_law.specs.Definitions.{view_at, IsSeat, with_event}
 use Rattle.sc_calm_scenes_law.proofs.Found.{IsQuestion}
 use Rattle.sc_calm_scenes_law.proofs.Taking.{now_is, was_is, all_sent}
 use Rattle.sc_calm_scenes_law.proofs.Untouched.{Questions}
-
-none_some : {X : Type 0} {x : X} → None ≡ Some x → ⊥
-none_some e = cc
 
 -- ---- mail
 
@@ -97,7 +65,7 @@ each_drop {X = X} P true (x ∷ xs) e = at_zero xs e.1
     at_zero (x ∷ xs) e = e
 each_drop P false (x ∷ xs) e = e
 
-each_filter : {X : Type 0} (P : X → Type 0) (test : X → Bool) (xs : List X) → Each P xs → Each P (filter test xs)
+pub each_filter : {X : Type 0} (P : X → Type 0) (test : X → Bool) (xs : List X) → Each P xs → Each P (filter test xs)
 each_filter P test [] e = tt
 each_filter P test (x ∷ xs) e = either_way (Each P) (test x) (x ∷ filter test xs) (filter test xs) (e.0, each_filter P test xs e.1) (each_filter P test xs e.1)
 

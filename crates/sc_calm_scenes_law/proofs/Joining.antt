@@ -2,38 +2,17 @@
 use Rattle.std.proofs.Common.{◌≡◌, ℕ, ◌||◌, not, nat_lt, eqb, true, false, true≢false, List, [], length, Some, None, inl, inr, refl, sym, ◌∙◌, ap, subst}
 use Rattle.std.specs.Option.{option_map}
 use Rattle.std.proofs.lemmas.Bool.{cond-true, cond-false, eq-eqb, le-ltb, or_from, not_from_true}
-use Rattle.sc_base.specs.declared.names.Draw.{Draw}
-use Rattle.sc_cmd.specs.declared.cores.Base.{Base}
-use Rattle.sc_cmd.specs.declared.orders.OrderLine.{OrderLine}
-use Rattle.sc_mail.specs.declared.bodies.Mail.{Mail}
-use Rattle.sc_mail.specs.declared.bodies.MailBody.TheVariants.{Install}
-use Rattle.sc_mail.specs.declared.roles.Role.TheVariants.{Node}
-use Rattle.sc_base.specs.Roster.{is_member}
-use Rattle.sc_actor.specs.declared.actors.Seat.{Seat}
-use Rattle.sc_actor.specs.declared.rows.Event.{Event}
-use Rattle.sc_actor.specs.declared.rows.Event.TheVariants.{Deliver}
-use Rattle.sc_actor.specs.declared.rows.Input.TheVariants.{Got}
-use Rattle.sc_actor.specs.Replay.{acted, input_of}
-use Rattle.sc_actor.specs.Mail.{mails}
-use Rattle.sc_node_table.specs.Node.{NodeState, with_made, unknown, group_of_mail, may_come, routed, taken_by, on_mail}
-use Rattle.sc_node_table.specs.Replica.{ReplicaState, Place, name_of, last_slot, installed_replica, forgotten}
-use Rattle.sc_node_table.specs.Execute.{looked}
-use Rattle.sc_node_table.specs.Install.{named}
-use Rattle.sc_node_table.specs.Rows.{made_by, looked_up}
-use Rattle.sc_node_table.specs.Slots.{slots_ahead}
-use Rattle.sc_sound.specs.Players.{Player, player_table}
-use Rattle.sc_calm_law.specs.Totals.{Rows}
-use Rattle.sc_calm_orders_law.specs.Parts.{errand_by, errands_for}
-use Rattle.sc_calm_rows_law.specs.Groups.{view_at}
-use Rattle.sc_calm_rows_law.specs.Turns.{with_event, IsWholeState}
-use Rattle.sc_calm_rows_law.proofs.Hearing.{names_stay}
-use Rattle.sc_calm_rows_law.proofs.Turning.{rows_replicas}
-use Rattle.sc_calm_rows_law.proofs.Viewing.{new_others}
-use Rattle.sc_calm_scenes_law.specs.Scenes.{errand_in, errand_taken}
-use Rattle.sc_calm_scenes_law.specs.Turns.{LeadsAlone, NoneRuns}
-use Rattle.sc_calm_scenes_law.specs.Kinds.{Stays}
-use Rattle.sc_calm_scenes_law.specs.Kept.{KeepsStage, ComesToNone}
-use Rattle.sc_calm_scenes_law.specs.Making.{MayJoin, Led, Unled, StatesKeep}
+use Rattle.sc_node_table.specs.Values.{Draw, Base, OrderLine, Mail, Install, Node, Seat, Event, Deliver, Got}
+use Rattle.sc_base.specs.Definitions.{is_member}
+use Rattle.sc_actor.specs.Definitions.{acted, input_of, mails}
+use Rattle.sc_node_table.specs.Definitions.{NodeState, with_made, unknown, group_of_mail, may_come, routed, taken_by, on_mail, ReplicaState, Place, name_of, last_slot, installed_replica, forgotten, looked, named, made_by, looked_up, slots_ahead}
+use Rattle.sc_sound.specs.Definitions.{Player, player_table}
+use Rattle.sc_calm_law.specs.Definitions.{Rows}
+use Rattle.sc_calm_orders_law.specs.Definitions.{errand_by, errands_for}
+use Rattle.sc_calm_rows_law.specs.Definitions.{view_at, with_event, IsWholeState}
+use Rattle.sc_calm_rows_law.proofs.Lemmas.{names_stay, rows_replicas, new_others}
+use Rattle.sc_calm_scenes_law.specs.Definitions.{errand_in, errand_taken, LeadsAlone, NoneRuns, Stays, KeepsStage, ComesToNone, MayJoin, StatesKeep}
+use Rattle.sc_calm_scenes_law.specs.Making.{Led, Unled}
 use Rattle.sc_calm_scenes_law.proofs.Doing.{who_or, others_same, asides_are}
 use Rattle.sc_calm_scenes_law.proofs.Keeping.{rests_by}
 use Rattle.sc_calm_scenes_law.proofs.Taking.{now_is, was_is, all_sent}
@@ -116,5 +95,6 @@ states_by words births rows seat number mail group slot base sets c body may mem
     (asides_are.rests births rows seat (Deliver number) group (joins births rows seat (Deliver number) group place.0 row.was row.is rests.0 joins_so) (ap (option_map (λ entry. entry.1)) none)
     (tt, λ name away_from. ap (errands_for name) (all_sent births rows seat (Deliver number) node t.seated t.is_node step (Some (Got mail)) got does ∙ rests.1)))
 
+-- An order stays under way where a node makes its replica of a whole state that a member sends.
 pub states_keep : StatesKeep
 states_keep = states_by

@@ -1,37 +1,16 @@
 -- That an order stays under way: by the laws of tables, and the kinds of rows.
 use Rattle.std.proofs.Common.{◌≡◌, ℕ, Bool, true, false, List, [], ◌∷◌, Some, None, inl, inr, refl, sym, ◌∙◌, ap, subst}
 use Rattle.std.specs.Option.{option_map}
-use Rattle.sc_base.specs.declared.names.Draw.{Draw}
-use Rattle.sc_cmd.specs.declared.orders.OrderLine.{OrderLine}
-use Rattle.sc_mail.specs.declared.bodies.Mail.{Mail}
-use Rattle.sc_mail.specs.declared.bodies.MailBody.{MailBody}
-use Rattle.sc_mail.specs.declared.bodies.MailBody.TheVariants.{Accept, Prepare, Promise, Nack, Learn, Install, TxPrepare, TxVote, TxOutcome, TxElsewhere, TxWatch, TxWatched}
-use Rattle.sc_actor.specs.declared.actors.Seat.{Seat}
-use Rattle.sc_actor.specs.declared.rows.Event.{Event}
-use Rattle.sc_actor.specs.declared.rows.Event.TheVariants.{Deliver}
-use Rattle.sc_actor.specs.Mail.{mails}
-use Rattle.sc_node_table.specs.Node.{NodeState, absent}
-use Rattle.sc_node_table.specs.Replica.{ReplicaState, Place, name_of}
-use Rattle.sc_node_table.specs.Rows.{mailed}
-use Rattle.sc_sound.specs.Players.{Player}
-use Rattle.sc_calm_law.specs.Totals.{Rows}
-use Rattle.sc_calm_orders_law.specs.Scenes.{Asking, is_watch, Turn, Errand, Question, Elsewhere, Reply, Result, Work, Answers, Records, Ends, IsOnly}
-use Rattle.sc_calm_orders_law.specs.Rows.{Kind, Rests, PassesOn, AsksOn, Files, work_for}
-use Rattle.sc_calm_orders_law.specs.Stages.{Stage, Still, IsUnderWay}
-use Rattle.sc_calm_orders_law.specs.Follows.{Step, Passes, AsksAgain, IsTaken, OfQuestion, OfVote, OfOutcome, LastTakes, OneTakes, TwoTakes, Comes, IsStepOf, ByPassing, ByAsking, ByTaking, StepsBy}
-use Rattle.sc_calm_orders_law.specs.Parts.{bond_of, is_yes, is_cast_yes, works, errand_by, errands_for}
-use Rattle.sc_calm_orders_law.specs.Tables.{Works}
-use Rattle.sc_calm_orders_law.proofs.Filing.{tables-file, tables-pass, tables-ask-on}
-use Rattle.sc_calm_orders_law.proofs.Questions.{passes-step, asks-step, files-step}
-use Rattle.sc_calm_orders_law.proofs.Resting.{tables-rest, promises-keep}
-use Rattle.sc_calm_orders_law.proofs.Told.{rests-step}
-use Rattle.sc_calm_rows_law.specs.Turns.{with_event}
-use Rattle.sc_calm_rows_law.proofs.Turning.{found_name}
-use Rattle.sc_calm_scenes_law.specs.Scenes.{scene_at, errand_in, taken_errand}
-use Rattle.sc_calm_scenes_law.specs.Turns.{errands_sent, IsSceneKind, IsOfGroup, IsTablesRow}
-use Rattle.sc_calm_scenes_law.specs.Taken.{IsTaking}
-use Rattle.sc_calm_scenes_law.specs.Kinds.{Stays, IsLeadsRow}
-use Rattle.sc_calm_scenes_law.specs.Kept.{IsEventOf, KeepsStage, ComesTo, ComesToLeader, LeadersKeep, IsBeside, Led, Unled, ComesBeside, ComesToNone, AsidesKeep}
+use Rattle.sc_node_table.specs.Values.{Draw, OrderLine, Mail, MailBody, Accept, Prepare, Promise, Nack, Learn, Install, TxPrepare, TxVote, TxOutcome, TxElsewhere, TxWatch, TxWatched, Seat, Event, Deliver}
+use Rattle.sc_actor.specs.Definitions.{mails}
+use Rattle.sc_node_table.specs.Definitions.{NodeState, absent, ReplicaState, Place, name_of, mailed}
+use Rattle.sc_sound.specs.Definitions.{Player}
+use Rattle.sc_calm_law.specs.Definitions.{Rows}
+use Rattle.sc_calm_orders_law.specs.Definitions.{Asking, is_watch, Turn, Errand, Question, Elsewhere, Reply, Result, Work, Answers, Records, Ends, IsOnly, Kind, Rests, PassesOn, AsksOn, Files, work_for, Stage, Still, IsUnderWay, Step, Passes, AsksAgain, IsTaken, OfQuestion, OfVote, OfOutcome, LastTakes, OneTakes, TwoTakes, Comes, IsStepOf, ByPassing, ByAsking, ByTaking, StepsBy, bond_of, is_yes, is_cast_yes, works, errand_by, errands_for, Works}
+use Rattle.sc_calm_orders_law.proofs.Lemmas.{tables-file, tables-pass, tables-ask-on, passes-step, asks-step, files-step, tables-rest, promises-keep, rests-step}
+use Rattle.sc_calm_rows_law.specs.Definitions.{with_event}
+use Rattle.sc_calm_rows_law.proofs.Lemmas.{found_name}
+use Rattle.sc_calm_scenes_law.specs.Definitions.{scene_at, errand_in, taken_errand, errands_sent, IsSceneKind, IsOfGroup, IsTablesRow, IsTaking, Stays, IsLeadsRow, IsEventOf, KeepsStage, ComesTo, ComesToLeader, LeadersKeep, IsBeside, Led, Unled, ComesBeside, ComesToNone, AsidesKeep}
 use Rattle.sc_calm_scenes_law.proofs.Doing.{only_as, asides_stay, asides_are, leaders_are}
 use Rattle.sc_calm_scenes_law.proofs.Taking.{takes, misses}
 use Rattle.sc_calm_scenes_law.proofs.Turning.{rows_are}
@@ -174,6 +153,7 @@ module _ (words : ℕ → ℕ → ℕ × ℕ) (births : List (Seat Player)) (row
       (ap (λ o. option_map (λ x. x.1) (errand_in o)) c.taking.sent ∙ (ap (option_map (λ x. x.1)) has ∙ ap Some is))
       (subst (λ n. IsOnly [] ((coord, Elsewhere tx n ∷ []) ∷ []) (errands_sent rows seat event)) (sym from) sent))
 
+-- An order stays under way where its leader takes a question on which no vote stands, a vote for which it waits, the outcome of the transaction that binds it, or that it is to ask elsewhere; and where it is asked to accept or to promise, or is promised.
 pub leaders_keep : LeadersKeep
 leaders_keep = record {
   offer = λ words births rows seat number mail group r tx offer c e may none.
@@ -201,6 +181,7 @@ leaders_keep = record {
       (subst (λ w. Works w [] r (mailed mail.from (Promise named ballot []) (r, [])).0) (sym one) (promises-keep mail.from named ballot work r unbound one));
 }
 
+-- So it does where a question comes to one that does not lead, or to a node without replica, and where such a one is asked to accept or to promise, learns an entry, or takes over a state.
 pub asides_keep : AsidesKeep
 asides_keep = record {
   offer = λ words births rows seat number mail group r tx offer c e by stopped none.

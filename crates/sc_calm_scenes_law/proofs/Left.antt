@@ -2,25 +2,15 @@
 use Rattle.std.proofs.Common.{◌≡◌, ℕ, zero, suc, ◌-◌, ◌<◌, List, [], ◌∷◌, ◌++◌, Bool, true, replicate, Some, None, refl, sym, ◌∙◌, ap, subst, arith, append_assoc, get_or}
 use Rattle.std.specs.Prelude.{slice_get}
 use Rattle.std.specs.List.{filter}
-use Rattle.sc_base.specs.declared.names.Draw.{Draw}
-use Rattle.sc_cmd.specs.declared.orders.OrderLine.{OrderLine}
-use Rattle.sc_mail.specs.declared.bodies.Mail.{Mail}
-use Rattle.sc_actor.specs.declared.actors.Seat.{Seat}
-use Rattle.sc_actor.specs.declared.rows.Event.{Event}
-use Rattle.sc_actor.specs.declared.rows.Event.TheVariants.{Deliver}
-use Rattle.sc_actor.specs.declared.rows.Row.{Row}
-use Rattle.sc_actor.specs.Mail.{mails, copies, counts_at, numbered}
-use Rattle.sc_actor.specs.Steps.{IsUnderWay}
-use Rattle.sc_actor.specs.System.{System}
-use Rattle.sc_actor.proofs.PendingLemmas.{waiting_one}
-use Rattle.sc_orderly_law.specs.Orderly.{IsCalmEvent, mail_with}
-use Rattle.sc_orderly_law.proofs.Rests.{less_at}
-use Rattle.sc_orderly_law.proofs.Resting.{after-row}
-use Rattle.sc_sound.specs.Players.{Player}
-use Rattle.sc_calm_law.specs.Charts.{players}
-use Rattle.sc_calm_law.specs.Totals.{Rows}
-use Rattle.sc_calm_orders_law.specs.Parts.{errand_by, errand_for, errands_for}
-use Rattle.sc_calm_scenes_law.specs.Scenes.{left_after}
+use Rattle.sc_node_table.specs.Values.{Draw, OrderLine, Mail, Seat, Event, Deliver, Row}
+use Rattle.sc_actor.specs.Definitions.{mails, copies, counts_at, numbered, IsUnderWay, System}
+use Rattle.sc_actor.proofs.Lemmas.{waiting_one}
+use Rattle.sc_orderly_law.specs.Definitions.{IsCalmEvent, mail_with}
+use Rattle.sc_orderly_law.proofs.Lemmas.{less_at, after-row}
+use Rattle.sc_sound.specs.Definitions.{Player}
+use Rattle.sc_calm_law.specs.Definitions.{players, Rows}
+use Rattle.sc_calm_orders_law.specs.Definitions.{errand_by, errand_for, errands_for}
+use Rattle.sc_calm_scenes_law.specs.Definitions.{left_after}
 
 -- ---- lists
 

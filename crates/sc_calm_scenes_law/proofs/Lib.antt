@@ -18,3 +18,4 @@ pub mod Taking
 pub mod Turning
 pub mod Untouched
 pub mod Viewing
+pub mod Lemmas

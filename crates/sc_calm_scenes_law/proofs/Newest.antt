@@ -1,10 +1,10 @@
 -- Who of some nodes leads, and which replica at them is the newest.
 use Rattle.std.proofs.Common.{◌≡◌, ℕ, ◌≤◌, nat_le, true, false, true≢false, cond, List, [], ◌∷◌, Option, Some, None, inl, inr, refl, sym, ◌∙◌, ap, subst, arith}
 use Rattle.std.proofs.lemmas.Bool.{cases_Bool, cond-true, cond-false, cond_both, leb-true, leb-false}
-use Rattle.sc_base.specs.Among.{Among, Each}
-use Rattle.sc_node_table.specs.Replica.{ReplicaState, next}
-use Rattle.sc_paxos_words.proofs.ListLemmas.{find_found, find_nothing}
-use Rattle.sc_calm_scenes_law.specs.Scenes.{is_running, lead_of, later, newest_of}
+use Rattle.sc_base.specs.Definitions.{Among, Each}
+use Rattle.sc_node_table.specs.Definitions.{ReplicaState, next}
+use Rattle.sc_paxos_words.proofs.Lemmas.{find_found, find_nothing}
+use Rattle.sc_calm_scenes_law.specs.Definitions.{is_running, lead_of, later, newest_of}
 
 -- ---- who leads
 

@@ -2,42 +2,24 @@
 use Rattle.std.proofs.Common.{◌≡◌, ℕ, ◌+◌, nat_le, cond, List, [], ◌∷◌, ◌++◌, length, Option, Some, None, inl, refl, sym, ◌∙◌, ap}
 use Rattle.std.specs.Option.{option_map}
 use Rattle.std.proofs.lemmas.Bool.{cond-true, cond-false}
-use Rattle.sc_base.specs.Among.{Each}
-use Rattle.sc_base.specs.declared.names.Draw.{Draw}
-use Rattle.sc_base.specs.declared.ops.Op.{Op}
-use Rattle.sc_cmd.specs.declared.orders.OrderLine.{OrderLine}
+use Rattle.sc_base.specs.Definitions.{Each}
+use Rattle.sc_node_table.specs.Values.{Draw, Op, OrderLine, Refused, AnswerBody, Mail, MailBody, Request, Answer, Prepare, Promise, Accept, Accepted, Nack, Learn, Ask, Install, TxPrepare, TxVote, TxOutcome, TxElsewhere, TxWatch, TxWatched, Told as ToldMail, Node as ANode, Client as AClient, Seat, Event, Deliver, Go as Goes, Input, Got}
 use Rattle.sc_cmd.specs.declared.orders.OrderRefusal.TheVariants.{NotLeader}
-use Rattle.sc_cmd.specs.declared.orders.ToldResult.TheVariants.{Refused}
-use Rattle.sc_mail.specs.declared.bodies.AnswerBody.{AnswerBody}
 use Rattle.sc_mail.specs.declared.bodies.AnswerBody.TheVariants as Says
-use Rattle.sc_mail.specs.declared.bodies.Mail.{Mail}
-use Rattle.sc_mail.specs.declared.bodies.MailBody.{MailBody}
-use Rattle.sc_mail.specs.declared.bodies.MailBody.TheVariants.{Request, Answer, Prepare, Promise, Accept, Accepted, Nack, Learn, Ask, Install, TxPrepare, TxVote, TxOutcome, TxElsewhere, TxWatch, TxWatched, Told as ToldMail}
-use Rattle.sc_mail.specs.declared.roles.Role.TheVariants.{Node as ANode, Client as AClient}
-use Rattle.sc_actor.specs.declared.actors.Seat.{Seat}
-use Rattle.sc_actor.specs.declared.rows.Event.{Event}
-use Rattle.sc_actor.specs.declared.rows.Event.TheVariants.{Deliver, Go as Goes, Told as Orders}
-use Rattle.sc_actor.specs.declared.rows.Input.{Input}
-use Rattle.sc_actor.specs.declared.rows.Input.TheVariants.{Got, Tick, Go, Told}
-use Rattle.sc_actor.specs.Mail.{mails, numbered}
-use Rattle.sc_actor.specs.Replay.{value, acted, input_of}
-use Rattle.sc_client_table.specs.Client.{Client, waiting_request}
-use Rattle.sc_client_table.specs.Table.{ClientStep, asked_of, sent_to, sent_where, chosen_for, request_sent, started, client_ticked, waits_for, was_asked, redirected, answer_taken, got, table}
-use Rattle.sc_lookup.specs.Known.{target_in, preferring, passed_on, told_not_mine, told_gone}
-use Rattle.sc_law_lemmas.proofs.Ways.{either_way}
-use Rattle.sc_orderly_law.specs.Timely.{AreInTime}
-use Rattle.sc_node_table.specs.Mails.{told_desk}
-use Rattle.sc_node_table.specs.Node.{NodeState, replica_of, group_of_mail, may_come, absent, taken_by, routed, on_mail, ordered_of, on_order}
-use Rattle.sc_sound.specs.Players.{Player, player_table}
-use Rattle.sc_calm_law.specs.Charts.{players}
-use Rattle.sc_calm_law.specs.Totals.{Rows}
-use Rattle.sc_calm_orders_law.specs.Parts.{errand_by, errand_for, errands_for}
-use Rattle.sc_calm_rows_law.specs.Groups.{replicas_of}
-use Rattle.sc_calm_rows_law.specs.Turns.{IsSeat, with_event}
-use Rattle.sc_calm_rows_law.proofs.Viewing.{view_was, view_is, sent_is}
-use Rattle.sc_calm_scenes_law.specs.Scenes.{errand_in, errand_taken}
-use Rattle.sc_calm_scenes_law.specs.Kept.{KeepsStage}
-use Rattle.sc_calm_scenes_law.specs.Resting.{OthersKeep}
+use Rattle.sc_actor.specs.declared.rows.Event.TheVariants.{Told as Orders}
+use Rattle.sc_actor.specs.declared.rows.Input.TheVariants.{Tick, Go, Told}
+use Rattle.sc_actor.specs.Definitions.{mails, numbered, value, acted, input_of}
+use Rattle.sc_client_table.specs.Definitions.{Client, waiting_request, ClientStep, asked_of, sent_to, sent_where, chosen_for, request_sent, started, client_ticked, waits_for, was_asked, redirected, answer_taken, got, table}
+use Rattle.sc_lookup.specs.Definitions.{target_in, preferring, passed_on, told_not_mine, told_gone}
+use Rattle.sc_law_lemmas.proofs.Lemmas.{either_way}
+use Rattle.sc_orderly_law.specs.Definitions.{AreInTime}
+use Rattle.sc_node_table.specs.Definitions.{told_desk, NodeState, replica_of, group_of_mail, may_come, absent, taken_by, routed, on_mail, ordered_of, on_order}
+use Rattle.sc_sound.specs.Definitions.{Player, player_table}
+use Rattle.sc_calm_law.specs.Definitions.{players, Rows}
+use Rattle.sc_calm_orders_law.specs.Definitions.{errand_by, errand_for, errands_for}
+use Rattle.sc_calm_rows_law.specs.Definitions.{replicas_of, IsSeat, with_event}
+use Rattle.sc_calm_rows_law.proofs.Lemmas.{view_was, view_is, sent_is}
+use Rattle.sc_calm_scenes_law.specs.Definitions.{errand_in, errand_taken, KeepsStage, OthersKeep}
 use Rattle.sc_calm_scenes_law.proofs.Doing.{asides_stay, asides_are}
 use Rattle.sc_calm_scenes_law.proofs.Keeping.{rests_by}
 
@@ -191,6 +173,7 @@ module _ (words : ℕ → ℕ → ℕ × ℕ) (births : List (Seat Player)) (row
       keeps_still words births rows seat (Deliver number) born timely (ANode node) is (ap errand_in at ∙ none) (Some (Got mail)) (ap (option_map Got) at)
       (λ name. ap (λ (x : NodeState × List Mail). replica_of name x.0.replicas) step) (λ name. ap (λ (x : NodeState × List Mail). errands_for name x.1) step ∙ silent name)
 
+-- Rows of clients, of nodes that are told to go, and of nodes that get mail of no group or have no replica of it, and make none, keep an order under way.
 pub others_keep : OthersKeep
 others_keep = record {
   client = λ words births rows seat event client born timely is none. client_keeps words births rows seat event client born timely is none (input_of (mails rows) event) refl;

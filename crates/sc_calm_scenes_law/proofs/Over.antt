@@ -2,54 +2,25 @@
 use Rattle.std.proofs.Common.{◌≡◌, ℕ, zero, suc, ◌≤◌, eqb, true, cond, List, [], ◌∷◌, ◌++◌, length, replicate, Option, Some, None, inl, inr, refl, sym, ◌∙◌, ap, subst, arith}
 use Rattle.std.proofs.lemmas.Bool.{eq-eqb}
 use Rattle.std.proofs.lemmas.List.{length-append}
-use Rattle.sc_base.specs.Among.{Among, Each}
-use Rattle.sc_base.specs.declared.names.Draw.{Draw}
-use Rattle.sc_cmd.specs.declared.commands.Command.{Command}
-use Rattle.sc_cmd.specs.declared.cores.Core.{Core}
-use Rattle.sc_cmd.specs.declared.cores.Lock.{Lock}
-use Rattle.sc_cmd.specs.declared.cores.Lock.TheVariants.{Free, Coordinating, Promised, Watching}
-use Rattle.sc_cmd.specs.declared.orders.OrderLine.{OrderLine}
-use Rattle.sc_orderly_law.specs.Timely.{AreInTime}
-use Rattle.sc_actor.specs.declared.rows.Row.{Row}
+use Rattle.sc_base.specs.Definitions.{Among, Each}
+use Rattle.sc_node_table.specs.Values.{Draw, Command, Core, Lock, Free, Coordinating, Promised, Watching, OrderLine, Row, Mail, Seat, Flight}
+use Rattle.sc_orderly_law.specs.Definitions.{AreInTime, mail_with, is_born}
 use Rattle.sc_actor.specs.declared.rows.Event.TheVariants.{Told}
-use Rattle.sc_actor.specs.System.{row_of}
-use Rattle.sc_sound.specs.Players.{player_table}
-use Rattle.sc_node_table.specs.Node.{group_of_order}
-use Rattle.sc_calm_orders_law.specs.Stages.{IsUnderWay, Still}
-use Rattle.sc_calm_rows_law.specs.Turns.{with_event}
-use Rattle.sc_mail.specs.declared.bodies.Mail.{Mail}
-use Rattle.sc_actor.specs.declared.actors.Seat.{Seat}
-use Rattle.sc_actor.specs.Mail.{mails, copies}
-use Rattle.sc_actor.specs.System.{numbers_of}
-use Rattle.sc_orderly_law.specs.Orderly.{mail_with, is_born}
-use Rattle.sc_orderly_law.proofs.InTime.{in_time_before, in_time_tidy, by_time, last_in_time}
-use Rattle.sc_orderly_law.proofs.Resting.{quiet-empty}
-use Rattle.sc_node_table.specs.Replica.{ReplicaState, listed}
-use Rattle.sc_paxos_words.specs.declared.flights.Flight.{Flight}
-use Rattle.sc_sound.specs.Players.{Player}
-use Rattle.sc_calm_law.specs.Charts.{players}
-use Rattle.sc_calm_law.specs.Totals.{Rows}
-use Rattle.sc_calm_orders_law.specs.Scenes.{Unbound, Errand}
-use Rattle.sc_calm_orders_law.specs.Parts.{bond_in as bond_by_lock, works_in, works_flying, works_ready, works, errand_by, errand_for, errands_for}
-use Rattle.sc_calm_orders_law.proofs.InQuiet.{still-only, quiet-still}
-use Rattle.sc_calm_rows_law.specs.Groups.{view_at}
-use Rattle.sc_calm_scenes_law.specs.Scenes.{is_running, lead_of, works_of, work_at, scene_at}
-use Rattle.sc_calm_scenes_law.specs.Kept.{StageAfter}
-use Rattle.sc_calm_scenes_law.specs.Quiet.{GoesToActor, HasNothing, QuietScenesAreOver, IsWork, WorksFlyLone, OrdersBeginInQuiet, OrdersGoThrough}
+use Rattle.sc_actor.specs.Definitions.{row_of, mails, copies, numbers_of}
+use Rattle.sc_sound.specs.Definitions.{player_table, Player}
+use Rattle.sc_node_table.specs.Definitions.{group_of_order, ReplicaState, listed}
+use Rattle.sc_calm_orders_law.specs.Definitions.{IsUnderWay, Still, Unbound, Errand, bond_in as bond_by_lock, works_in, works_flying, works_ready, works, errand_by, errand_for, errands_for}
+use Rattle.sc_calm_rows_law.specs.Definitions.{with_event, view_at}
+use Rattle.sc_orderly_law.proofs.Lemmas.{in_time_before, in_time_tidy, by_time, last_in_time, quiet-empty}
+use Rattle.sc_calm_law.specs.Definitions.{players, Rows}
+use Rattle.sc_calm_orders_law.proofs.Lemmas.{still-only, quiet-still, left_none as left_empty, right_none as right_empty}
+use Rattle.sc_calm_scenes_law.specs.Definitions.{is_running, lead_of, works_of, work_at, scene_at, StageAfter, GoesToActor, HasNothing, QuietScenesAreOver, IsWork, WorksFlyLone, OrdersBeginInQuiet, OrdersGoThrough}
 use Rattle.sc_calm_scenes_law.proofs.Counting.{orders_keep}
 use Rattle.sc_calm_scenes_law.proofs.Left.{errands-append}
 use Rattle.sc_calm_scenes_law.proofs.Newest.{lead_runs}
 use Rattle.sc_calm_scenes_law.proofs.Viewing.{tell}
 
 -- ---- errands
-
-left_empty : {X : Type 0} (xs ys : List X) → xs ++ ys ≡ [] → xs ≡ []
-left_empty [] ys e = refl
-left_empty (x ∷ xs) ys e = cc
-
-right_empty : {X : Type 0} (xs ys : List X) → xs ++ ys ≡ [] → ys ≡ []
-right_empty [] ys e = e
-right_empty (x ∷ xs) ys e = cc
 
 copies_none : (name : Draw) (mail : Mail) (count : ℕ) → errand_by mail.from mail.to mail.body ≡ None → errands_for name (replicate count mail) ≡ []
 copies_none name mail zero e = refl
@@ -90,12 +61,13 @@ lead_works : (births : List (Seat Player)) (rows : Rows) (name : Draw) → ((nod
 lead_works births rows name rests None e = refl
 lead_works births rows name rests (Some node) e = view_works (view_at births rows name node) (rests node) (lead_runs (view_at births rows name) (numbers_of births) node e)
 
-free_by : (lock : Lock) (core : Core) → bond_by_lock lock core ≡ Unbound → lock ≡ Free
+pub free_by : (lock : Lock) (core : Core) → bond_by_lock lock core ≡ Unbound → lock ≡ Free
 free_by Free core e = refl
 free_by (Coordinating tx body order heard) core e = cc
 free_by (Promised tx offer) core e = cc
 free_by (Watching tx watch) core e = cc
 
+-- In a quiet journal in which no leader has anything in flight no order is under way, and each group that is led is free.
 pub quiet_over : QuietScenesAreOver
 quiet_over = record {
   over = λ words births rows timely quiet goes rests under.
@@ -134,6 +106,7 @@ some_long : {X : Type 0} (xs : List X) (x : X) → Among x xs → 1 ≤ length x
 some_long [] x is = absurd is
 some_long (y ∷ xs) x is = omega arith
 
+-- The one work of a leader flies alone, where neither calls nor fillers are under way there, and something is in flight at its next slot.
 pub fly_lone : WorksFlyLone
 fly_lone work flight r running unbound one flying readies among slot =
     let acts = works_in r.acts in
@@ -159,6 +132,7 @@ fly_lone work flight r running unbound one flying readies among slot =
 
 -- ---- through a journal
 
+-- An order that comes in time to a leader, where nothing is under way, begins or is refused.
 pub begin_in_quiet : OrdersBeginInQuiet
 begin_in_quiet words births rows seat line node r o leads unbound goes rests under =
     let before = in_time_before (players words births) rows (row_of player_table seat rows (Told line)) o.timely in
@@ -168,6 +142,7 @@ begin_in_quiet words births rows seat line node r o leads unbound goes rests und
     (orders_keep.led words births rows seat line node r o leads
     (record { running = leads.running; unbound = unbound; idle = nothing_works r (rests (group_of_order line.order) seat.who r leads.is_there leads.running) }) still)
 
+-- An order stays under way through a journal whose rows come in time, if each row keeps it so.
 pub go_through : OrdersGoThrough
 go_through words births journal timely still keeps =
     by_time (players words births) (λ rows. IsUnderWay (scene_at births rows)) (Still, still)

@@ -1,11 +1,10 @@
 -- The part of a group, where its replicas stay, and where one is made at its birth.
 use Rattle.std.proofs.Common.{◌≡◌, ℕ, ◌≤◌, eqb, true, false, true≢false, List, [], Option, Some, None, ◌⊎◌, inl, inr, refl, sym, ◌∙◌, ap, subst}
 use Rattle.std.proofs.lemmas.Bool.{cases_Bool, eqb-true, eq-eqb}
-use Rattle.sc_base.specs.Among.{Among}
-use Rattle.sc_node_table.specs.Replica.{ReplicaState, next}
-use Rattle.sc_calm_orders_law.specs.Scenes.{Bond, Unbound}
-use Rattle.sc_calm_orders_law.specs.Parts.{bond_of, works}
-use Rattle.sc_calm_scenes_law.specs.Scenes.{is_running, lead_of, newest_of, bond_there, works_of, bond_by, work_at}
+use Rattle.sc_base.specs.Definitions.{Among}
+use Rattle.sc_node_table.specs.Definitions.{ReplicaState, next}
+use Rattle.sc_calm_orders_law.specs.Definitions.{Bond, Unbound, bond_of, works}
+use Rattle.sc_calm_scenes_law.specs.Definitions.{is_running, lead_of, newest_of, bond_there, works_of, bond_by, work_at}
 use Rattle.sc_calm_scenes_law.proofs.Newest.{lead_runs, none_runs, lead_same, newest_same, IsNewest, newest_is}
 
 abbrev pub Nodes : Type 0

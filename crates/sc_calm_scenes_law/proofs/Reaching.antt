@@ -1,33 +1,18 @@
 -- In each stage all errands but questions go to the nodes that lead.
 use Rattle.std.proofs.Common.{◌≡◌, ℕ, Bool, true, List, [], ◌∷◌, ◌++◌, Option, Some, None, inl, inr, refl, sym, ◌∙◌, ap, subst}
 use Rattle.std.specs.Option.{option_map}
-use Rattle.sc_base.specs.Among.{Among}
-use Rattle.sc_base.specs.declared.names.Draw.{Draw}
-use Rattle.sc_cmd.specs.declared.orders.OrderLine.{OrderLine}
-use Rattle.sc_mail.specs.declared.bodies.Mail.{Mail}
-use Rattle.sc_mail.specs.declared.roles.Role.TheVariants.{Node}
-use Rattle.sc_actor.specs.declared.actors.Seat.{Seat}
-use Rattle.sc_actor.specs.declared.rows.Event.{Event}
-use Rattle.sc_actor.specs.declared.rows.Event.TheVariants.{Deliver}
-use Rattle.sc_actor.specs.Mail.{mails}
-use Rattle.sc_actor.specs.System.{numbers_of, row_of}
-use Rattle.sc_orderly_law.proofs.InTime.{last_in_time}
-use Rattle.sc_node_table.specs.Node.{NodeState}
-use Rattle.sc_node_table.specs.Replica.{ReplicaState, Place, listed}
-use Rattle.sc_sound.specs.Players.{Player, player_table}
-use Rattle.sc_calm_law.specs.Charts.{players}
-use Rattle.sc_calm_law.specs.Totals.{Rows}
-use Rattle.sc_calm_orders_law.specs.Scenes.{Turn, First, Lone, Next, is_watch, Errand, Question, Elsewhere, Reply, Result, Here, Scene}
-use Rattle.sc_calm_orders_law.specs.Stages.{Leg, Mailed, Filed, closing, heard, Stage, Still, Ordered, Asks, SentOn, Weighs, Replied, Recorded, Closes, ClosesBoth, parties_of, IsAt, IsUnderWay}
-use Rattle.sc_calm_orders_law.specs.Parts.{errand_by}
-use Rattle.sc_calm_orders_law.proofs.Lists.{tokens, tagged, found, among-right}
-use Rattle.sc_calm_rows_law.specs.Groups.{view_at}
-use Rattle.sc_calm_rows_law.proofs.Viewing.{view_was}
-use Rattle.sc_calm_scenes_law.specs.Asked.{Expects, leader_sought, AnswersReachLeaders}
-use Rattle.sc_calm_scenes_law.specs.Kept.{KeepsStage, IsBeside, Led, Unled, ComesBeside, ComesToNone}
-use Rattle.sc_calm_scenes_law.specs.Scenes.{scene_at, is_running, errand_in, taken_errand}
-use Rattle.sc_calm_scenes_law.specs.Taken.{IsTaking}
-use Rattle.sc_calm_scenes_law.specs.Turns.{IsOfGroup}
+use Rattle.sc_base.specs.Definitions.{Among}
+use Rattle.sc_node_table.specs.Values.{Draw, OrderLine, Mail, Node, Seat, Event, Deliver}
+use Rattle.sc_actor.specs.Definitions.{mails, numbers_of, row_of}
+use Rattle.sc_orderly_law.proofs.Lemmas.{last_in_time}
+use Rattle.sc_node_table.specs.Definitions.{NodeState, ReplicaState, Place, listed}
+use Rattle.sc_sound.specs.Definitions.{Player, player_table}
+use Rattle.sc_calm_law.specs.Definitions.{players, Rows}
+use Rattle.sc_calm_orders_law.specs.Definitions.{Turn, First, Lone, Next, is_watch, Errand, Question, Elsewhere, Reply, Result, Here, Scene, Leg, Mailed, Filed, closing, heard, Stage, Still, Ordered, Asks, SentOn, Weighs, Replied, Recorded, Closes, ClosesBoth, parties_of, IsAt, IsUnderWay, errand_by}
+use Rattle.sc_calm_orders_law.proofs.Lemmas.{tokens, tagged, found, among-right}
+use Rattle.sc_calm_rows_law.specs.Definitions.{view_at}
+use Rattle.sc_calm_rows_law.proofs.Lemmas.{view_was, none_some as no_some}
+use Rattle.sc_calm_scenes_law.specs.Definitions.{Expects, leader_sought, AnswersReachLeaders, KeepsStage, IsBeside, Led, Unled, ComesBeside, ComesToNone, scene_at, is_running, errand_in, taken_errand, IsTaking, IsOfGroup}
 use Rattle.sc_calm_scenes_law.proofs.Keeping.{after, row_of_comes}
 use Rattle.sc_calm_scenes_law.proofs.Left.{takes_one}
 use Rattle.sc_calm_scenes_law.proofs.Newest.{lead_runs}
@@ -39,9 +24,6 @@ use Rattle.sc_calm_scenes_law.proofs.Viewing.{lead_is, no_lead}
 
 abbrev mail_of : Here → List Errand
 mail_of here = here.errands
-
-no_some : {X : Type 0} {x : X} → None ≡ Some x → ⊥
-no_some e = cc
 
 module _ (now : Scene) (group : Draw) (errand : Errand) (to : ℕ) (sought : leader_sought errand ≡ Some to) where
   -- one under way for a leader is for who leads
@@ -180,6 +162,7 @@ module _ (words : ℕ → ℕ → ℕ × ℕ) (births : List (Seat Player)) (row
       let none = view_was births rows seat event group c.taking.seated (Node c.node) c.taking.is_node ∙ c.none in
       absurd (stopped_there (view_at births rows group seat.who) none (lead_runs (view_at births rows group) (numbers_of births) seat.who lead))
 
+-- In each stage a vote, an outcome, and that a coordinator is to ask elsewhere go to the node that leads, so none of them comes beside it; and the group of an errand waits for it.
 pub answers_reach : AnswersReachLeaders
 answers_reach = record {
   led = leader_led;

@@ -3,45 +3,22 @@ use Rattle.std.proofs.Common.{◌≡◌, ℕ, true≢false, cond, List, [], ◌�
 use Rattle.std.specs.Prelude.{is_some}
 use Rattle.std.specs.Option.{option_map}
 use Rattle.std.proofs.lemmas.Bool.{cases_Bool, cond-true, cond_both}
-use Rattle.sc_base.specs.Among.{Among, Each}
-use Rattle.sc_base.specs.Same.{same_draw}
-use Rattle.sc_base.specs.declared.names.Draw.{Draw}
-use Rattle.sc_base.proofs.NameLemmas.{draw_is, same_name}
-use Rattle.sc_cmd.specs.declared.cores.Base.{Base}
-use Rattle.sc_cmd.specs.declared.orders.OrderLine.{OrderLine}
-use Rattle.sc_mail.specs.declared.bodies.Mail.{Mail}
-use Rattle.sc_mail.specs.declared.bodies.MailBody.{MailBody}
-use Rattle.sc_mail.specs.declared.bodies.MailBody.TheVariants.{Request, Answer, Prepare, Promise, Accept, Accepted, Nack, Learn, Ask, Install, TxPrepare, TxVote, TxOutcome, TxElsewhere, TxWatch, TxWatched, Told as ToldMail}
-use Rattle.sc_mail.specs.declared.roles.Role.TheVariants.{Node}
-use Rattle.sc_actor.specs.declared.actors.Seat.{Seat}
-use Rattle.sc_actor.specs.declared.rows.Event.{Event}
-use Rattle.sc_actor.specs.declared.rows.Event.TheVariants.{Deliver, Told}
-use Rattle.sc_actor.specs.declared.rows.Input.{Input}
-use Rattle.sc_actor.specs.declared.rows.Input.TheVariants.{Got, Told as ToldInput}
-use Rattle.sc_actor.specs.Mail.{mails, numbered}
-use Rattle.sc_actor.specs.Replay.{value, acted, input_of}
-use Rattle.sc_actor.specs.System.{row_of}
-use Rattle.sc_orderly_law.specs.Timely.{AreInTime}
-use Rattle.sc_node_table.specs.Node.{NodeState, replica_of, with_replica, with_new, with_born, with_children, group_of_mail, may_come, unknown, taken_by, routed, on_mail, absent, group_of_order, ordered_of, on_order}
-use Rattle.sc_node_table.specs.Ordering.{ordered_row}
-use Rattle.sc_node_table.specs.Replica.{ReplicaState, Executed, born_replica}
-use Rattle.sc_node_table.specs.Rows.{mailed}
-use Rattle.sc_node_table.specs.Slots.{slots_ahead}
-use Rattle.sc_law_lemmas.proofs.Ways.{either_way}
-use Rattle.sc_sound.specs.Players.{Player, player_table}
-use Rattle.sc_calm_law.specs.Charts.{players}
-use Rattle.sc_calm_law.specs.Totals.{Rows}
-use Rattle.sc_calm_law.proofs.OwedParties.{put_others}
-use Rattle.sc_calm_orders_law.specs.Scenes.{Errand}
-use Rattle.sc_calm_orders_law.specs.Parts.{errand_by}
-use Rattle.sc_calm_rows_law.specs.Groups.{replicas_of, view_at}
-use Rattle.sc_calm_rows_law.specs.Turns.{IsSeat, with_event}
-use Rattle.sc_calm_rows_law.proofs.Hearing.{names_stay}
-use Rattle.sc_calm_rows_law.proofs.Turning.{found_name, rows_replicas}
-use Rattle.sc_calm_rows_law.proofs.Viewing.{view_was, view_is, sent_is, new_others, new_is}
-use Rattle.sc_calm_scenes_law.specs.Scenes.{errand_in, errand_taken}
-use Rattle.sc_calm_scenes_law.specs.Turns.{Bears, LeavesOrMakes, IsOfGroup, IsTablesRow}
-use Rattle.sc_calm_scenes_law.specs.Taken.{MayBear, IsTaking, RowsAreTaken}
+use Rattle.sc_base.specs.Definitions.{Among, Each, same_draw}
+use Rattle.sc_node_table.specs.Values.{Draw, Base, OrderLine, Mail, MailBody, Request, Answer, Prepare, Promise, Accept, Accepted, Nack, Learn, Ask, Install, TxPrepare, TxVote, TxOutcome, TxElsewhere, TxWatch, TxWatched, Told as ToldMail, Node, Seat, Event, Deliver, Input, Got}
+use Rattle.sc_base.proofs.Lemmas.{draw_is, same_name}
+use Rattle.sc_actor.specs.declared.rows.Event.TheVariants.{Told}
+use Rattle.sc_actor.specs.declared.rows.Input.TheVariants.{Told as ToldInput}
+use Rattle.sc_actor.specs.Definitions.{mails, numbered, value, acted, input_of, row_of}
+use Rattle.sc_orderly_law.specs.Definitions.{AreInTime}
+use Rattle.sc_node_table.specs.Definitions.{NodeState, replica_of, with_replica, with_new, with_born, with_children, group_of_mail, may_come, unknown, taken_by, routed, on_mail, absent, group_of_order, ordered_of, on_order, ordered_row, ReplicaState, Executed, born_replica, mailed, slots_ahead}
+use Rattle.sc_law_lemmas.proofs.Lemmas.{either_way}
+use Rattle.sc_sound.specs.Definitions.{Player, player_table}
+use Rattle.sc_calm_law.specs.Definitions.{players, Rows}
+use Rattle.sc_calm_law.proofs.Lemmas.{put_others}
+use Rattle.sc_calm_orders_law.specs.Definitions.{Errand, errand_by}
+use Rattle.sc_calm_rows_law.specs.Definitions.{replicas_of, view_at, IsSeat, with_event}
+use Rattle.sc_calm_rows_law.proofs.Lemmas.{names_stay, found_name, rows_replicas, view_was, view_is, sent_is, new_others, new_is}
+use Rattle.sc_calm_scenes_law.specs.Definitions.{errand_in, errand_taken, Bears, LeavesOrMakes, IsOfGroup, IsTablesRow, MayBear, IsTaking, RowsAreTaken}
 
 -- ---- the group of an errand
 
@@ -237,6 +214,7 @@ orders words births rows seat line node r born timely is here =
       record { was = row.was; is = row.is; sends = all_sent births rows seat (Told line) node born is step (Some (ToldInput line)) refl does },
     )
 
+-- The row in which a node takes a mail or an order is one of that group, and what it does and sends is what the table of the replica there says; without one it answers an errand so.
 pub rows_taken : RowsAreTaken
 rows_taken = record {
   taken = λ words births rows seat number mail group node r t here may. takes words births rows seat number mail group node t r here may;

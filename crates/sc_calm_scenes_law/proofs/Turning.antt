@@ -2,33 +2,21 @@
 use Rattle.std.proofs.Common.{◌≡◌, ℕ, eqb, false, true≢false, List, [], ◌∷◌, ◌++◌, Option, Some, None, inl, inr, refl, sym, ◌∙◌, ap, subst, append-nil}
 use Rattle.std.specs.Option.{option_map}
 use Rattle.std.proofs.lemmas.Bool.{cases_Bool, cond-true, cond-false, eqb-true, eq-eqb}
-use Rattle.sc_base.specs.Same.{same_draw}
-use Rattle.sc_base.specs.declared.names.Draw.{Draw}
-use Rattle.sc_base.proofs.NameLemmas.{same_name}
-use Rattle.sc_cmd.specs.declared.orders.OrderLine.{OrderLine}
-use Rattle.sc_mail.specs.declared.bodies.Mail.{Mail}
-use Rattle.sc_actor.specs.declared.actors.Seat.{Seat}
-use Rattle.sc_actor.specs.declared.rows.Event.{Event}
-use Rattle.sc_actor.specs.declared.rows.Event.TheVariants.{Deliver, Tick, Go, Told, Crash, Drop, Again}
-use Rattle.sc_actor.specs.declared.rows.Row.{Row}
-use Rattle.sc_actor.specs.Mail.{mails}
-use Rattle.sc_actor.specs.System.{numbers_of, row_of}
-use Rattle.sc_orderly_law.specs.Orderly.{IsCalmRow, IsCalmEvent}
-use Rattle.sc_orderly_law.proofs.InTime.{last_in_time}
-use Rattle.sc_node_table.specs.Replica.{ReplicaState, listed, born_replica}
-use Rattle.sc_node_table.specs.Slots.{slots_ahead}
-use Rattle.sc_sound.specs.Players.{Player, player_table}
-use Rattle.sc_calm_law.specs.Charts.{players}
-use Rattle.sc_calm_law.specs.Totals.{Rows}
-use Rattle.sc_calm_law.proofs.OwedParties.{apart}
-use Rattle.sc_calm_orders_law.specs.Scenes.{Errand, Unbound}
-use Rattle.sc_calm_orders_law.specs.Rows.{IsRow}
-use Rattle.sc_calm_orders_law.specs.Parts.{bond_in as bond_by_lock, bond_of, errand_by, errand_for, errands_for}
-use Rattle.sc_calm_rows_law.specs.Groups.{view_at}
-use Rattle.sc_calm_rows_law.specs.Turns.{IsSeat, with_event}
-use Rattle.sc_calm_rows_law.proofs.Viewing.{view_others}
-use Rattle.sc_calm_scenes_law.specs.Scenes.{scene_at, left_after, errand_in, errand_taken, taken_errand}
-use Rattle.sc_calm_scenes_law.specs.Turns.{errands_sent, IsSceneKind, Bears, LeavesOrMakes, IsOfGroup, RowsAreOfScenes}
+use Rattle.sc_base.specs.Definitions.{same_draw}
+use Rattle.sc_node_table.specs.Values.{Draw, OrderLine, Mail, Seat, Event, Deliver, Tick, Go, Crash, Drop, Again, Row}
+use Rattle.sc_base.proofs.Lemmas.{same_name}
+use Rattle.sc_actor.specs.declared.rows.Event.TheVariants.{Told}
+use Rattle.sc_actor.specs.Definitions.{mails, numbers_of, row_of}
+use Rattle.sc_orderly_law.specs.Definitions.{IsCalmRow, IsCalmEvent}
+use Rattle.sc_orderly_law.proofs.Lemmas.{last_in_time}
+use Rattle.sc_node_table.specs.Definitions.{ReplicaState, listed, born_replica, slots_ahead}
+use Rattle.sc_sound.specs.Definitions.{Player, player_table}
+use Rattle.sc_calm_law.specs.Definitions.{players, Rows}
+use Rattle.sc_calm_law.proofs.Lemmas.{apart}
+use Rattle.sc_calm_orders_law.specs.Definitions.{Errand, Unbound, IsRow, bond_in as bond_by_lock, bond_of, errand_by, errand_for, errands_for}
+use Rattle.sc_calm_rows_law.specs.Definitions.{view_at, IsSeat, with_event}
+use Rattle.sc_calm_rows_law.proofs.Lemmas.{view_others}
+use Rattle.sc_calm_scenes_law.specs.Definitions.{scene_at, left_after, errand_in, errand_taken, taken_errand, errands_sent, IsSceneKind, Bears, LeavesOrMakes, IsOfGroup, RowsAreOfScenes}
 use Rattle.sc_calm_scenes_law.proofs.Left.{errands-append, left_by, left_row, TakesOne, takes_one}
 use Rattle.sc_calm_scenes_law.proofs.Parts.{SamePart, same_part, stopped_part, running_part}
 use Rattle.sc_calm_scenes_law.proofs.Viewing.{seat_among, view_among}
@@ -171,6 +159,7 @@ module _ (words : ℕ → ℕ → ℕ × ℕ) (births : List (Seat Player)) (row
           let after = (scene_at births (with_event rows seat event)).at other in
           ap (λ b. record after { bond = b }) part.bond ∙ (ap (λ w. record after { bond = now.bond; work = w }) part.work ∙ ap (λ l. record now { errands = l }) errands)
 
+-- Each row in time is a row of the scene in the group of its mail or order: it takes the errand of the mail, sends those of what it sends, and leaves the other groups, but for these.
 pub rows_are : RowsAreOfScenes
 rows_are words births rows seat event name g =
     let calm = (last_in_time (players words births) rows (row_of player_table seat rows event) g.timely).0 in

@@ -1,16 +1,12 @@
 -- Which steps leave a group untouched: what is so after a step was so before it, and only a question that is sent on is of such a group.
 use Rattle.std.proofs.Common.{◌≡◌, ℕ, true, List, ◌⊎◌, inl, inr, refl, sym, ◌∙◌, ap, subst}
-use Rattle.sc_base.specs.Among.{Among, Each}
-use Rattle.sc_base.specs.declared.names.Draw.{Draw}
-use Rattle.sc_calm_orders_law.specs.Scenes.{Turn, First, Lone, Next, Errand, Question, Elsewhere, Reply, Result, Work, Opens, Scene, IsNone}
-use Rattle.sc_calm_orders_law.specs.Stages.{Deal, Stage, Still, Ordered, Asks, SentOn, Weighs, Replied, Recorded, Closes, ClosesBoth, heard, parties_of, IsAt}
-use Rattle.sc_calm_orders_law.specs.Follows.{closed, IsTaken, OfQuestion, OfVote, OfOutcome, LastTakes, OneTakes, TwoTakes, LastFreed, OneFreed, TwoFreed, IsStepOf, ByRest, ByOrder, ByChange, ByDeal, ByPassing, ByAsking, ByTaking, ByVote, ByNo, ByHearing, ByDeciding, ByEnd}
-use Rattle.sc_calm_orders_law.proofs.Lists.{tokens, found}
-use Rattle.sc_calm_orders_law.proofs.Moves.{errands_of, no-errand}
-use Rattle.sc_actor.specs.declared.actors.Seat.{Seat}
-use Rattle.sc_sound.specs.Players.{Player}
-use Rattle.sc_calm_law.specs.Totals.{Rows}
-use Rattle.sc_calm_scenes_law.specs.Fresh.{IsHeard, IsFresh, IsThere, AreThere}
+use Rattle.sc_base.specs.Definitions.{Among, Each}
+use Rattle.sc_node_table.specs.Values.{Draw, Seat}
+use Rattle.sc_calm_orders_law.specs.Definitions.{Turn, First, Lone, Next, Errand, Question, Elsewhere, Reply, Result, Work, Opens, Scene, IsNone, Deal, Stage, Still, Ordered, Asks, SentOn, Weighs, Replied, Recorded, Closes, ClosesBoth, heard, parties_of, IsAt, closed, IsTaken, OfQuestion, OfVote, OfOutcome, LastTakes, OneTakes, TwoTakes, LastFreed, OneFreed, TwoFreed, IsStepOf, ByRest, ByOrder, ByChange, ByDeal, ByPassing, ByAsking, ByTaking, ByVote, ByNo, ByHearing, ByDeciding, ByEnd}
+use Rattle.sc_calm_orders_law.proofs.Lemmas.{tokens, found, errands_of, no-errand}
+use Rattle.sc_sound.specs.Definitions.{Player}
+use Rattle.sc_calm_law.specs.Definitions.{Rows}
+use Rattle.sc_calm_scenes_law.specs.Definitions.{IsHeard, IsFresh, IsThere, AreThere}
 
 -- none is, once an outcome is under way
 closed_none : (tx asked : Draw) (turn : Turn) (host : ℕ) (name : Draw) → IsFresh (closed tx asked turn host) name → ⊥

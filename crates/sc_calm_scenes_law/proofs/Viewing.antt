@@ -1,18 +1,15 @@
 -- What a scene says of a group by its replicas.
 use Rattle.std.proofs.Common.{◌≡◌, ℕ, eqb, true, false, List, [], ◌∷◌, find, Option, Some, None, inl, inr, refl, ◌∙◌, ap, subst}
 use Rattle.std.proofs.lemmas.Bool.{eqb-true}
-use Rattle.sc_base.specs.Among.{Among}
-use Rattle.sc_base.specs.declared.names.Draw.{Draw}
-use Rattle.sc_actor.specs.declared.actors.Seat.{Seat}
-use Rattle.sc_actor.specs.System.{numbers_of}
-use Rattle.sc_node_table.specs.Replica.{ReplicaState}
-use Rattle.sc_paxos_words.proofs.ListLemmas.{find_found}
-use Rattle.sc_sound.specs.Players.{Player}
-use Rattle.sc_calm_law.specs.Totals.{Rows}
-use Rattle.sc_calm_rows_law.specs.Groups.{replica_in, view_at}
-use Rattle.sc_calm_rows_law.specs.Turns.{IsSeat}
-use Rattle.sc_calm_scenes_law.specs.Scenes.{is_running, bond_there, works_of, bond_by, work_at, scene_at}
-use Rattle.sc_calm_scenes_law.specs.Turns.{LeadsAlone, NoneRuns, ScenesTell}
+use Rattle.sc_base.specs.Definitions.{Among}
+use Rattle.sc_node_table.specs.Values.{Draw, Seat}
+use Rattle.sc_actor.specs.Definitions.{numbers_of}
+use Rattle.sc_node_table.specs.Definitions.{ReplicaState}
+use Rattle.sc_paxos_words.proofs.Lemmas.{find_found}
+use Rattle.sc_sound.specs.Definitions.{Player}
+use Rattle.sc_calm_law.specs.Definitions.{Rows}
+use Rattle.sc_calm_rows_law.specs.Definitions.{replica_in, view_at, IsSeat}
+use Rattle.sc_calm_scenes_law.specs.Definitions.{is_running, bond_there, works_of, bond_by, work_at, scene_at, LeadsAlone, NoneRuns, ScenesTell}
 use Rattle.sc_calm_scenes_law.proofs.Newest.{lead_found, lead_none}
 use Rattle.sc_calm_scenes_law.proofs.Parts.{AreAll, newest_bound, newest_some}
 
@@ -55,6 +52,7 @@ module _ (births : List (Seat Player)) (rows : Rows) (name : Draw) where
   pub no_lead : NoneRuns births rows name → (scene_at births rows).lead name ≡ None
   no_lead none = lead_none (view_at births rows name) (numbers_of births) (λ node. stopped_is (view_at births rows name node) (none node))
 
+-- Where one replica of a group runs, the scene has its bond, its work, and its node for the leader; where none runs, there is no work, and the bond is that of the newest state.
 pub tell : ScenesTell
 tell = record {
   led = λ births rows name node r leads.

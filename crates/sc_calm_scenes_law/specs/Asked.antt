@@ -1,23 +1,13 @@
 -- That what is answered from what a replica has, and what comes too late, does nothing of an order; and that all but questions goes to the node that leads.
 use Rattle.std.specs.Prelude.{◌≡◌, ℕ, ◌<◌, Bool, false, List, [], Option, Some, None}
-use Rattle.sc_base.specs.Among.{Among}
-use Rattle.sc_base.specs.declared.names.Ballot.{Ballot}
-use Rattle.sc_base.specs.declared.names.Draw.{Draw}
-use Rattle.sc_cmd.specs.declared.commands.Command.{Command}
-use Rattle.sc_cmd.specs.declared.cores.Base.{Base}
-use Rattle.sc_law_lemmas.specs.Steps.{GoesOn}
-use Rattle.sc_mail.specs.declared.bodies.Mail.{Mail}
-use Rattle.sc_mail.specs.declared.bodies.MailBody.TheVariants.{Ask, Accepted, Promise, Nack, Learn, Install}
-use Rattle.sc_actor.specs.declared.actors.Seat.{Seat}
-use Rattle.sc_actor.specs.declared.rows.Event.TheVariants.{Deliver}
-use Rattle.sc_node_table.specs.Replica.{ReplicaState, next}
-use Rattle.sc_paxos_words.specs.declared.reports.Report.{Report}
-use Rattle.sc_paxos_words.specs.Leaders.{flight_at}
-use Rattle.sc_sound.specs.Players.{Player}
-use Rattle.sc_calm_law.specs.Totals.{Rows}
-use Rattle.sc_calm_orders_law.specs.Scenes.{Turn, is_watch, Bond, Unbound, Asking, Bound, Errand, Question, Elsewhere, Reply, Result, Here, Scene}
-use Rattle.sc_calm_orders_law.specs.Stages.{IsUnderWay}
-use Rattle.sc_calm_orders_law.specs.Parts.{errand_by}
+use Rattle.sc_base.specs.Definitions.{Among}
+use Rattle.sc_node_table.specs.Values.{Ballot, Draw, Command, Base, Mail, Ask, Accepted, Promise, Nack, Learn, Install, Seat, Deliver, Report}
+use Rattle.sc_law_lemmas.specs.Definitions.{GoesOn}
+use Rattle.sc_node_table.specs.Definitions.{ReplicaState, next}
+use Rattle.sc_paxos_words.specs.Definitions.{flight_at}
+use Rattle.sc_sound.specs.Definitions.{Player}
+use Rattle.sc_calm_law.specs.Definitions.{Rows}
+use Rattle.sc_calm_orders_law.specs.Definitions.{Turn, is_watch, Bond, Unbound, Asking, Bound, Errand, Question, Elsewhere, Reply, Result, Here, Scene, IsUnderWay, errand_by}
 use Rattle.sc_calm_scenes_law.specs.Kept.{KeepsStage, ComesToLeader, ComesBeside, ComesToNone}
 
 -- An order stays under way where a replica is asked for entries; where a vote comes to one that does not run, or to the leader for a slot at which nothing is in flight; where a promise, or a refusal, comes to one that does not run; and where the leader learns an entry, or is sent a state, that it has.

@@ -1,9 +1,9 @@
 -- That nothing is under way before the first row of a scenario.
 use Rattle.std.specs.Prelude.{[]}
-use Rattle.sc_scenario.specs.Valid.{IsBounded}
+use Rattle.sc_scenario.specs.Definitions.{IsBounded}
 use Rattle.sc_scenario.specs.declared.scenarios.Scenario.{Scenario}
-use Rattle.sc_sound.specs.Players.{births, as_nodes}
-use Rattle.sc_calm_orders_law.specs.Stages.{IsAt, Still}
+use Rattle.sc_sound.specs.Definitions.{births, as_nodes}
+use Rattle.sc_calm_orders_law.specs.Definitions.{IsAt, Still}
 use Rattle.sc_calm_scenes_law.specs.Scenes.{scene_at}
 
 -- The scene of a bounded scenario at its birth is still: all groups are free, no leader has work, and no mail is under way.

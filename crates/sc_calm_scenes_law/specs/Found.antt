@@ -1,44 +1,20 @@
 -- What has to be found where a row comes, by the mail that it takes or the order that it tells, so that an order stays under way.
 use Rattle.std.specs.Prelude.{◌≡◌, ℕ, ◌<◌, Bool, true, false, List, [], ◌∷◌, Option, if◌then◌else◌, Some, None}
-use Rattle.sc_base.specs.Among.{Each}
-use Rattle.sc_base.specs.declared.names.Draw.{Draw}
-use Rattle.sc_cmd.specs.declared.commands.Command.{Command}
-use Rattle.sc_cmd.specs.declared.orders.OrderLine.{OrderLine}
-use Rattle.sc_cmd.specs.declared.orders.OrderRefusal.{OrderRefusal}
-use Rattle.sc_law_lemmas.specs.Steps.{GoesOn}
-use Rattle.sc_mail.specs.declared.bodies.Mail.{Mail}
-use Rattle.sc_mail.specs.declared.bodies.MailBody.{MailBody}
-use Rattle.sc_mail.specs.declared.bodies.MailBody.TheVariants.{Request, Answer, Prepare, Promise, Accept, Accepted, Nack, Learn, Ask, Install, TxPrepare, TxVote, TxOutcome, TxElsewhere, TxWatch, TxWatched, Told as ToldMail}
-use Rattle.sc_mail.specs.declared.roles.Role.TheVariants.{Node, Client}
-use Rattle.sc_base.specs.Roster.{is_member}
-use Rattle.sc_actor.specs.declared.actors.Seat.{Seat}
-use Rattle.sc_actor.specs.declared.rows.Event.{Event}
-use Rattle.sc_actor.specs.declared.rows.Event.TheVariants.{Deliver, Told}
-use Rattle.sc_actor.specs.Mail.{mails, numbered}
-use Rattle.sc_actor.specs.Replay.{value}
-use Rattle.sc_client_table.specs.Client.{Client as ClientState}
-use Rattle.sc_orderly_law.specs.Timely.{AreInTime}
-use Rattle.sc_node_table.specs.Node.{NodeState, replica_of, may_come, group_of_order}
-use Rattle.sc_node_table.specs.Ordering.{ordered_row, untaken}
-use Rattle.sc_node_table.specs.Replica.{ReplicaState, next, settled, listed}
-use Rattle.sc_node_table.specs.Rows.{mailed}
-use Rattle.sc_node_table.specs.Transactions.{standing_vote, noted_outcome}
-use Rattle.sc_paxos_words.specs.declared.flights.Flight.{Flight}
-use Rattle.sc_paxos_words.specs.declared.reports.Report.{Report}
-use Rattle.sc_paxos_words.specs.Leaders.{flight_at}
-use Rattle.sc_scenario.specs.Valid.{IsBounded}
+use Rattle.sc_base.specs.Definitions.{Each, is_member}
+use Rattle.sc_node_table.specs.Values.{Draw, Command, OrderLine, OrderRefusal, Mail, MailBody, Request, Answer, Prepare, Promise, Accept, Accepted, Nack, Learn, Ask, Install, TxPrepare, TxVote, TxOutcome, TxElsewhere, TxWatch, TxWatched, Told as ToldMail, Node, Client, Seat, Event, Deliver, Flight, Report}
+use Rattle.sc_law_lemmas.specs.Definitions.{GoesOn}
+use Rattle.sc_actor.specs.declared.rows.Event.TheVariants.{Told}
+use Rattle.sc_actor.specs.Definitions.{mails, numbered, value}
+use Rattle.sc_client_table.specs.Definitions.{Client as ClientState}
+use Rattle.sc_orderly_law.specs.Definitions.{AreInTime}
+use Rattle.sc_node_table.specs.Definitions.{NodeState, replica_of, may_come, group_of_order, ordered_row, untaken, ReplicaState, next, settled, listed, mailed, standing_vote, noted_outcome}
+use Rattle.sc_paxos_words.specs.Definitions.{flight_at}
+use Rattle.sc_scenario.specs.Definitions.{IsBounded}
 use Rattle.sc_scenario.specs.declared.scenarios.Scenario.{Scenario}
-use Rattle.sc_sound.specs.Players.{Player, player_table, births, as_nodes}
-use Rattle.sc_calm_law.specs.Charts.{players}
-use Rattle.sc_calm_law.specs.Totals.{Rows}
-use Rattle.sc_calm_orders_law.specs.Scenes.{Turn, First, Lone, Next, is_watch, Unbound, Asking, Question, Reply, Work, Opens, Answers, Records, Ends}
-use Rattle.sc_calm_orders_law.specs.Stages.{bound_by, IsOrder, Stage, IsAt, IsUnderWay}
-use Rattle.sc_calm_orders_law.specs.Rows.{results}
-use Rattle.sc_calm_orders_law.specs.Parts.{bond_of, works, errand_by}
-use Rattle.sc_calm_orders_law.specs.Running.{IsIdle, FliesLone}
-use Rattle.sc_calm_orders_law.specs.Tables.{IsUnbound, Works}
-use Rattle.sc_calm_rows_law.specs.Groups.{view_at}
-use Rattle.sc_calm_rows_law.specs.Turns.{IsSeat, with_event, IsWholeState}
+use Rattle.sc_sound.specs.Definitions.{Player, player_table, births, as_nodes}
+use Rattle.sc_calm_law.specs.Definitions.{players, Rows}
+use Rattle.sc_calm_orders_law.specs.Definitions.{Turn, First, Lone, Next, is_watch, Unbound, Asking, Question, Reply, Work, Opens, Answers, Records, Ends, bound_by, IsOrder, Stage, IsAt, IsUnderWay, results, bond_of, works, errand_by, IsIdle, FliesLone, IsUnbound, Works}
+use Rattle.sc_calm_rows_law.specs.Definitions.{view_at, IsSeat, with_event, IsWholeState}
 use Rattle.sc_calm_scenes_law.specs.Counted.{IsEntry, StaysIn, IsOrdered}
 use Rattle.sc_calm_scenes_law.specs.Kept.{IsBeside, StageAfter}
 use Rattle.sc_calm_scenes_law.specs.Making.{MayJoin}

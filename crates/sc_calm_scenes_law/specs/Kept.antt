@@ -1,36 +1,15 @@
 -- That an order stays under way, row by row: which mail its leader takes, and which comes to one that does not lead.
 use Rattle.std.specs.Prelude.{◌≡◌, ℕ, true, false, List, [], Option, Some, None, ◌⊎◌}
-use Rattle.sc_base.specs.Among.{Each}
-use Rattle.sc_base.specs.declared.names.Ballot.{Ballot}
-use Rattle.sc_base.specs.declared.names.Draw.{Draw}
-use Rattle.sc_cmd.specs.declared.bodies.Offer.{Offer}
-use Rattle.sc_cmd.specs.declared.bodies.Watch.{Watch}
-use Rattle.sc_cmd.specs.declared.commands.Command.{Command}
-use Rattle.sc_cmd.specs.declared.cores.Base.{Base}
-use Rattle.sc_cmd.specs.declared.orders.OrderLine.{OrderLine}
-use Rattle.sc_cmd.specs.declared.votes.Outcome.{Outcome}
-use Rattle.sc_cmd.specs.declared.votes.Past.{Past}
-use Rattle.sc_cmd.specs.declared.votes.Vote.{Vote}
-use Rattle.sc_law_lemmas.specs.Steps.{GoesOn}
-use Rattle.sc_mail.specs.declared.bodies.Mail.{Mail}
-use Rattle.sc_mail.specs.declared.bodies.MailBody.TheVariants.{Accept, Prepare, Promise, Nack, Learn, Install, TxPrepare, TxVote, TxOutcome, TxElsewhere, TxWatch, TxWatched}
-use Rattle.sc_actor.specs.declared.actors.Seat.{Seat}
-use Rattle.sc_actor.specs.declared.rows.Event.{Event}
-use Rattle.sc_actor.specs.declared.rows.Event.TheVariants.{Deliver, Tick, Go, Told, Crash, Drop, Again}
-use Rattle.sc_actor.specs.Mail.{mails, numbered}
-use Rattle.sc_node_table.specs.Node.{NodeState, replica_of, group_of_mail, group_of_order}
-use Rattle.sc_node_table.specs.Replica.{ReplicaState, Place, settled, listed}
-use Rattle.sc_node_table.specs.Rows.{mailed}
-use Rattle.sc_node_table.specs.Transactions.{standing_vote, noted_outcome}
-use Rattle.sc_sound.specs.Players.{Player}
-use Rattle.sc_calm_law.specs.Totals.{Rows}
-use Rattle.sc_calm_orders_law.specs.Scenes.{Turn, is_watch, Asking, Bound, Work}
-use Rattle.sc_calm_orders_law.specs.Stages.{Stage, Still, IsAt, IsUnderWay}
-use Rattle.sc_calm_orders_law.specs.Follows.{IsStepOf}
-use Rattle.sc_calm_orders_law.specs.Parts.{bond_of, works}
-use Rattle.sc_calm_orders_law.specs.Running.{IsIdle}
-use Rattle.sc_calm_orders_law.specs.Tables.{IsUnbound, MayFile}
-use Rattle.sc_calm_rows_law.specs.Turns.{with_event}
+use Rattle.sc_base.specs.Definitions.{Each}
+use Rattle.sc_node_table.specs.Values.{Ballot, Draw, Offer, Watch, Command, Base, OrderLine, Outcome, Past, Vote, Mail, Accept, Prepare, Promise, Nack, Learn, Install, TxPrepare, TxVote, TxOutcome, TxElsewhere, TxWatch, TxWatched, Seat, Event, Deliver, Tick, Go, Crash, Drop, Again}
+use Rattle.sc_law_lemmas.specs.Definitions.{GoesOn}
+use Rattle.sc_actor.specs.declared.rows.Event.TheVariants.{Told}
+use Rattle.sc_actor.specs.Definitions.{mails, numbered}
+use Rattle.sc_node_table.specs.Definitions.{NodeState, replica_of, group_of_mail, group_of_order, ReplicaState, Place, settled, listed, mailed, standing_vote, noted_outcome}
+use Rattle.sc_sound.specs.Definitions.{Player}
+use Rattle.sc_calm_law.specs.Definitions.{Rows}
+use Rattle.sc_calm_orders_law.specs.Definitions.{Turn, is_watch, Asking, Bound, Work, Stage, Still, IsAt, IsUnderWay, IsStepOf, bond_of, works, IsIdle, IsUnbound, MayFile}
+use Rattle.sc_calm_rows_law.specs.Definitions.{with_event}
 use Rattle.sc_calm_scenes_law.specs.Scenes.{scene_at}
 use Rattle.sc_calm_scenes_law.specs.Turns.{LeadsAlone}
 use Rattle.sc_calm_scenes_law.specs.Kinds.{IsUnled}

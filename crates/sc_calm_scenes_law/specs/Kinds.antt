@@ -1,20 +1,12 @@
 -- Which kinds of rows the rows of a group are, by what its replica's table does.
 use Rattle.std.specs.Prelude.{◌≡◌, ℕ, true, false, List, [], ◌∷◌, if◌then◌else◌, Bool, Some, None}
-use Rattle.sc_base.specs.declared.names.Draw.{Draw}
-use Rattle.sc_cmd.specs.declared.orders.OrderLine.{OrderLine}
-use Rattle.sc_actor.specs.declared.actors.Seat.{Seat}
-use Rattle.sc_actor.specs.declared.rows.Event.{Event}
-use Rattle.sc_actor.specs.Mail.{mails}
-use Rattle.sc_node_table.specs.Replica.{ReplicaState, Place}
-use Rattle.sc_sound.specs.Players.{Player}
-use Rattle.sc_calm_law.specs.Totals.{Rows}
-use Rattle.sc_calm_orders_law.specs.Scenes.{Turn, First, Lone, Next, is_watch, Bond, Unbound, Asking, Errand, Question, Elsewhere, Reply, Work, Opens, Answers, Records, Ends, IsOnly}
-use Rattle.sc_calm_orders_law.specs.Stages.{bound_by, IsOrder}
-use Rattle.sc_calm_orders_law.specs.Rows.{GoesOn, Rests, IsTold, PassesOn, AsksOn, Files, work_for, results, Changed, Opened, Voted, Aborted, Decided, Heard, Ended}
-use Rattle.sc_calm_orders_law.specs.Parts.{bond_of, works, errands_for}
-use Rattle.sc_calm_orders_law.specs.Tables.{Works}
-use Rattle.sc_calm_rows_law.specs.Groups.{view_at}
-use Rattle.sc_calm_rows_law.specs.Turns.{with_event}
+use Rattle.sc_node_table.specs.Values.{Draw, OrderLine, Seat, Event}
+use Rattle.sc_actor.specs.Definitions.{mails}
+use Rattle.sc_node_table.specs.Definitions.{ReplicaState, Place}
+use Rattle.sc_sound.specs.Definitions.{Player}
+use Rattle.sc_calm_law.specs.Definitions.{Rows}
+use Rattle.sc_calm_orders_law.specs.Definitions.{Turn, First, Lone, Next, is_watch, Bond, Unbound, Asking, Errand, Question, Elsewhere, Reply, Work, Opens, Answers, Records, Ends, IsOnly, bound_by, IsOrder, GoesOn, Rests, IsTold, PassesOn, AsksOn, Files, work_for, results, Changed, Opened, Voted, Aborted, Decided, Heard, Ended, bond_of, works, errands_for, Works}
+use Rattle.sc_calm_rows_law.specs.Definitions.{view_at, with_event}
 use Rattle.sc_calm_scenes_law.specs.Scenes.{scene_at, taken_errand}
 use Rattle.sc_calm_scenes_law.specs.Turns.{errands_sent, IsSceneKind, NewestAreBound, IsTablesRow, LeadsAlone, NoneRuns}
 

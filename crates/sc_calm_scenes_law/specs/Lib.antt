@@ -12,3 +12,4 @@ pub mod Resting
 pub mod Scenes
 pub mod Taken
 pub mod Turns
+pub mod Definitions

@@ -1,20 +1,12 @@
 -- That an order stays under way where a node makes its replica of a state that it is sent.
 use Rattle.std.specs.Prelude.{◌≡◌, ℕ, true, List, Some}
-use Rattle.sc_base.specs.declared.names.Draw.{Draw}
-use Rattle.sc_cmd.specs.declared.cores.Base.{Base}
-use Rattle.sc_cmd.specs.declared.orders.OrderLine.{OrderLine}
-use Rattle.sc_mail.specs.declared.bodies.Mail.{Mail}
-use Rattle.sc_mail.specs.declared.bodies.MailBody.TheVariants.{Install}
-use Rattle.sc_base.specs.Roster.{is_member}
-use Rattle.sc_actor.specs.declared.actors.Seat.{Seat}
-use Rattle.sc_actor.specs.declared.rows.Event.{Event}
-use Rattle.sc_actor.specs.declared.rows.Event.TheVariants.{Deliver}
-use Rattle.sc_node_table.specs.Replica.{ReplicaState}
-use Rattle.sc_sound.specs.Players.{Player}
-use Rattle.sc_calm_law.specs.Totals.{Rows}
-use Rattle.sc_calm_orders_law.specs.Scenes.{Bond}
-use Rattle.sc_calm_rows_law.specs.Groups.{view_at}
-use Rattle.sc_calm_rows_law.specs.Turns.{with_event, IsWholeState}
+use Rattle.sc_node_table.specs.Values.{Draw, Base, OrderLine, Mail, Install, Seat, Event, Deliver}
+use Rattle.sc_base.specs.Definitions.{is_member}
+use Rattle.sc_node_table.specs.Definitions.{ReplicaState}
+use Rattle.sc_sound.specs.Definitions.{Player}
+use Rattle.sc_calm_law.specs.Definitions.{Rows}
+use Rattle.sc_calm_orders_law.specs.Definitions.{Bond}
+use Rattle.sc_calm_rows_law.specs.Definitions.{view_at, with_event, IsWholeState}
 use Rattle.sc_calm_scenes_law.specs.Turns.{NewestAreBound, LeadsAlone, NoneRuns}
 use Rattle.sc_calm_scenes_law.specs.Kept.{KeepsStage, ComesToNone}
 

@@ -1,33 +1,17 @@
 -- That no order is under way in a quiet journal, and that a leader's one work flies alone.
 use Rattle.std.specs.Prelude.{◌≡◌, ℕ, true, List, [], ◌∷◌, Some}
-use Rattle.sc_base.specs.Among.{Among, Each}
-use Rattle.sc_base.specs.declared.names.Draw.{Draw}
-use Rattle.sc_cmd.specs.declared.commands.Command.{Command}
-use Rattle.sc_cmd.specs.declared.cores.Lock.TheVariants.{Free}
-use Rattle.sc_cmd.specs.declared.orders.OrderLine.{OrderLine}
-use Rattle.sc_actor.specs.declared.rows.Event.{Event}
+use Rattle.sc_base.specs.Definitions.{Among, Each}
+use Rattle.sc_node_table.specs.Values.{Draw, Command, Free, OrderLine, Event, Mail, Seat, Flight}
 use Rattle.sc_actor.specs.declared.rows.Event.TheVariants.{Told}
-use Rattle.sc_node_table.specs.Node.{NodeState, group_of_order}
-use Rattle.sc_calm_rows_law.specs.Turns.{IsSeat, with_event}
+use Rattle.sc_node_table.specs.Definitions.{NodeState, group_of_order, ReplicaState, next}
+use Rattle.sc_calm_rows_law.specs.Definitions.{IsSeat, with_event, view_at}
 use Rattle.sc_calm_scenes_law.specs.Counted.{IsOrdered}
 use Rattle.sc_calm_scenes_law.specs.Kept.{KeepsStage}
-use Rattle.sc_mail.specs.declared.bodies.Mail.{Mail}
-use Rattle.sc_actor.specs.declared.actors.Seat.{Seat}
-use Rattle.sc_actor.specs.Mail.{mails}
-use Rattle.sc_actor.specs.Walk.{is_quiet}
-use Rattle.sc_orderly_law.specs.Orderly.{is_born}
-use Rattle.sc_orderly_law.specs.Timely.{AreInTime}
-use Rattle.sc_node_table.specs.Replica.{ReplicaState, next}
-use Rattle.sc_paxos_words.specs.declared.flights.Flight.{Flight}
-use Rattle.sc_sound.specs.Players.{Player}
-use Rattle.sc_calm_law.specs.Charts.{players}
-use Rattle.sc_calm_law.specs.Totals.{Rows}
-use Rattle.sc_calm_orders_law.specs.Scenes.{Unbound, Errand, Work}
-use Rattle.sc_calm_orders_law.specs.Stages.{IsAt, Still, IsUnderWay}
-use Rattle.sc_calm_orders_law.specs.Parts.{work_by, works_in, works, errand_by}
-use Rattle.sc_calm_orders_law.specs.Running.{FliesLone}
-use Rattle.sc_calm_orders_law.specs.Tables.{IsUnbound}
-use Rattle.sc_calm_rows_law.specs.Groups.{view_at}
+use Rattle.sc_actor.specs.Definitions.{mails, is_quiet}
+use Rattle.sc_orderly_law.specs.Definitions.{is_born, AreInTime}
+use Rattle.sc_sound.specs.Definitions.{Player}
+use Rattle.sc_calm_law.specs.Definitions.{players, Rows}
+use Rattle.sc_calm_orders_law.specs.Definitions.{Unbound, Errand, Work, IsAt, Still, IsUnderWay, work_by, works_in, works, errand_by, FliesLone, IsUnbound}
 use Rattle.sc_calm_scenes_law.specs.Scenes.{scene_at}
 use Rattle.sc_calm_scenes_law.specs.Turns.{LeadsAlone}
 

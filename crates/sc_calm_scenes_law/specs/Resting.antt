@@ -1,22 +1,15 @@
 -- Rows that are nothing to any order: of clients, of nodes that are told to go, and of nodes that get what is for no group, or not theirs.
 use Rattle.std.specs.Prelude.{◌≡◌, ℕ, false, List, Some, None}
-use Rattle.sc_cmd.specs.declared.orders.OrderLine.{OrderLine}
-use Rattle.sc_base.specs.declared.names.Draw.{Draw}
-use Rattle.sc_mail.specs.declared.bodies.Mail.{Mail}
-use Rattle.sc_mail.specs.declared.roles.Role.TheVariants.{Node, Client}
-use Rattle.sc_actor.specs.declared.actors.Seat.{Seat}
-use Rattle.sc_actor.specs.declared.rows.Event.{Event}
-use Rattle.sc_actor.specs.declared.rows.Event.TheVariants.{Deliver, Go, Told}
-use Rattle.sc_actor.specs.Mail.{mails, numbered}
-use Rattle.sc_actor.specs.Replay.{value}
-use Rattle.sc_client_table.specs.Client.{Client as ClientState}
-use Rattle.sc_orderly_law.specs.Timely.{AreInTime}
-use Rattle.sc_node_table.specs.Node.{NodeState, replica_of, group_of_mail, may_come, absent, unknown, group_of_order}
-use Rattle.sc_sound.specs.Players.{Player, player_table}
-use Rattle.sc_calm_law.specs.Charts.{players}
-use Rattle.sc_calm_law.specs.Totals.{Rows}
-use Rattle.sc_calm_orders_law.specs.Parts.{errand_by}
-use Rattle.sc_calm_rows_law.specs.Turns.{IsSeat, with_event}
+use Rattle.sc_node_table.specs.Values.{OrderLine, Draw, Mail, Node, Client, Seat, Event, Deliver, Go}
+use Rattle.sc_actor.specs.declared.rows.Event.TheVariants.{Told}
+use Rattle.sc_actor.specs.Definitions.{mails, numbered, value}
+use Rattle.sc_client_table.specs.Definitions.{Client as ClientState}
+use Rattle.sc_orderly_law.specs.Definitions.{AreInTime}
+use Rattle.sc_node_table.specs.Definitions.{NodeState, replica_of, group_of_mail, may_come, absent, unknown, group_of_order}
+use Rattle.sc_sound.specs.Definitions.{Player, player_table}
+use Rattle.sc_calm_law.specs.Definitions.{players, Rows}
+use Rattle.sc_calm_orders_law.specs.Definitions.{errand_by}
+use Rattle.sc_calm_rows_law.specs.Definitions.{IsSeat, with_event}
 use Rattle.sc_calm_scenes_law.specs.Scenes.{errand_taken}
 use Rattle.sc_calm_scenes_law.specs.Kept.{KeepsStage, ComesToNone}
 

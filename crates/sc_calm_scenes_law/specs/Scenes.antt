@@ -1,21 +1,15 @@
 -- The scene of an order after some rows of players: what each group is bound by, what of the order stands at its leader, which mail of a transaction is under way for it, and who leads.
 use Rattle.std.specs.Prelude.{ℕ, nat_le, Bool, true, false, List, [], ◌∷◌, find, if◌then◌else◌, Option, Some, None}
 use Rattle.std.specs.Option.{option_map}
-use Rattle.sc_base.specs.declared.names.Draw.{Draw}
-use Rattle.sc_cmd.specs.declared.orders.OrderLine.{OrderLine}
-use Rattle.sc_mail.specs.declared.bodies.Mail.{Mail}
-use Rattle.sc_actor.specs.declared.actors.Seat.{Seat}
-use Rattle.sc_actor.specs.declared.rows.Event.{Event}
-use Rattle.sc_actor.specs.declared.rows.Event.TheVariants.{Deliver, Tick, Go, Told, Crash, Drop, Again}
-use Rattle.sc_actor.specs.Mail.{mails, copies, numbered}
-use Rattle.sc_actor.specs.System.{numbers_of}
-use Rattle.sc_orderly_law.specs.Orderly.{mail_with}
-use Rattle.sc_node_table.specs.Replica.{ReplicaState, next}
-use Rattle.sc_sound.specs.Players.{Player}
-use Rattle.sc_calm_law.specs.Totals.{Rows}
-use Rattle.sc_calm_orders_law.specs.Scenes.{Bond, Unbound, Errand, Work, Here, Scene}
-use Rattle.sc_calm_orders_law.specs.Parts.{bond_of, works, errand_by, errands_for}
-use Rattle.sc_calm_rows_law.specs.Groups.{view_at}
+use Rattle.sc_node_table.specs.Values.{Draw, OrderLine, Mail, Seat, Event, Deliver, Tick, Go, Crash, Drop, Again}
+use Rattle.sc_actor.specs.declared.rows.Event.TheVariants.{Told}
+use Rattle.sc_actor.specs.Definitions.{mails, copies, numbered, numbers_of}
+use Rattle.sc_orderly_law.specs.Definitions.{mail_with}
+use Rattle.sc_node_table.specs.Definitions.{ReplicaState, next}
+use Rattle.sc_sound.specs.Definitions.{Player}
+use Rattle.sc_calm_law.specs.Definitions.{Rows}
+use Rattle.sc_calm_orders_law.specs.Definitions.{Bond, Unbound, Errand, Work, Here, Scene, bond_of, works, errand_by, errands_for}
+use Rattle.sc_calm_rows_law.specs.Definitions.{view_at}
 
 -- whether a replica runs, if there is one
 abbrev pub is_running : Option ReplicaState → Bool

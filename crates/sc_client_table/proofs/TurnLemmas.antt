@@ -12,10 +12,8 @@ use Rattle.sc_mail.specs.declared.bodies.MailBody.{MailBody}
 use Rattle.sc_mail.specs.declared.bodies.MailBody.TheVariants.{Answer}
 use Rattle.sc_mail.specs.declared.bodies.AnswerBody.{AnswerBody}
 use Rattle.sc_mail.specs.declared.bodies.AnswerBody.TheVariants.{Value, NotLeader, NotMine, Gone, Stale}
-use Rattle.sc_lookup.specs.Known.{KnownGroups, target_in, preferring, passed_on, told_not_mine, told_gone}
-use Rattle.sc_client_table.specs.Client.{Client, waiting_request}
-use Rattle.sc_client_table.specs.Table.{ClientStep, asked_of, sent_to, sent_where, chosen_for, request_sent, started, turned_on, client_ticked, waits_for, was_asked, redirected, answer_taken, got}
-use Rattle.sc_client_table.specs.Turns.{SendsWaiting, InTurn, SendsInTurn}
+use Rattle.sc_lookup.specs.Definitions.{KnownGroups, target_in, preferring, passed_on, told_not_mine, told_gone}
+use Rattle.sc_client_table.specs.Definitions.{Client, waiting_request, ClientStep, asked_of, sent_to, sent_where, chosen_for, request_sent, started, turned_on, client_ticked, waits_for, was_asked, redirected, answer_taken, got, SendsWaiting, InTurn, SendsInTurn}
 
 -- a step that sends at most the waiting request, and otherwise only learns
 record Sent (client : Client) (step : ClientStep) : Type 0 where

@@ -5,8 +5,7 @@ use Rattle.sc_base.specs.declared.names.Draw.{Draw}
 use Rattle.sc_base.specs.declared.ops.Op.{Op}
 use Rattle.sc_base.specs.declared.ops.Reply.{Reply}
 use Rattle.sc_cmd.specs.declared.links.Route.{Route}
-use Rattle.sc_lookup.specs.Ways.{new_way}
-use Rattle.sc_lookup.specs.Known.{KnownGroups}
+use Rattle.sc_lookup.specs.Definitions.{new_way, KnownGroups}
 
 -- what a client keeps
 pub record Client : Type 0 where

@@ -1,8 +1,5 @@
 -- What the derived `==` of the types of this crate decides.
-use Rattle.std.specs.Prelude.{nat_eq}
-use Rattle.std.specs.Cmp.Lexicographic.{pointwise}
-use Rattle.sc_base.proofs.EqualityLemmas.{Exact, lists, options, numbers, struct, no_field, last, ◌and◌, enum, ◌or◌, no_variant}
-use Rattle.sc_base.proofs.Exact.{bytes, arc, draw, op, noted}
+use Rattle.sc_base.proofs.Lemmas.{Exact, lists, options, numbers, struct, no_field, last, ◌and◌, enum, ◌or◌, no_variant, bytes, arc, draw, op, noted, bytes as members}
 use Rattle.sc_cmd.specs.contracts.bodies.Body as body_type
 use Rattle.sc_cmd.specs.contracts.bodies.BodyPartialEq.TheImpl as body_eq
 use Rattle.sc_cmd.specs.contracts.bodies.Offer as offer_type
@@ -39,9 +36,6 @@ use Rattle.sc_cmd.specs.contracts.votes.Past as past_type
 use Rattle.sc_cmd.specs.contracts.votes.PastPartialEq.TheImpl as past_eq
 use Rattle.sc_cmd.specs.contracts.votes.Vote as vote_type
 use Rattle.sc_cmd.specs.contracts.votes.VotePartialEq.TheImpl as vote_eq
-
-members : Exact (pointwise nat_eq)
-members = lists numbers
 
 pub link : Exact link_eq.ghosts.eq
 link = struct link_type.the_type (draw and last members)

@@ -1,6 +1,6 @@
 -- What the record of a group says of its neighbours.
 use Rattle.std.specs.Prelude.{Bool}
-use Rattle.sc_base.specs.Same.{same_draw}
+use Rattle.sc_base.specs.Definitions.{same_draw}
 use Rattle.sc_cmd.specs.declared.cores.Core.{Core}
 
 -- whether a group is its own successor

@@ -1,29 +1,25 @@
 -- What follows where each row may stand where it does: mail that was fetched goes to the port's actor, and an actor's first pending mail stays the first while neither the actor nor the network makes a row.
-use Rattle.std.proofs.Common.{◌≡◌, ◌≢◌, ℕ, zero, suc, ◌+◌, eqb, Bool, true, false, true≢false, cond, ◌&&◌, ◌||◌, not, List, [], ◌∷◌, ◌++◌, length, set, replicate, refl, sym, ap, ◌∙◌, subst, arith, append_assoc, length-append, Option, Some, None, eq-eqb}
+use Rattle.std.proofs.Common.{◌≡◌, ◌≢◌, ℕ, zero, suc, ◌+◌, eqb, Bool, true, false, true≢false, cond, ◌&&◌, ◌||◌, not, List, [], ◌∷◌, ◌++◌, length, set, replicate, refl, sym, ap, ◌∙◌, subst, arith, append_assoc, Option, Some, None, eq-eqb}
 use Rattle.std.specs.Prelude.{slice_get}
 use Rattle.std.specs.List.{list_any}
 use Rattle.std.proofs.lemmas.List.{append-nil}
 use Rattle.std.proofs.lemmas.List.Folds.{list_any-append}
 use Rattle.std.proofs.lemmas.Bool.{eqb-true, and_parts}
 use Rattle.std.proofs.Math.Bool.{and_assoc, or-false}
-use Rattle.sc_turn.specs.Turn.{StartsWith}
+use Rattle.sc_turn.specs.Definitions.{StartsWith}
 use Rattle.sc_actor.specs.declared.rows.Row.{Row}
 use Rattle.sc_actor.specs.declared.rows.Event.{Event}
 use Rattle.sc_actor.specs.declared.rows.Event.TheVariants.{Deliver, Drop, Again, Tick, Go, Told, Crash}
-use Rattle.sc_actor.specs.Mail.{mails, numbered, copies, counts_at, numbers, is_crash, has_crashed, may_get, is_for}
-use Rattle.sc_actor.proofs.CountLemmas.{counted, length-counts_at}
-use Rattle.sc_actor.proofs.ReplayLemmas.{mails-snoc, mails-append}
-use Rattle.sc_actor.proofs.PendingLemmas.{pending_sound, get_left}
-use Rattle.sc_ledger.specs.Pending.{upto, whose, pending_of, kth_pending}
-use Rattle.sc_ledger.proofs.Kept.{copies-push}
+use Rattle.sc_actor.specs.Definitions.{mails, numbered, copies, counts_at, numbers, is_crash, has_crashed, may_get, is_for}
+use Rattle.sc_actor.proofs.Lemmas.{counted, length-counts_at, mails-snoc, mails-append, pending_sound, get_left}
+use Rattle.sc_ledger.specs.Definitions.{upto, whose, pending_of, kth_pending}
+use Rattle.sc_ledger.proofs.Lemmas.{copies-push}
 use Rattle.sc_turn.specs.declared.rule.View.{View}
 use Rattle.sc_exchange.specs.declared.shared.BareRow.{BareRow}
 use Rattle.sc_exchange.specs.declared.fates.Fate.{Fate}
 use Rattle.sc_exchange.specs.declared.fates.Fate.TheVariants.{Lost, Repeated}
-use Rattle.sc_exchange.specs.BareRows.{bare_rows, rows_of, rows_from}
-use Rattle.sc_exchange.specs.Turns.{change}
+use Rattle.sc_exchange.specs.Definitions.{bare_rows, rows_of, rows_from, change, is_mail_to, is_addressed, all_addressed}
 use Rattle.sc_exchange.proofs.Done.{rows_of_bare, begins_rows, quiet}
-use Rattle.sc_exchange.specs.Addressed.{is_mail_to, is_addressed, all_addressed}
 
 -- a mail keeps its receiver
 pub mail_later : {M : Type 0} (receiver : M → ℕ) (who : ℕ) (sent more : List M) (number : ℕ) → is_mail_to receiver who (numbered sent number) ≡ true → is_mail_to receiver who (numbered (sent ++ more) number) ≡ true

@@ -4,11 +4,11 @@ use Rattle.std.specs.Prelude.{nat_lt}
 use Rattle.std.proofs.lemmas.List.{append-nil, map-append, length-map, nil_from_length}
 use Rattle.std.proofs.lemmas.Bool.{eqb-true}
 use Rattle.sc_turn.specs.declared.rule.View.{View}
-use Rattle.sc_turn.specs.Turn.{rows_by, view, left_with, with_turn, with_row, longer, StartsWith}
-use Rattle.sc_turn.proofs.Leaving.{made_more}
+use Rattle.sc_turn.specs.Definitions.{rows_by, view, left_with, with_turn, with_row, longer, StartsWith}
+use Rattle.sc_turn.proofs.Lemmas.{made_more}
 use Rattle.sc_actor.specs.declared.rows.Row.{Row}
 use Rattle.sc_exchange.specs.declared.shared.BareRow.{BareRow}
-use Rattle.sc_exchange.specs.BareRows.{bare_rows, row_by, rows_from, rows_of}
+use Rattle.sc_exchange.specs.Definitions.{bare_rows, row_by, rows_from, rows_of}
 
 module _ {M O : Type 0} where
   -- the rows of the bare rows of rows are those rows

@@ -1,26 +1,21 @@
 -- The mail that was fetched, as more rows are seen.
-use Rattle.std.proofs.Common.{◌≡◌, ◌≢◌, ℕ, Bool, true, false, MatchBool, List, ◌∷◌, ◌++◌, length, map, refl, sym, ap, ◌∙◌, subst, append_assoc, [], Option, None, Some, Result, Ok, Err, IfOk}
+use Rattle.std.proofs.Common.{◌≡◌, ◌≢◌, ℕ, Bool, true, false, MatchBool, List, ◌∷◌, ◌++◌, length, map, refl, sym, ap, ◌∙◌, subst, [], Option, None, Some, Result, Ok, Err, IfOk}
 use Rattle.std.proofs.lemmas.List.{append-nil}
 use Rattle.sc_turn.specs.declared.rule.View.{View}
-use Rattle.sc_turn.specs.Turn.{StartsWith, IsTrueOf, rows_by, with_seen}
-use Rattle.sc_turn.proofs.Lists.{starts_more, starts_trans}
+use Rattle.sc_turn.specs.Definitions.{StartsWith, IsTrueOf, rows_by, with_seen}
+use Rattle.sc_turn.proofs.Lemmas.{starts_more, starts_trans}
 use Rattle.std.proofs.Math.Logic.{∥∥₁_elim}
 use Rattle.std.proofs.Props.{props}
 use Rattle.sc_base.specs.declared.dups.OutOfMemory.{OutOfMemory}
 use Rattle.sc_actor.specs.declared.rows.Row.{Row}
-use Rattle.sc_actor.specs.Mail.{mails}
+use Rattle.sc_actor.specs.Definitions.{mails}
 use Rattle.sc_actor.specs.declared.rows.Event.{Event}
 use Rattle.sc_actor.specs.declared.rows.Event.TheVariants.{Deliver, Drop, Again, Tick, Go, Told, Crash}
 use Rattle.sc_exchange.specs.declared.shared.BareRow.{BareRow}
 use Rattle.sc_exchange.specs.declared.fates.Fate.{Fate}
 use Rattle.sc_exchange.specs.declared.answers.Fetched.{Fetched}
 use Rattle.sc_exchange.specs.declared.answers.Fetched.TheVariants.{Mail, Empty}
-use Rattle.sc_exchange.specs.BareRows.{bare_rows, row_by, rows_from}
-use Rattle.sc_exchange.specs.Turns.{Turned, RowTurned, Changed, change}
-use Rattle.sc_exchange.specs.Answers.{IsFetch, fetched_number, number_in}
-use Rattle.sc_exchange.specs.Ports.{MayPost}
-use Rattle.sc_exchange.specs.Fetches.{WasPending, HasFetched, delivered}
-use Rattle.sc_exchange.specs.Addressed.{is_addressed}
+use Rattle.sc_exchange.specs.Definitions.{bare_rows, row_by, rows_from, Turned, RowTurned, Changed, change, IsFetch, fetched_number, number_in, MayPost, WasPending, HasFetched, delivered, is_addressed}
 use Rattle.sc_exchange.proofs.Addressing.{pending_to, addressed_rows}
 use Rattle.sc_exchange.proofs.Done.{rows_of_from, begins_rows}
 use Rattle.sc_exchange.proofs.Views.{own_same, own_turned, own_of, bare}

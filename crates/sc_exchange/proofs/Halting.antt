@@ -5,11 +5,11 @@ use Rattle.std.proofs.Math.Bool.{or-false}
 use Rattle.std.proofs.lemmas.List.Folds.{list_any-append}
 use Rattle.sc_turn.specs.declared.rule.View.{View}
 use Rattle.sc_actor.specs.declared.rows.Row.{Row}
-use Rattle.sc_actor.specs.Mail.{is_crash}
+use Rattle.sc_actor.specs.Definitions.{is_crash}
 use Rattle.sc_exchange.specs.declared.shared.BareRow.{BareRow}
 use Rattle.sc_exchange.specs.declared.fates.Fate.{Fate}
 use Rattle.sc_exchange.specs.declared.fates.Fate.TheVariants.{Lost, Repeated}
-use Rattle.sc_exchange.specs.Turns.{Turned, RowTurned, Changed, change}
+use Rattle.sc_exchange.specs.Definitions.{Turned, RowTurned, Changed, change}
 
 change_runs : (M O : Type 0) (fate : Fate) (number : ℕ) → is_crash (change {M = M} {O = O} fate number).event ≡ false
 change_runs M O Lost number = refl

@@ -1,21 +1,18 @@
 -- What a clause says of a port, from what its seat knows.
-use Rattle.std.proofs.Common.{◌≡◌, ◌≢◌, ℕ, ◌<◌, ◌≤◌, zero, suc, Bool, true, false, List, [], ◌∷◌, ◌++◌, map, length, get_or, eqb, cond, length-append, refl, sym, ap, ◌∙◌, subst, arith, Contains, MatchBool}
+use Rattle.std.proofs.Common.{◌≡◌, ◌≢◌, ℕ, ◌<◌, ◌≤◌, zero, suc, Bool, true, false, List, [], ◌∷◌, ◌++◌, map, length, get_or, length-append, refl, sym, ap, ◌∙◌, subst, arith, Contains, MatchBool}
 use Rattle.std.proofs.lemmas.List.{map-append, length-map, append-nil}
 use Rattle.sc_turn.specs.declared.rule.View.{View}
-use Rattle.sc_turn.specs.Turn.{StartsWith, rows_by, merged_seen, with_seen, entered_with, IsTrueOf, IsTrueOver}
-use Rattle.sc_turn.specs.Seats.{known, OfOneStart}
-use Rattle.sc_turn.proofs.Lists.{starts_trans}
+use Rattle.sc_turn.specs.Definitions.{StartsWith, rows_by, merged_seen, with_seen, entered_with, IsTrueOf, IsTrueOver, known, OfOneStart}
+use Rattle.sc_turn.proofs.Lemmas.{starts_trans}
 use Rattle.sc_actor.specs.declared.rows.Row.{Row}
 use Rattle.sc_actor.specs.declared.actors.Parcel.{Ghosts}
-use Rattle.sc_actor.specs.Counted.{row_bytes, journal_bytes}
+use Rattle.sc_actor.specs.Definitions.{journal_bytes}
 use Rattle.sc_ledger.specs.declared.faults.PostFault.{PostFault}
-use Rattle.sc_ledger.specs.Fault.{IsCause}
+use Rattle.sc_ledger.specs.Definitions.{IsCause}
 use Rattle.sc_exchange.specs.declared.shared.BareRow.{BareRow}
 use Rattle.sc_exchange.specs.declared.fates.Fate.{Fate}
 use Rattle.sc_exchange.specs.declared.ports.Port.{Port}
-use Rattle.sc_exchange.specs.BareRows.{bare_rows, row_by, rows_from, rows_of}
-use Rattle.sc_exchange.specs.Turns.{Turned, RowTurned, Changed, may_change, change}
-use Rattle.sc_exchange.specs.Ports.{seen, made, joined_ports, Stays, Looked, Appended, ChangedBy, MayNotChange, IsTrue}
+use Rattle.sc_exchange.specs.Definitions.{bare_rows, row_by, rows_from, rows_of, Turned, RowTurned, Changed, may_change, change, seen, made, joined_ports, Stays, Looked, Appended, ChangedBy, MayNotChange, IsTrue}
 use Rattle.sc_exchange.proofs.Done.{rows_of_bare, rows_of_from, rows_of-append, begins_rows}
 use Rattle.sc_exchange.proofs.Views.{bare, row_back, seen_row, own_same, own_row, others_same, others_row}
 

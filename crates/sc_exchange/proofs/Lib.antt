@@ -6,3 +6,4 @@ pub mod Fetching
 pub mod Addressing
 pub mod Halting
 pub mod Seats
+pub mod Lemmas

@@ -1,15 +1,12 @@
 -- What a turn leaves of a seat.
 use Rattle.std.proofs.Common.{◌≡◌, true, false, List, [], ap, ◌∙◌}
 use Rattle.sc_turn.specs.declared.seat.TurnSeat.{TurnSeat}
-use Rattle.sc_turn.specs.Seats.{known, OfOneStart}
-use Rattle.sc_turn.specs.Turn.{StartsWith, IsTrueOf, entered_with, with_turn}
+use Rattle.sc_turn.specs.Definitions.{known, OfOneStart, StartsWith, IsTrueOf, entered_with, with_turn}
 use Rattle.sc_actor.specs.declared.rows.Row.{Row}
 use Rattle.sc_actor.specs.declared.actors.Parcel.{Ghosts}
 use Rattle.sc_exchange.specs.declared.shared.BareRow.{BareRow}
 use Rattle.sc_exchange.specs.declared.shared.Exchange.{Exchange}
-use Rattle.sc_exchange.specs.Addressed.{all_addressed}
-use Rattle.sc_exchange.specs.BareRows.{bare_rows, rows_from}
-use Rattle.sc_exchange.specs.Turns.{RowTurned, SeatLooked, SeatTurned}
+use Rattle.sc_exchange.specs.Definitions.{all_addressed, bare_rows, rows_from, RowTurned, SeatLooked, SeatTurned}
 use Rattle.sc_exchange.proofs.Views.{seen_same, turned_same, own_turned, own_row_turned, kept_turned, kept_row_turned}
 
 module _ {M O : Type 0} {g : Ghosts M} where

@@ -1,16 +1,15 @@
 -- What a seat knows after a turn.
-use Rattle.std.proofs.Common.{◌≡◌, ◌≢◌, ℕ, ◌+◌, ◌≤◌, Bool, true, false, List, [], ◌∷◌, ◌++◌, length, sym, ap, ◌∙◌, subst, arith, length-append, Contains, Result, Ok, Err, IfOk, IfErr}
+use Rattle.std.proofs.Common.{◌≡◌, ◌≢◌, ℕ, ◌+◌, ◌≤◌, true, false, List, [], ◌∷◌, ◌++◌, length, sym, ap, ◌∙◌, subst, arith, length-append, Contains}
 use Rattle.std.proofs.lemmas.List.{map-append}
 use Rattle.sc_turn.specs.declared.rule.View.{View}
-use Rattle.sc_turn.specs.Turn.{rows_by, newcomer, merged_seen, IsTrueLater, entered_with, with_turn, with_row, StartsWith, IsTrueOf}
-use Rattle.sc_turn.proofs.Lists.{rows_by_same, rows_by_other, rows_by_none, rows_by-append}
+use Rattle.sc_turn.specs.Definitions.{rows_by, newcomer, merged_seen, IsTrueLater, entered_with, with_turn, with_row, StartsWith, IsTrueOf}
+use Rattle.sc_turn.proofs.Lemmas.{rows_by_same, rows_by_other, rows_by_none, rows_by-append}
 use Rattle.sc_actor.specs.declared.rows.Row.{Row}
-use Rattle.sc_actor.specs.Counted.{row_bytes, journal_bytes}
-use Rattle.sc_ledger.proofs.Kept.{bytes-push}
+use Rattle.sc_actor.specs.Definitions.{row_bytes, journal_bytes}
+use Rattle.sc_ledger.proofs.Lemmas.{bytes-push}
 use Rattle.sc_exchange.specs.declared.shared.BareRow.{BareRow}
 use Rattle.sc_exchange.specs.declared.fates.Fate.{Fate}
-use Rattle.sc_exchange.specs.BareRows.{bare_rows, row_by, rows_from}
-use Rattle.sc_exchange.specs.Turns.{Turned, RowTurned, Changed, may_change, change}
+use Rattle.sc_exchange.specs.Definitions.{bare_rows, row_by, rows_from, Turned, RowTurned, Changed, may_change, change}
 use Rattle.sc_exchange.proofs.Done.{rows_of_bare}
 
 module _ {M O : Type 0} where

@@ -3,7 +3,7 @@ use Rattle.std.specs.Prelude.{ℕ, ◌==◌, List, [], ◌∷◌, ◌++◌, Bool
 use Rattle.sc_actor.specs.declared.rows.Row.{Row}
 use Rattle.sc_actor.specs.declared.rows.Event.{Event}
 use Rattle.sc_actor.specs.declared.rows.Event.TheVariants.{Deliver, Drop, Again, Tick, Go, Told, Crash}
-use Rattle.sc_actor.specs.Mail.{numbered}
+use Rattle.sc_actor.specs.Definitions.{numbered}
 
 -- whether a mail was found, and is for this actor
 abbrev pub is_mail_to : {M : Type 0} → (M → ℕ) → ℕ → Option M → Bool

@@ -2,9 +2,8 @@
 use Rattle.std.specs.Prelude.{◌≡◌, ℕ, List, length, Option, None, Some, All, Result, Ok, Err}
 use Rattle.sc_base.specs.declared.dups.OutOfMemory.{OutOfMemory}
 use Rattle.sc_actor.specs.declared.rows.Row.{Row}
-use Rattle.sc_actor.specs.Mail.{mails, numbered}
-use Rattle.sc_ledger.specs.Pending.{kth_pending}
-use Rattle.sc_ledger.specs.Spots.{copies_for, picked_spot, spots_of}
+use Rattle.sc_actor.specs.Definitions.{mails, numbered}
+use Rattle.sc_ledger.specs.Definitions.{kth_pending, copies_for, picked_spot, spots_of}
 use Rattle.sc_ledger.specs.declared.spots.Spot.{Spot}
 use Rattle.sc_ledger.specs.declared.spots.Look.{Look}
 use Rattle.sc_ledger.specs.declared.spots.Glance.{Glance}

@@ -1,14 +1,12 @@
 -- What a clause says of a port.
 use Rattle.std.specs.Prelude.{◌≡◌, ◌≢◌, ℕ, ◌≤◌, Option, None, Some, List, [], ◌∷◌, ◌++◌, length, Bool, true, false, map, Contains, ⊤, Result, IfOk, IfErr, OnErr, MatchBool}
-use Rattle.sc_turn.specs.Turn.{longer, StartsWith as Begins}
-use Rattle.sc_turn.specs.Seats.{known, OfOneStart}
+use Rattle.sc_turn.specs.Definitions.{longer, StartsWith as Begins, known, OfOneStart}
 use Rattle.sc_actor.specs.declared.rows.Row.{Row}
 use Rattle.sc_actor.specs.declared.rows.Event.{Event}
 use Rattle.sc_actor.specs.declared.rows.Event.TheVariants.{Deliver, Drop, Again, Tick, Go, Told, Crash}
 use Rattle.sc_actor.specs.declared.actors.Parcel.{Ghosts}
-use Rattle.sc_actor.specs.Mail.{is_crash}
-use Rattle.sc_actor.specs.Counted.{row_bytes, journal_bytes}
-use Rattle.sc_ledger.specs.Fault.{IsCause}
+use Rattle.sc_actor.specs.Definitions.{is_crash, row_bytes, journal_bytes}
+use Rattle.sc_ledger.specs.Definitions.{IsCause}
 use Rattle.sc_exchange.specs.declared.answers.Unposted.{Unposted}
 use Rattle.sc_exchange.specs.declared.fates.Fate.{Fate}
 use Rattle.sc_exchange.specs.declared.ports.Port.{Port}

@@ -2,13 +2,12 @@
 use Rattle.std.specs.Prelude.{◌≡◌, ℕ, List, [], length, Bool, true, false}
 use Rattle.sc_turn.specs.declared.rule.View.{View}
 use Rattle.sc_turn.specs.declared.seat.TurnSeat.{TurnSeat}
-use Rattle.sc_turn.specs.Seats.{known, OfOneStart}
-use Rattle.sc_turn.specs.Turn.{StartsWith, IsTrueOf, entered_with, with_turn, with_row, rows_by}
+use Rattle.sc_turn.specs.Definitions.{known, OfOneStart, StartsWith, IsTrueOf, entered_with, with_turn, with_row, rows_by}
 use Rattle.sc_actor.specs.declared.actors.Parcel.{Ghosts}
 use Rattle.sc_actor.specs.declared.rows.Row.{Row}
 use Rattle.sc_actor.specs.declared.rows.Event.{Event}
 use Rattle.sc_actor.specs.declared.rows.Event.TheVariants.{Drop, Again}
-use Rattle.sc_ledger.specs.Pending.{is_pending, may_repeat}
+use Rattle.sc_ledger.specs.Definitions.{is_pending, may_repeat}
 use Rattle.sc_exchange.specs.declared.shared.BareRow.{BareRow}
 use Rattle.sc_exchange.specs.declared.shared.Exchange.{Exchange}
 use Rattle.sc_exchange.specs.declared.fates.Fate.{Fate}

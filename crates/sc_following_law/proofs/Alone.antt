@@ -2,30 +2,14 @@
 use Rattle.std.proofs.Common.{◌≡◌, ℕ, ◌+◌, ◌≤◌, eqb, ltb, true, false, true≢false, List, [], ◌∷◌, Option, Some, None, inl, inr, refl, sym, ◌∙◌, ap, subst, arith}
 use Rattle.std.specs.FinMap.{get}
 use Rattle.std.proofs.lemmas.Bool.{cond_both}
-use Rattle.sc_base.specs.declared.ops.Noted.{Noted}
-use Rattle.sc_base.specs.declared.ops.Op.{Op}
-use Rattle.sc_ideal.specs.IdealStore.{key_of, holds_key}
-use Rattle.sc_cmd.specs.declared.commands.Command.{Command}
-use Rattle.sc_cmd.specs.declared.commands.Command.TheVariants.{Noop, Call, Join, Leave, Split, Begin, Prepared, RecordVote, GiveUp, Finish, Watched, RecordWatch}
-use Rattle.sc_cmd.specs.declared.cores.Core.{Core}
-use Rattle.sc_cmd.specs.declared.cores.Lock.{Lock}
-use Rattle.sc_cmd.specs.declared.cores.Lock.TheVariants.{Free, Coordinating, Promised, Watching}
-use Rattle.sc_cmd.specs.declared.effects.Effect.{Effect}
-use Rattle.sc_cmd.specs.declared.links.Route.{Route}
-use Rattle.sc_machine_table.specs.Group.{Group}
-use Rattle.sc_machine_table.specs.Machine.{served_by_note, served, called, applied}
-use Rattle.sc_base.specs.Roster.{is_member}
-use Rattle.sc_node_table.specs.Execute.{entered, executed_one, next_child, next_ready, ending, executed_ready, executed}
-use Rattle.sc_node_table.specs.Pump.{is_act, pumped}
-use Rattle.sc_node_table.specs.Replica.{ReplicaState, Place, Executed, childless, next, forgotten}
-use Rattle.sc_node_table.specs.Rows.{mailed}
-use Rattle.sc_node_table.specs.Slots.{at_slot}
-use Rattle.sc_law_lemmas.specs.Steps.{IfThere}
-use Rattle.sc_law_lemmas.proofs.Entries.{entered_next, idle_ready, idle_pump}
-use Rattle.sc_following_law.specs.Following.{Course, Sets}
-use Rattle.sc_following_law.specs.Counted.{IsLed, IsNext, IsOn, IsOff, LeadsPast}
-use Rattle.sc_following_law.specs.Executed.{AreNext, LeadsBy}
-use Rattle.sc_following_law.specs.Leading.{StopsAlone, ActsStopAlone}
+use Rattle.sc_node_table.specs.Values.{Noted, Op, Command, Noop, Call, Join, Leave, Split, Begin, Prepared, RecordVote, GiveUp, Finish, Watched, RecordWatch, Core, Lock, Free, Coordinating, Promised, Watching, Effect, Route}
+use Rattle.sc_ideal.specs.Definitions.{key_of, holds_key}
+use Rattle.sc_machine_table.specs.Definitions.{Group, served_by_note, served, called, applied}
+use Rattle.sc_base.specs.Definitions.{is_member}
+use Rattle.sc_node_table.specs.Definitions.{entered, executed_one, next_child, next_ready, ending, executed_ready, executed, is_act, pumped, ReplicaState, Place, Executed, childless, next, forgotten, mailed, at_slot}
+use Rattle.sc_law_lemmas.specs.Definitions.{IfThere}
+use Rattle.sc_law_lemmas.proofs.Lemmas.{entered_next, idle_ready, idle_pump}
+use Rattle.sc_following_law.specs.Definitions.{Course, Sets, IsLed, IsNext, IsOn, IsOff, LeadsPast, AreNext, LeadsBy, StopsAlone, ActsStopAlone}
 use Rattle.sc_following_law.proofs.Counted.{entries_lead}
 use Rattle.sc_following_law.proofs.Executed.{stays_led, ready_of, ready_leads}
 use Rattle.sc_following_law.proofs.InFlight.{slot_out}
@@ -35,21 +19,21 @@ use Rattle.sc_following_law.proofs.Voted.{vote_row}
 
 -- ---- calls and fillers leave a group's core as it is
 
-note_core : (o : Option Noted) (group : Group) (client seq : ℕ) (op : Op) → (served_by_note o group client seq op).0.core ≡ group.core
+pub note_core : (o : Option Noted) (group : Group) (client seq : ℕ) (op : Op) → (served_by_note o group client seq op).0.core ≡ group.core
 note_core None group client seq op = refl
 note_core (Some noted) group client seq op = cond_both (ltb noted.seq seq) _ _ (λ (s : Group × Effect). s.0.core ≡ group.core) (λ _. refl) (λ _. cond_both (eqb noted.seq seq) _ _ (λ (s : Group × Effect). s.0.core ≡ group.core) (λ _. refl) (λ _. refl))
 
-served_core : (group : Group) (client seq : ℕ) (op : Op) → (served group client seq op).0.core ≡ group.core
+pub served_core : (group : Group) (client seq : ℕ) (op : Op) → (served group client seq op).0.core ≡ group.core
 served_core group client seq op = cond_both (holds_key group.core.arc (key_of op)) _ _ (λ (s : Group × Effect). s.0.core ≡ group.core) (λ _. note_core (get group.clients client) group client seq op) (λ _. refl)
 
-called_core : (gone : Option Route) (lock : Lock) (group : Group) (client seq : ℕ) (op : Op) → (called gone lock group client seq op).0.core ≡ group.core
+pub called_core : (gone : Option Route) (lock : Lock) (group : Group) (client seq : ℕ) (op : Op) → (called gone lock group client seq op).0.core ≡ group.core
 called_core (Some into) lock group client seq op = refl
 called_core None Free group client seq op = served_core group client seq op
 called_core None (Watching tx watch) group client seq op = served_core group client seq op
 called_core None (Coordinating tx body order heard) group client seq op = refl
 called_core None (Promised tx offer) group client seq op = refl
 
-entered_core : (command : Command) (r : ReplicaState) → (entered command r).group.core ≡ (applied r.group command).0.core
+pub entered_core : (command : Command) (r : ReplicaState) → (entered command r).group.core ≡ (applied r.group command).0.core
 unfolding entered forgotten
 entered_core command r = refl
 
@@ -144,6 +128,7 @@ executed_alone at course command place led ready is_next are alone =
 
 -- ---- the whole
 
+-- Where anything but a call or a filler is in flight or ready only alone, a leader that stops by a vote has executed all that it offered.
 pub acts_stop_alone : ActsStopAlone
 unfolding mailed
 acts_stop_alone at now from ballot slot r rosters was decides alone =

@@ -3,51 +3,16 @@ use Rattle.std.proofs.Common.{◌≡◌, ℕ, ◌&&◌, not, eqb, Bool, true, fa
 use Rattle.std.specs.Prelude.{nat_le}
 use Rattle.std.proofs.lemmas.Bool.{and_from, and_parts, eq-eqb, or_left, or_right, eqb-true, or_cases}
 use Rattle.std.proofs.lemmas.List.Folds.{list_any-append}
-use Rattle.sc_base.specs.Drawing.{Drawer, next_name}
-use Rattle.sc_base.specs.Limits.{client_actor}
-use Rattle.sc_base.specs.Same.{same_ballot, same_draw}
-use Rattle.sc_base.specs.declared.names.Ballot.{Ballot}
-use Rattle.sc_base.specs.declared.names.Draw.{Draw}
-use Rattle.sc_base.specs.declared.ops.Op.{Op}
-use Rattle.sc_base.proofs.NameLemmas.{ballot_is, ballot_itself}
-use Rattle.sc_cmd.specs.declared.bodies.Offer.{Offer}
-use Rattle.sc_cmd.specs.declared.bodies.Watch.{Watch}
-use Rattle.sc_cmd.specs.declared.commands.Command.{Command}
-use Rattle.sc_cmd.specs.declared.commands.Command.TheVariants.{Call, Prepared, RecordVote, Finish, Watched, RecordWatch}
-use Rattle.sc_cmd.specs.declared.cores.Lock.{Lock}
-use Rattle.sc_cmd.specs.declared.cores.Lock.TheVariants.{Free, Coordinating, Promised, Watching}
-use Rattle.sc_cmd.specs.declared.orders.OrderLine.{OrderLine}
-use Rattle.sc_cmd.specs.declared.orders.OrderRefusal.{OrderRefusal}
-use Rattle.sc_cmd.specs.declared.orders.ToldResult.TheVariants.{Refused}
-use Rattle.sc_cmd.specs.declared.votes.Outcome.{Outcome}
-use Rattle.sc_cmd.specs.declared.votes.Past.{Past}
+use Rattle.sc_base.specs.Definitions.{Drawer, next_name, client_actor, same_ballot, same_draw, is_member}
+use Rattle.sc_node_table.specs.Values.{Ballot, Draw, Op, Offer, Watch, Command, Call, Prepared, RecordVote, Finish, Watched, RecordWatch, Lock, Free, Coordinating, Promised, Watching, OrderLine, OrderRefusal, Refused, Outcome, Past, Vote, AnswerBody, Mail, MailBody, Request, Answer, Prepare, Promise, Accept, Accepted, Nack, Learn, Ask, Install, TxPrepare, TxVote, TxOutcome, TxElsewhere, TxWatch, TxWatched, Told, Report}
+use Rattle.sc_base.proofs.Lemmas.{ballot_is, ballot_itself}
 use Rattle.sc_cmd.specs.declared.votes.Past.TheVariants as Cast
-use Rattle.sc_cmd.specs.declared.votes.Vote.{Vote}
 use Rattle.sc_cmd.specs.declared.votes.Vote.TheVariants as Says
-use Rattle.sc_mail.specs.declared.bodies.AnswerBody.{AnswerBody}
-use Rattle.sc_mail.specs.declared.bodies.Mail.{Mail}
-use Rattle.sc_mail.specs.declared.bodies.MailBody.{MailBody}
-use Rattle.sc_mail.specs.declared.bodies.MailBody.TheVariants.{Request, Answer, Prepare, Promise, Accept, Accepted, Nack, Learn, Ask, Install, TxPrepare, TxVote, TxOutcome, TxElsewhere, TxWatch, TxWatched, Told}
-use Rattle.sc_base.specs.Roster.{is_member}
-use Rattle.sc_paxos_words.specs.declared.reports.Report.{Report}
-use Rattle.sc_paxos_words.specs.Ballots.{below}
-use Rattle.sc_paxos_words.specs.Leaders.{LeaderState, promise_counted}
+use Rattle.sc_paxos_words.specs.Definitions.{below, LeaderState, promise_counted}
 use Rattle.sc_node_table.specs.declared.ReplicaInput.TheVariants as Given
-use Rattle.sc_node_table.specs.Acts.{has_act, act_queued}
-use Rattle.sc_node_table.specs.Election.{saw, stopped}
-use Rattle.sc_node_table.specs.Mails.{sent}
-use Rattle.sc_node_table.specs.Ordering.{ordered_command, untaken, taken_or_told, ordered_row}
-use Rattle.sc_node_table.specs.Pump.{pumped}
-use Rattle.sc_node_table.specs.Queues.{call_of, without_call}
-use Rattle.sc_node_table.specs.Questions.{asked_link, question, asked_node}
-use Rattle.sc_node_table.specs.Replica.{ReplicaState, Place, name_of, settled}
-use Rattle.sc_node_table.specs.Rows.{refused_at, queued, requested, request_row, mailed, stepped}
-use Rattle.sc_node_table.specs.Transactions.{standing_vote, sent_elsewhere, offered_by, offer_row, watched_by, watch_row, awaits_vote, awaits_watch, told_outcome, noted_outcome, vote_met, vote_row, watch_met, watched_row, next_asked, asked_next, elsewhere_row, is_bound, outcome_row}
-use Rattle.sc_node_table.specs.Voting.{leads, promise_row, nack_row}
-use Rattle.sc_law_lemmas.specs.Steps.{GoesOn}
-use Rattle.sc_following_law.specs.Following.{Mark, Votes, Promises, Progress, Sets}
-use Rattle.sc_following_law.specs.Leading.{voters_of, IsLeadOf, LeadsInto, IsAside, RowsLead}
-use Rattle.sc_following_law.specs.Tables.{marks_for}
+use Rattle.sc_node_table.specs.Definitions.{has_act, act_queued, saw, stopped, sent, ordered_command, untaken, taken_or_told, ordered_row, pumped, call_of, without_call, asked_link, question, asked_node, ReplicaState, Place, name_of, settled, refused_at, queued, requested, request_row, mailed, stepped, standing_vote, sent_elsewhere, offered_by, offer_row, watched_by, watch_row, awaits_vote, awaits_watch, told_outcome, noted_outcome, vote_met, vote_row, watch_met, watched_row, next_asked, asked_next, elsewhere_row, is_bound, outcome_row, leads, promise_row, nack_row}
+use Rattle.sc_law_lemmas.specs.Definitions.{GoesOn}
+use Rattle.sc_following_law.specs.Definitions.{Mark, Votes, Promises, Progress, Sets, voters_of, IsLeadOf, LeadsInto, IsAside, RowsLead, marks_for}
 use Rattle.sc_following_law.proofs.Executed.{none_leads, pump_leads}
 use Rattle.sc_following_law.proofs.Leading.{Counts, leads_into}
 use Rattle.sc_following_law.proofs.Offers.{pumps_offer}
@@ -316,6 +281,7 @@ module _ (at : Sets) (now : Progress) (r : ReplicaState) (was : IsLeadOf at now 
   pub order_leads : (on : Bool) (drawer : Drawer) (line : OrderLine) → LeadsInto at now None r (stepped on drawer (Given.Told line) (r, [])).0
   order_leads on drawer line = order_is (LeadsInto at now None r) r was.led.running quiet_leads pump_after on drawer line
 
+-- Each whole row of a replica that leads is a leader's row, and if it leads on, it leads in the progress after it: whatever it takes of votes, by which it executes and offers, of promises, requests, orders and mails of transactions. Of a vote it is said where the entries that it executes are the next ones, and where it stops only when all that was offered is executed.
 pub rows_lead : RowsLead
 unfolding mailed
 rows_lead = record {

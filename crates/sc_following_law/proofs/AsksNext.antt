@@ -4,38 +4,15 @@ use Rattle.std.specs.Prelude.{is_some, nat_le}
 use Rattle.std.specs.List.{filter, list_any}
 use Rattle.std.specs.Option.{option_map}
 use Rattle.std.proofs.lemmas.Bool.{cond_both}
-use Rattle.sc_base.specs.Same.{same_draw}
-use Rattle.sc_base.specs.declared.names.Ballot.{Ballot}
-use Rattle.sc_base.specs.declared.names.Draw.{Draw}
-use Rattle.sc_cmd.specs.declared.commands.Command.{Command}
-use Rattle.sc_cmd.specs.declared.cores.Core.{Core}
-use Rattle.sc_mail.specs.declared.bodies.AnswerBody.{AnswerBody}
-use Rattle.sc_mail.specs.declared.bodies.Mail.{Mail}
-use Rattle.sc_mail.specs.declared.bodies.MailBody.{MailBody}
-use Rattle.sc_mail.specs.declared.bodies.MailBody.TheVariants.{Prepare, Accept, Learn, Install}
-use Rattle.sc_machine_table.specs.Group.{base_of}
-use Rattle.sc_machine_table.specs.Machine.{applied}
-use Rattle.sc_base.specs.Roster.{is_member}
-use Rattle.sc_paxos_words.specs.declared.answers.Must.{Must}
-use Rattle.sc_paxos_words.specs.declared.answers.Must.TheVariants.{Value, Gap, Free as Open}
-use Rattle.sc_paxos_words.specs.declared.reports.Report.{Report}
-use Rattle.sc_paxos_words.specs.Leaders.{must, promise_counted, without_flight_at}
-use Rattle.sc_node_table.specs.Execute.{entered, learnt_to, welcomed, landed, left, looked, executed_one, next_child, next_ready, ending, executed_ready, executed}
-use Rattle.sc_node_table.specs.Install.{install_to, welcomed_all}
-use Rattle.sc_node_table.specs.Mails.{sent, sent_all, sent_others, answered}
-use Rattle.sc_node_table.specs.Pump.{Found, is_act, waits, turned_down, next_call, from_calls, from_acts, from_queues, found_by, found_for, offered, pumped_from, pumped}
-use Rattle.sc_node_table.specs.Replica.{ReplicaState, Place, Executed, childless, listed, name_of, next, members, settled, may_offer, taken_at, under_way, is_idle, last_slot}
-use Rattle.sc_node_table.specs.Rows.{mailed}
-use Rattle.sc_node_table.specs.Slots.{at_slot, without_slot}
-use Rattle.sc_node_table.specs.Spoken.{before_of, spoken}
-use Rattle.sc_node_table.specs.Voting.{leads, promise_row}
-use Rattle.sc_law_lemmas.specs.Steps.{IfThere}
-use Rattle.sc_law_lemmas.proofs.Entries.{idle_ready}
-use Rattle.sc_following_law.specs.Dated.{Dated, marks_in, from_slot_of, dated_of, dated_for, AreLow, IsNoPrepare, AsksLow, RowsAskNext}
-use Rattle.sc_following_law.specs.Following.{Mark, Asks, Tells, Installs, Prepares, mark_of, reached, Course, Sets}
-use Rattle.sc_following_law.specs.Counted.{IsLed, IsNext}
-use Rattle.sc_following_law.specs.Executed.{AreNext}
-use Rattle.sc_following_law.specs.Tables.{marks_for}
+use Rattle.sc_base.specs.Definitions.{same_draw, is_member}
+use Rattle.sc_node_table.specs.Values.{Ballot, Draw, Command, Core, AnswerBody, Mail, MailBody, Prepare, Accept, Learn, Install, Must, Gap, Report}
+use Rattle.sc_machine_table.specs.Definitions.{base_of, applied}
+use Rattle.sc_paxos_words.specs.declared.answers.Must.TheVariants.{Value, Free as Open}
+use Rattle.sc_paxos_words.specs.Definitions.{must, promise_counted, without_flight_at}
+use Rattle.sc_node_table.specs.Definitions.{entered, learnt_to, welcomed, landed, left, looked, executed_one, next_child, next_ready, ending, executed_ready, executed, install_to, welcomed_all, sent, sent_all, sent_others, answered, Found, is_act, waits, turned_down, next_call, from_calls, from_acts, from_queues, found_by, found_for, offered, pumped_from, pumped, ReplicaState, Place, Executed, childless, listed, name_of, next, members, settled, may_offer, taken_at, under_way, is_idle, last_slot, mailed, at_slot, without_slot, before_of, spoken, leads, promise_row}
+use Rattle.sc_law_lemmas.specs.Definitions.{IfThere}
+use Rattle.sc_law_lemmas.proofs.Lemmas.{idle_ready}
+use Rattle.sc_following_law.specs.Definitions.{Dated, marks_in, from_slot_of, dated_of, dated_for, AreLow, IsNoPrepare, AsksLow, RowsAskNext, Mark, Asks, Tells, Installs, Prepares, mark_of, reached, Course, Sets, IsLed, IsNext, AreNext, marks_for}
 use Rattle.sc_following_law.proofs.Asides.{aside_is, order_is}
 use Rattle.sc_following_law.proofs.Counted.{entered_keeps, landed_is, told_state, ends, entries_lead}
 use Rattle.sc_following_law.proofs.Dated.{low-append, none_low, nothing, prepares_are_known}
@@ -299,6 +276,7 @@ module _ (r : ReplicaState) where
   pump_low : (acts calls : List Command) → AsksLow (name_of r) (pumped (record r { acts = acts; calls = calls }, [])).1
   pump_low acts calls = low_pumped (name_of r) (record r { acts = acts; calls = calls }) [] (λ who next_. tt)
 
+-- Each row of a replica that leads asks to promise its ballot right behind a state that it sends, from the slot after it on.
 pub rows_ask_next : RowsAskNext
 unfolding mailed
 rows_ask_next = record {

@@ -1,14 +1,11 @@
 -- The first leader of a group leads in its progress from its birth on.
 use Rattle.std.proofs.Common.{◌≡◌, ℕ, ◌||◌, not, eqb, ltb, Bool, true, false, true≢false, cond, List, Option, Some, None, inl, refl, sym, arith}
 use Rattle.std.proofs.lemmas.Bool.{cond-true, eq-eqb}
-use Rattle.sc_base.specs.Roster.{is_member}
-use Rattle.sc_node_table.specs.Replica.{ReplicaState, next, first_ballot, born_replica}
-use Rattle.sc_node_table.specs.Slots.{slots_ahead}
-use Rattle.sc_following_law.specs.Electing.{LeadersBegin}
-use Rattle.sc_following_law.specs.Leading.{voters_of, IsLeadOf}
-use Rattle.sc_following_law.specs.Orderly.{IsOrderly}
-use Rattle.sc_following_law.specs.Rows.{begun}
+use Rattle.sc_base.specs.Definitions.{is_member}
+use Rattle.sc_node_table.specs.Definitions.{ReplicaState, next, first_ballot, born_replica, slots_ahead}
+use Rattle.sc_following_law.specs.Definitions.{LeadersBegin, voters_of, IsLeadOf, IsOrderly, begun}
 
+-- The first leader of a group leads in its progress from its birth on, with nothing in flight or ready.
 pub leaders_begin : LeadersBegin
 leaders_begin at me base same first member stands roster = (leads_first, orderly_first)
   where

@@ -1,28 +1,17 @@
 -- A leader that has counted an entry tells what is told of it, and leads on where it is a member of a group that stands.
 use Rattle.std.proofs.Common.{◌≡◌, ℕ, not, eqb, Bool, true, false, cond, List, [], ◌∷◌, ◌++◌, Option, Some, None, ◌⊎◌, inl, inr, refl, sym, ◌∙◌, ap, subst}
 use Rattle.std.specs.List.{filter}
-use Rattle.sc_cmd.specs.declared.commands.Command.{Command}
-use Rattle.sc_cmd.specs.declared.links.Route.{Route}
-use Rattle.sc_mail.specs.declared.bodies.AnswerBody.{AnswerBody}
+use Rattle.sc_node_table.specs.Values.{Command, Route, AnswerBody, Mail}
 use Rattle.sc_mail.specs.declared.bodies.AnswerBody.TheVariants as Says
-use Rattle.sc_mail.specs.declared.bodies.Mail.{Mail}
-use Rattle.sc_machine_table.specs.Machine.{applied}
-use Rattle.sc_base.specs.Roster.{IsRoster, is_member, least_of}
-use Rattle.sc_paxos_words.specs.Leaders.{new_leader, without_flight_at}
-use Rattle.sc_node_table.specs.Election.{elected, ended, stopped}
-use Rattle.sc_node_table.specs.Execute.{entered, learnt_to, welcomed, slot_lost, landed, left_gone, left, looked_for, looked, executed_one}
-use Rattle.sc_node_table.specs.Install.{install_to, welcomed_all}
-use Rattle.sc_node_table.specs.Replica.{ReplicaState, Place, name_of, next, members, flying, forgotten}
-use Rattle.sc_node_table.specs.Slots.{without_slot}
-use Rattle.sc_node_table.specs.Spoken.{before_of, spoken}
-use Rattle.sc_following_law.specs.Following.{Course, Sets}
-use Rattle.sc_following_law.specs.Counted.{IsLed, IsNext, led_on, led_off, LeadsPast, EntriesLead}
-use Rattle.sc_following_law.specs.Tables.{marks_for, IsLeader}
-use Rattle.sc_following_law.specs.Rows.{told_of}
+use Rattle.sc_machine_table.specs.Definitions.{applied}
+use Rattle.sc_base.specs.Definitions.{IsRoster, is_member, least_of}
+use Rattle.sc_paxos_words.specs.Definitions.{new_leader, without_flight_at}
+use Rattle.sc_node_table.specs.Definitions.{elected, ended, stopped, entered, learnt_to, welcomed, slot_lost, landed, left_gone, left, looked_for, looked, executed_one, install_to, welcomed_all, ReplicaState, Place, name_of, next, members, flying, forgotten, without_slot, before_of, spoken}
+use Rattle.sc_following_law.specs.Definitions.{Course, Sets, IsLed, IsNext, led_on, led_off, LeadsPast, EntriesLead, marks_for, IsLeader, told_of}
 use Rattle.sc_following_law.proofs.Entries.{with_state, with_both, entries_tell}
 use Rattle.sc_following_law.proofs.Leads.{least_in}
 use Rattle.sc_following_law.proofs.Spoken.{spoken_same, ended_same, announced_keeps}
-use Rattle.sc_law_lemmas.proofs.Entries.{entered_next}
+use Rattle.sc_law_lemmas.proofs.Lemmas.{entered_next}
 
 -- ---- the parts that leave the replica as it is
 
@@ -167,5 +156,6 @@ module _ (at : Sets) (course : Course) (command : Command) (r : ReplicaState) (m
       (past acts calls said.1 (λ who. (spoken_same (name_of r) who (before_of r.group.core) (applied r.group command).1 command q more).1 ∙ same who)))
       (applied r.group command).1 command
 
+-- A leader that has counted an entry sends no other mail of agreement than what is told of it, and leads on where it is a member of a group that stands, with the entry's slot over; else it runs no longer.
 pub entries_lead : EntriesLead
 entries_lead at course command (r, mails) led is_next = leads_past at course command r mails led is_next

@@ -3,14 +3,11 @@ use Rattle.std.proofs.Common.{◌≡◌, ℕ, ◌≤◌, eqb, List, [], ◌∷�
 use Rattle.std.specs.List.{filter}
 use Rattle.std.specs.Option.{option_map}
 use Rattle.std.proofs.lemmas.Bool.{cases_eq, cases_lt}
-use Rattle.sc_base.specs.Among.{Each}
-use Rattle.sc_base.specs.declared.names.Draw.{Draw}
-use Rattle.sc_mail.specs.declared.bodies.Mail.{Mail}
-use Rattle.sc_node_table.specs.Replica.{listed}
-use Rattle.sc_paxos_words.proofs.ListLemmas.{Each-split}
-use Rattle.sc_following_law.specs.Dated.{Dated, from_slot_of, dated_of, marks_in, IsLow, AreLow, IsNoPrepare, IsAskedLow, IsDatedRow, AsksFromNext, SlotsAreKept, PreparesAreKnown}
-use Rattle.sc_following_law.specs.Following.{Mark, Asks, Votes, Tells, Installs, Prepares, Promises, mark_of, marks_of, next_by, reached, Progress, Sets, IsFollowing}
-use Rattle.sc_following_law.specs.Rows.{IsCount, Leads}
+use Rattle.sc_base.specs.Definitions.{Each}
+use Rattle.sc_node_table.specs.Values.{Draw, Mail}
+use Rattle.sc_node_table.specs.Definitions.{listed}
+use Rattle.sc_paxos_words.proofs.Lemmas.{Each-split}
+use Rattle.sc_following_law.specs.Definitions.{Dated, from_slot_of, dated_of, marks_in, IsLow, AreLow, IsNoPrepare, IsAskedLow, IsDatedRow, AsksFromNext, SlotsAreKept, PreparesAreKnown, Mark, Asks, Votes, Tells, Installs, Prepares, Promises, mark_of, marks_of, next_by, reached, Progress, Sets, IsFollowing, IsCount, Leads}
 use Rattle.sc_following_law.proofs.Elects.{last_next}
 use Rattle.sc_following_law.proofs.Keeps.{counts_of}
 
@@ -34,7 +31,7 @@ none_low next [] e = tt
 none_low next (d ∷ dated) e = (no_prepare next d.1 d.0 e.0, none_low (next_by next d.0) dated e.1)
 
 -- votes and promises are such, and take nobody anywhere
-count_none : (mark : Mark) → IsCount mark → IsNoPrepare mark
+pub count_none : (mark : Mark) → IsCount mark → IsNoPrepare mark
 count_none (Votes node ballot slot) c = tt
 count_none (Promises node ballot) c = tt
 count_none (Asks ballot slot) c = tt
@@ -99,6 +96,7 @@ module _ (at : Sets) (now after : Progress) (node : ℕ) (taken : Option Dated) 
     leads_low : IsAskedLow after dated_after
     leads_low = each_node (low-append (after.next node) row.left (sent node) own_left (asks.low node _)) (λ who ne. asks.low who _)
 
+-- Each kind of row keeps it that no node is asked to promise a ballot from below its next slot.
 pub slots_are_kept : SlotsAreKept
 slots_are_kept = record {
   begin = λ now node. tt;
@@ -144,6 +142,7 @@ slots_are_kept = record {
 
 -- ---- what follows
 
+-- So an acceptor that has forgotten nothing from its next slot on is asked from above what it has forgotten.
 pub prepares_are_known : PreparesAreKnown
 prepares_are_known = record {
   above = λ now dated node ballot from_slot rest r was is same low. (let least = (subst (AreLow (now.next node)) is (was node)).0 in omega (arith, least, same, low));

@@ -2,22 +2,11 @@
 use Rattle.std.proofs.Common.{◌≡◌, ℕ, suc, ◌≤◌, eqb, Bool, true, false, cond, List, [], ◌∷◌, ◌++◌, Option, Some, None, sym, ◌∙◌, subst, arith}
 use Rattle.std.specs.List.{filter}
 use Rattle.std.specs.Option.{option_map}
-use Rattle.sc_base.specs.Among.{Each}
-use Rattle.sc_base.specs.declared.names.Draw.{Draw}
-use Rattle.sc_cmd.specs.declared.commands.Command.{Command}
-use Rattle.sc_mail.specs.declared.bodies.Mail.{Mail}
-use Rattle.sc_mail.specs.declared.bodies.MailBody.{MailBody}
-use Rattle.sc_mail.specs.declared.bodies.MailBody.TheVariants.{Prepare}
-use Rattle.sc_paxos_words.proofs.ListLemmas.{Each-append, Each-split}
-use Rattle.sc_node_table.specs.Election.{open_nodes}
-use Rattle.sc_node_table.specs.Execute.{entered, executed_ready, executed}
-use Rattle.sc_node_table.specs.Mails.{sent, sent_all}
-use Rattle.sc_node_table.specs.Pump.{pumped}
-use Rattle.sc_node_table.specs.Replica.{ReplicaState, Place, listed, name_of, next}
-use Rattle.sc_node_table.specs.Rows.{mailed}
-use Rattle.sc_following_law.specs.Dated.{Dated, from_slot_of, dated_of, dated_for, ElectionsAskNext}
-use Rattle.sc_following_law.specs.Following.{Mark, mark_of}
-use Rattle.sc_following_law.specs.Tables.{MayElect, next_ballot}
+use Rattle.sc_base.specs.Definitions.{Each}
+use Rattle.sc_node_table.specs.Values.{Draw, Command, Mail, MailBody, Prepare}
+use Rattle.sc_paxos_words.proofs.Lemmas.{Each-append, Each-split}
+use Rattle.sc_node_table.specs.Definitions.{open_nodes, entered, executed_ready, executed, sent, sent_all, pumped, ReplicaState, Place, listed, name_of, next, mailed}
+use Rattle.sc_following_law.specs.Definitions.{Dated, from_slot_of, dated_of, dated_for, ElectionsAskNext, Mark, mark_of, MayElect, next_ballot}
 use Rattle.sc_following_law.proofs.Dated.{nothing, prepares_are_known}
 use Rattle.sc_following_law.proofs.Elected.{last, mails, leading, one_is, next_is, no_pump}
 use Rattle.sc_following_law.proofs.Learn.{silent, told_is}
@@ -72,6 +61,7 @@ module _ (command : Command) (r : ReplicaState) (off : r.running ≡ false) (non
       subst (λ (p : Place). Asks (pumped (executed_ready p.0.ready p).0)) (sym (one_is command r off none slot at may name_is))
       (subst Asks (sym (no_pump there.0 there.1 (next_ballot before) (next before))) asks_next)
 
+-- A replica that elects itself by the last entry asks to promise its ballot from the slot after it on.
 pub elections_ask_next : ElectionsAskNext
 unfolding mailed
 elections_ask_next from slot command r fit off none low may name =

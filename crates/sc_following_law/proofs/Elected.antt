@@ -3,29 +3,14 @@ use Rattle.std.proofs.Common.{◌≡◌, ℕ, zero, suc, ◌+◌, ◌-◌, ◌*�
 use Rattle.std.specs.Prelude.{nat_le}
 use Rattle.std.specs.List.{filter}
 use Rattle.std.proofs.lemmas.Bool.{cases_eq, cond-true, cond-false, eq-eqb, ne_eqb, le-ltb, or_left, or_from}
-use Rattle.sc_base.specs.Limits.{most_nodes}
-use Rattle.sc_base.specs.declared.names.Ballot.{Ballot}
-use Rattle.sc_base.specs.declared.names.Draw.{Draw}
-use Rattle.sc_cmd.specs.declared.commands.Command.{Command}
-use Rattle.sc_mail.specs.declared.bodies.Mail.{Mail}
-use Rattle.sc_mail.specs.declared.bodies.MailBody.{MailBody}
-use Rattle.sc_mail.specs.declared.bodies.MailBody.TheVariants.{Prepare}
-use Rattle.sc_base.specs.Majority.{votes_of, is_majority}
-use Rattle.sc_base.specs.Roster.{is_member, least_of}
-use Rattle.sc_paxos_words.specs.Ballots.{below}
-use Rattle.sc_paxos_words.specs.Leaders.{new_leader}
-use Rattle.sc_node_table.specs.Election.{is_in_some, nodes_to, open_nodes, elected}
-use Rattle.sc_node_table.specs.Execute.{entered, looked_for, looked, executed_one, executed_ready, executed}
-use Rattle.sc_node_table.specs.Mails.{sent, sent_all}
-use Rattle.sc_node_table.specs.Pump.{pumped_from, pumped}
-use Rattle.sc_node_table.specs.Replica.{ReplicaState, Place, listed, name_of, next, members, first_set, last_slot, forgotten}
-use Rattle.sc_node_table.specs.Rows.{mailed}
-use Rattle.sc_node_table.specs.Slots.{numbers_from}
-use Rattle.sc_following_law.specs.Following.{Mark, Prepares, mark_of, marks_of}
-use Rattle.sc_following_law.specs.Tables.{marks_for, MayElect, next_ballot, ElectsBy, TablesElect}
+use Rattle.sc_base.specs.Definitions.{most_nodes, votes_of, is_majority, is_member, least_of}
+use Rattle.sc_node_table.specs.Values.{Ballot, Draw, Command, Mail, MailBody, Prepare}
+use Rattle.sc_paxos_words.specs.Definitions.{below, new_leader}
+use Rattle.sc_node_table.specs.Definitions.{is_in_some, nodes_to, open_nodes, elected, entered, looked_for, looked, executed_one, executed_ready, executed, sent, sent_all, pumped_from, pumped, ReplicaState, Place, listed, name_of, next, members, first_set, last_slot, forgotten, mailed, numbers_from}
+use Rattle.sc_following_law.specs.Definitions.{Mark, Prepares, mark_of, marks_of, marks_for, MayElect, next_ballot, ElectsBy, TablesElect}
 use Rattle.sc_following_law.proofs.Nodes.{same_mark, floor_low}
 use Rattle.sc_following_law.proofs.Learn.{over, place2, silent, over_off, looks, entered_keeps, entered_floor, told_is}
-use Rattle.sc_law_lemmas.proofs.Entries.{entered_next}
+use Rattle.sc_law_lemmas.proofs.Lemmas.{entered_next}
 
 -- ---- the marks of what is sent to several nodes
 
@@ -110,7 +95,7 @@ open_once sets who mark = once (λ node. is_in_some sets node) who mark most_nod
 
 -- ---- one that is elected offers nothing yet
 
-no_votes : (members : List ℕ) → votes_of members [] ≡ 0
+pub no_votes : (members : List ℕ) → votes_of members [] ≡ 0
 no_votes [] = refl
 no_votes (x ∷ members) = no_votes members
 
@@ -200,6 +185,7 @@ module _ (command : Command) (r : ReplicaState) (off : r.running ≡ false) (non
       subst (λ (p : Place). ElectsBy slot (entered command r).sets r (pumped (executed_ready p.0.ready p).0)) (sym one_is)
       (subst (ElectsBy slot (entered command r).sets r) (sym (no_pump leading.0 leading.1 (next_ballot last) (next last))) elects)
 
+-- The least member that takes no member for the leader elects itself by an entry that it is told: it runs with the next round of its own, and asks each node that decides an open slot to promise it.
 pub tables_elect : TablesElect
 unfolding mailed
 tables_elect from slot command r fit off none low may name = told_is (ElectsBy slot (entered command r).sets r) from slot command r fit.1 low (executed_elects command r off none slot fit.1 may name)

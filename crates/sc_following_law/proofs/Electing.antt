@@ -2,24 +2,11 @@
 use Rattle.std.proofs.Common.{◌≡◌, ℕ, zero, suc, ◌+◌, ◌<◌, ◌≤◌, ◌||◌, not, eqb, ltb, Bool, true, false, true≢false, cond, List, [], ◌∷◌, length, Option, Some, None, inl, inr, refl, sym, ◌∙◌, ap, subst, arith}
 use Rattle.std.specs.Prelude.{is_some}
 use Rattle.std.proofs.lemmas.Bool.{cases_Bool, cases_eq, cases_lt, cond-true, cond-false, eq-eqb, or_cases, or_left, or_right}
-use Rattle.sc_base.specs.Limits.{most_nodes}
-use Rattle.sc_base.specs.declared.names.Ballot.{Ballot}
-use Rattle.sc_cmd.specs.declared.commands.Command.{Command}
-use Rattle.sc_base.specs.Roster.{is_member, least_of}
-use Rattle.sc_paxos_words.specs.Ballots.{below}
-use Rattle.sc_node_table.specs.Election.{is_in_some, nodes_to, open_nodes}
-use Rattle.sc_node_table.specs.Execute.{entered, executed_ready, executed}
-use Rattle.sc_node_table.specs.Pump.{pumped}
-use Rattle.sc_node_table.specs.Replica.{ReplicaState, Place, name_of, next, members, forgotten}
-use Rattle.sc_node_table.specs.Rows.{mailed}
-use Rattle.sc_node_table.specs.Slots.{numbers_from}
-use Rattle.sc_following_law.specs.Electing.{MayLeadNext, elected_by, ElectsInto, ElectionsLead, StepsTake}
-use Rattle.sc_following_law.specs.Following.{Tells, Prepares, next_by, promise_by, Progress, Sets, members_at, IsOpen}
-use Rattle.sc_following_law.specs.Leading.{voters_of, IsLeadOf}
-use Rattle.sc_following_law.specs.Offers.{AreAt}
-use Rattle.sc_following_law.specs.Orderly.{IsOrderly}
-use Rattle.sc_following_law.specs.Rows.{answered, Elects}
-use Rattle.sc_following_law.specs.Tables.{marks_for, MayElect, next_ballot, ElectsBy}
+use Rattle.sc_base.specs.Definitions.{most_nodes, is_member, least_of}
+use Rattle.sc_node_table.specs.Values.{Ballot, Command}
+use Rattle.sc_paxos_words.specs.Definitions.{below}
+use Rattle.sc_node_table.specs.Definitions.{is_in_some, nodes_to, open_nodes, entered, executed_ready, executed, pumped, ReplicaState, Place, name_of, next, members, forgotten, mailed, numbers_from}
+use Rattle.sc_following_law.specs.Definitions.{MayLeadNext, elected_by, ElectsInto, ElectionsLead, StepsTake, Tells, Prepares, next_by, promise_by, Progress, Sets, members_at, IsOpen, voters_of, IsLeadOf, AreAt, IsOrderly, answered, Elects, marks_for, MayElect, next_ballot, ElectsBy}
 use Rattle.sc_following_law.proofs.Elected.{last, leading, one_is, no_pump, elects}
 use Rattle.sc_following_law.proofs.Entries.{passes, fails}
 use Rattle.sc_following_law.proofs.Leads.{least_in}
@@ -28,7 +15,7 @@ use Rattle.sc_following_law.proofs.Learn.{told_is}
 -- ---- the nodes that are asked
 
 -- one of these numbers is among them
-among_numbers : (count from who : ℕ) → from ≤ who → who < from + count → is_member (numbers_from from count) who ≡ true
+pub among_numbers : (count from who : ℕ) → from ≤ who → who < from + count → is_member (numbers_from from count) who ≡ true
 among_numbers zero from who least most = absurd (omega (arith, least, most))
 among_numbers (suc count) from who least most = elim (cases_eq from who) [
   | inl is ↦ or_left (eqb from who) (is_member (numbers_from (from + 1) count) who) (eq-eqb from who is)
@@ -185,12 +172,14 @@ module _ (at : Sets) (now : Progress) (command : Command) (r : ReplicaState) (of
       subst (λ (p : Place). ElectsInto at now slot r (pumped (executed_ready p.0.ready p).0)) (sym (one_is command r off none slot is_next may name_is))
       (subst (ElectsInto at now slot r) (sym (no_pump place.0 place.1 (next_ballot before) (next before))) (record { elects = goes; leads = leads_then; orderly = orderly_then }))
 
+-- A replica's row by which it elects itself is such a row, and it leads in the progress after it, where its next ballot is later than the group's and it has the members of the open slots.
 pub elections_lead : ElectionsLead
 unfolding mailed
 elections_lead at now from slot command r fit off none low may name m = told_is (ElectsInto at now slot r) from slot command r fit.1 low (executed_into at now command r off none slot fit.1 may name m)
 
 -- ---- a mail that is taken
 
+-- A row that is as its mark says, of a replica that is where its group's progress says, is that of a node that takes the mail.
 pub steps_take : StepsTake
 steps_take at now mark r after next_is promise_is s counts waits = record {
   mark = mark;

@@ -1,33 +1,28 @@
 -- A row in which the least member elects itself keeps what stands between the one that leads and its nodes.
-use Rattle.std.proofs.Common.{◌≡◌, ℕ, ◌+◌, ◌<◌, ◌≤◌, true, false, Bool, List, ◌∷◌, ◌++◌, Option, Some, None, inl, inr, refl, sym, ◌∙◌, ap, subst, arith}
+use Rattle.std.proofs.Common.{◌≡◌, ℕ, ◌+◌, ◌<◌, ◌≤◌, true, List, ◌∷◌, ◌++◌, Option, Some, None, inl, inr, refl, sym, ◌∙◌, ap, subst, arith}
 use Rattle.std.proofs.lemmas.Bool.{cases_eq}
-use Rattle.sc_base.specs.Among.{Among, Each}
-use Rattle.sc_base.specs.declared.names.Ballot.{Ballot}
-use Rattle.sc_base.specs.Roster.{IsRoster, is_member}
-use Rattle.sc_node_table.specs.Replica.{listed}
-use Rattle.sc_paxos_words.specs.Ballots.{IsAtLeast}
-use Rattle.sc_paxos_words.proofs.BallotLemmas.{at_least_below, at_least_from_below, at_least_itself, not_both}
-use Rattle.sc_paxos_words.proofs.ListLemmas.{Each-among, Each-weaker}
-use Rattle.sc_following_law.specs.Following.{Mark, Asks, Votes, Tells, Installs, Prepares, Promises, next_by, promise_by, reached, pledged, AreFit, AreAskedFirst, Progress, Sets, members_at, IsOpen, IsKnown, IsFollowing}
-use Rattle.sc_following_law.specs.Rows.{IsRow, IsLast, Elects}
+use Rattle.sc_base.specs.Definitions.{Among, Each, IsRoster, is_member}
+use Rattle.sc_node_table.specs.Values.{Ballot}
+use Rattle.sc_node_table.specs.Definitions.{listed}
+use Rattle.sc_paxos_words.specs.Definitions.{IsAtLeast}
+use Rattle.sc_paxos_words.proofs.Lemmas.{at_least_below, at_least_from_below, at_least_itself, not_both, Each-among, Each-weaker}
+use Rattle.sc_following_law.specs.Definitions.{Mark, Asks, Votes, Tells, Installs, Prepares, Promises, next_by, promise_by, reached, pledged, AreFit, AreAskedFirst, Progress, Sets, members_at, IsOpen, IsKnown, IsFollowing, IsRow, IsLast, Elects}
 use Rattle.sc_following_law.proofs.Marks.{reached-append, pledged-append, fit-append, fit-asks, pledged-most, IsLater}
 use Rattle.sc_following_law.proofs.Keeps.{goes, each-row, asked-row}
 use Rattle.sc_following_law.proofs.Leads.{least_in}
+use Rattle.sc_following_law.proofs.Leads.{both_no as true_false}
 
 -- the last entry takes a node to the newest state, and promises nothing
 pub last_next : (newest next : ℕ) (mark : Mark) → IsLast newest mark → next_by next mark ≡ newest
 last_next newest next mark (slot, is, inl tells) = ap (next_by next) tells ∙ is
 last_next newest next mark (slot, is, inr installs) = ap (next_by next) installs ∙ is
 
-last_promise : (newest : ℕ) (promise : Ballot) (mark : Mark) → IsLast newest mark → promise_by promise mark ≡ promise
+pub last_promise : (newest : ℕ) (promise : Ballot) (mark : Mark) → IsLast newest mark → promise_by promise mark ≡ promise
 last_promise newest promise mark (slot, is, inl tells) = ap (promise_by promise) tells
 last_promise newest promise mark (slot, is, inr installs) = ap (promise_by promise) installs
 
 none_some : {X : Type 0} {o : Option X} {x : X} → o ≡ None → o ≡ Some x → ⊥
 none_some e f = cc
-
-true_false : {b : Bool} → b ≡ true → b ≡ false → ⊥
-true_false t f = cc
 
 module _ (at : Sets) (now after : Progress) (node : ℕ) (taken : Option Mark) (sent marks marks_after : ℕ → List Mark) (rosters : (slot : ℕ) → IsRoster (at slot))
     (row : IsRow now after node taken sent marks marks_after) (e : Elects at now after node taken sent) (was : IsFollowing at now marks) where

@@ -4,21 +4,12 @@ use Rattle.std.specs.List.{All, AllPairs, filter}
 use Rattle.std.proofs.lemmas.Bool.{cases_Bool, cases_eq, cond_both, cond-true, cond-false, eqb-true, eq-eqb, ne_eqb, or_left, or_from, not_from_true, not_from_false}
 use Rattle.std.proofs.lemmas.List.Elements.{All-head, All-tail}
 use Rattle.std.proofs.lemmas.List.Kept.{AllPairs-filter, AllPairs-from_increasing}
-use Rattle.sc_base.specs.declared.names.Draw.{Draw}
-use Rattle.sc_cmd.specs.declared.commands.Command.{Command}
-use Rattle.sc_mail.specs.declared.bodies.Mail.{Mail}
-use Rattle.sc_mail.specs.declared.bodies.MailBody.{MailBody}
-use Rattle.sc_mail.specs.declared.bodies.MailBody.TheVariants.{Learn, Install, Prepare}
-use Rattle.sc_machine_table.specs.Group.{base_of}
-use Rattle.sc_base.specs.Roster.{is_member}
-use Rattle.sc_base.proofs.Pairs.{AllPairs-head, AllPairs-tail}
-use Rattle.sc_node_table.specs.Execute.{learnt_to, welcomed}
-use Rattle.sc_node_table.specs.Install.{install_to, welcomed_all}
-use Rattle.sc_node_table.specs.Mails.{sent, sent_others}
-use Rattle.sc_node_table.specs.Replica.{ReplicaState, Place, name_of, next, members}
-use Rattle.sc_following_law.specs.Following.{Mark, Tells, Installs, Prepares, mark_of, Course, Sets, members_at}
-use Rattle.sc_following_law.specs.Tables.{marks_for, IsLeader, EntriesTell}
-use Rattle.sc_following_law.specs.Rows.{welcome, told_of}
+use Rattle.sc_node_table.specs.Values.{Draw, Command, Mail, MailBody, Learn, Install, Prepare}
+use Rattle.sc_machine_table.specs.Definitions.{base_of}
+use Rattle.sc_base.specs.Definitions.{is_member}
+use Rattle.sc_base.proofs.Lemmas.{AllPairs-head, AllPairs-tail}
+use Rattle.sc_node_table.specs.Definitions.{learnt_to, welcomed, install_to, welcomed_all, sent, sent_others, ReplicaState, Place, name_of, next, members}
+use Rattle.sc_following_law.specs.Definitions.{Mark, Tells, Installs, Prepares, mark_of, Course, Sets, members_at, marks_for, IsLeader, EntriesTell, welcome, told_of}
 use Rattle.sc_following_law.proofs.Elected.{append_one, pushed}
 use Rattle.sc_following_law.proofs.Nodes.{same_mark}
 
@@ -185,5 +176,6 @@ module _ (at : Sets) (course : Course) (before : List ℕ) (slot : ℕ) (command
         (other ne)
   ]
 
+-- What a leader sends of an entry that it counted is what is told of it: the members before the entry learn it, and each that it adds is sent the state, and asked to promise a later ballot.
 pub entries_tell : EntriesTell
 entries_tell at course before slot command r mails l who = tells at course before slot command r mails l who

@@ -4,46 +4,35 @@ use Rattle.std.specs.Prelude.{is_some}
 use Rattle.std.specs.Option.{option_map}
 use Rattle.std.proofs.lemmas.Bool.{cases_eq, cases_lt}
 use Rattle.std.proofs.lemmas.List.{length_push}
-use Rattle.sc_base.specs.Among.{Each}
-use Rattle.sc_cmd.specs.declared.commands.Command.{Command}
-use Rattle.sc_cmd.specs.declared.links.Route.{Route}
-use Rattle.sc_base.specs.Roster.{is_member}
-use Rattle.sc_paxos_words.specs.declared.flights.Flight.{Flight}
-use Rattle.sc_paxos_words.specs.Leaders.{flight_at, without_flight}
-use Rattle.sc_paxos_words.proofs.ListLemmas.{Each-append, Each-weaker}
-use Rattle.sc_node_table.specs.Execute.{entered, executed_one, next_child, has_room, next_ready, ending, executed_ready, executed}
-use Rattle.sc_node_table.specs.Pump.{pumped}
-use Rattle.sc_node_table.specs.Replica.{ReplicaState, Place, Executed, childless, name_of, next, members, forgotten, either, taken_at, flying}
-use Rattle.sc_node_table.specs.Slots.{rest_of, at_slot, without_slot, slots_ahead}
-use Rattle.sc_law_lemmas.specs.Steps.{IfThere}
-use Rattle.sc_following_law.specs.Following.{Mark, Asks, Course, Sets, members_at}
-use Rattle.sc_following_law.specs.Counted.{IsLed, IsNext, led_on, IsOn, IsOff, LeadsPast}
-use Rattle.sc_following_law.specs.Executed.{AreNext, FliesOn, IsStill, IsStopped, LeadsBy, ExecutionsLead}
-use Rattle.sc_following_law.specs.Tables.{marks_for}
-use Rattle.sc_following_law.specs.Offers.{AreAt, MayOffer, IsBegun, to_bound, OffersBy}
-use Rattle.sc_following_law.specs.Rows.{IsOffer, told_of, told_from}
+use Rattle.sc_base.specs.Definitions.{Each, is_member}
+use Rattle.sc_node_table.specs.Values.{Command, Route, Flight}
+use Rattle.sc_paxos_words.specs.Definitions.{flight_at, without_flight}
+use Rattle.sc_paxos_words.proofs.Lemmas.{Each-append, Each-weaker}
+use Rattle.sc_node_table.specs.Definitions.{entered, executed_one, next_child, has_room, next_ready, ending, executed_ready, executed, pumped, ReplicaState, Place, Executed, childless, name_of, next, members, forgotten, either, taken_at, flying, rest_of, at_slot, without_slot, slots_ahead}
+use Rattle.sc_law_lemmas.specs.Definitions.{IfThere}
+use Rattle.sc_following_law.specs.Definitions.{Mark, Asks, Course, Sets, members_at, IsLed, IsNext, led_on, IsOn, IsOff, LeadsPast, AreNext, FliesOn, IsStill, IsStopped, LeadsBy, ExecutionsLead, marks_for, AreAt, MayOffer, IsBegun, to_bound, OffersBy, IsOffer, told_of, told_from}
 use Rattle.sc_following_law.proofs.Counted.{entered_keeps, entries_lead}
 use Rattle.sc_following_law.proofs.Elected.{append_one}
 use Rattle.sc_following_law.proofs.InFlight.{flight_out, slot_out}
 use Rattle.sc_following_law.proofs.Marks.{among-left, among-right}
 use Rattle.sc_following_law.proofs.Offers.{pumps_offer}
-use Rattle.sc_law_lemmas.proofs.Entries.{entered_next, idle_ready, idle_pump}
+use Rattle.sc_law_lemmas.proofs.Lemmas.{entered_next, idle_ready, idle_pump}
 
 -- ---- the members of the open slots
 
-are_push : (at : Sets) (slot : ℕ) (sets : List (List ℕ)) (set : List ℕ) → AreAt at slot sets → at (slot + length sets) ≡ set → AreAt at slot (sets ++ set ∷ [])
+pub are_push : (at : Sets) (slot : ℕ) (sets : List (List ℕ)) (set : List ℕ) → AreAt at slot sets → at (slot + length sets) ≡ set → AreAt at slot (sets ++ set ∷ [])
 are_push at slot [] set are e = (ap at (omega arith) ∙ e, tt)
 are_push at slot (s ∷ sets) set are e = (are.0, are_push at (slot + 1) sets set are.1 (ap at (omega arith) ∙ e))
 
-are_next : (at : Sets) (slot : ℕ) (sets : List (List ℕ)) (set : List ℕ) → AreAt at slot sets → length sets ≡ slots_ahead → at (slot + slots_ahead) ≡ set → AreAt at (slot + 1) (rest_of sets ++ set ∷ [])
+pub are_next : (at : Sets) (slot : ℕ) (sets : List (List ℕ)) (set : List ℕ) → AreAt at slot sets → length sets ≡ slots_ahead → at (slot + slots_ahead) ≡ set → AreAt at (slot + 1) (rest_of sets ++ set ∷ [])
 are_next at slot [] set are len e = absurd (omega (arith, len))
 are_next at slot (s ∷ sets) set are len e = are_push at (slot + 1) sets set are.1 (ap at (omega (arith, len)) ∙ e)
 
-still_four : (sets : List (List ℕ)) (set : List ℕ) → length sets ≡ slots_ahead → length (rest_of sets ++ set ∷ []) ≡ slots_ahead
+pub still_four : (sets : List (List ℕ)) (set : List ℕ) → length sets ≡ slots_ahead → length (rest_of sets ++ set ∷ []) ≡ slots_ahead
 still_four [] set len = (omega (arith, len))
 still_four (s ∷ sets) set len = (let l = length_push sets set in omega (arith, len, l))
 
-entered_sets : (command : Command) (r : ReplicaState) → (entered command r).sets ≡ rest_of r.sets ++ members (entered command r) ∷ []
+pub entered_sets : (command : Command) (r : ReplicaState) → (entered command r).sets ≡ rest_of r.sets ++ members (entered command r) ∷ []
 unfolding entered forgotten
 entered_sets command r = refl
 
@@ -374,6 +363,7 @@ ready_leads at course (e ∷ es) place led are = by (next_ready place.0) refl ar
 
 -- ---- the whole
 
+-- All that a leader executes at once, and the pump after each, tells what is told of so many entries, and then asks for what it offers behind what is in flight, if it leads on.
 pub executions_lead : ExecutionsLead
 unfolding executed
 executions_lead at course command place led ready is_next are =

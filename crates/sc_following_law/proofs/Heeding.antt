@@ -1,17 +1,12 @@
 -- Each row keeps whom the nodes of a group take for its leader.
 use Rattle.std.proofs.Common.{◌≡◌, ℕ, suc, ◌+◌, ◌-◌, ◌<◌, ◌≤◌, true, false, true≢false, List, [], ◌∷◌, ◌++◌, Option, Some, ◌⊎◌, inl, inr, sym, ◌∙◌, ap, subst, arith, append-nil}
 use Rattle.std.proofs.lemmas.Bool.{cases_Bool, cases_eq, cases_lt, cond-true}
-use Rattle.sc_base.specs.Among.{Each}
-use Rattle.sc_base.specs.declared.names.Ballot.{Ballot}
-use Rattle.sc_base.specs.Roster.{IsRoster, is_member, least_of}
-use Rattle.sc_node_table.specs.Execute.{is_among}
-use Rattle.sc_node_table.specs.Replica.{listed}
-use Rattle.sc_node_table.specs.Slots.{slots_ahead}
-use Rattle.sc_paxos_words.specs.Ballots.{below}
-use Rattle.sc_paxos_words.proofs.BallotLemmas.{at_least_below}
-use Rattle.sc_following_law.specs.Following.{Mark, promise_by, reached, pledged, Course, Progress, Sets, members_at, IsOpen, IsFollowing}
-use Rattle.sc_following_law.specs.Hints.{Tellers, hint_by, hinted, MayLeave, AreHeeded, IsOther, IsHeeding, GoesBy, LeavesLast, HintsAreKept, NodesHeed}
-use Rattle.sc_following_law.specs.Rows.{IsRow, IsIdle, IsCount, Takes, told_from, Leads, Elects, begun}
+use Rattle.sc_base.specs.Definitions.{Each, IsRoster, is_member, least_of}
+use Rattle.sc_node_table.specs.Values.{Ballot}
+use Rattle.sc_node_table.specs.Definitions.{is_among, listed, slots_ahead}
+use Rattle.sc_paxos_words.specs.Definitions.{below}
+use Rattle.sc_paxos_words.proofs.Lemmas.{at_least_below}
+use Rattle.sc_following_law.specs.Definitions.{Mark, promise_by, reached, pledged, Course, Progress, Sets, members_at, IsOpen, IsFollowing, Tellers, hint_by, hinted, MayLeave, AreHeeded, IsOther, IsHeeding, GoesBy, LeavesLast, HintsAreKept, NodesHeed, IsRow, IsIdle, IsCount, Takes, told_from, Leads, Elects, begun}
 use Rattle.sc_following_law.proofs.Hints.{hinted-append, heeded-append, heeded-change, no_more, count-heeded, count-hinted, offers-heeded, offers-hinted, told-heeded, told-hinted}
 use Rattle.sc_following_law.proofs.Keeps.{counts_of, takes-keeps}
 use Rattle.sc_following_law.proofs.Leads.{leads-keeps}
@@ -235,6 +230,7 @@ module _ (at : Sets) (by : Tellers) (now after : Progress) (node : ℕ) (taken :
 begins : (at : Sets) (by : Tellers) (ballot : Ballot) (hints : ℕ → Option ℕ) → ((node : ℕ) → (node ≡ ballot.node → ⊥) → IsOpen at 1 node → hints node ≡ Some ballot.node) → IsHeeding at by (begun (members_at at 1) ballot) hints (λ node. [])
 begins at by ballot hints so = record { heeds = λ node other. tt; ends = λ r node ne o. so node ne o; left = λ off. absurd (true≢false off) }
 
+-- Whom each node takes for the leader is kept by each kind of row: while one leads, all others that decide an open slot take it for that once they have taken their mail, and each is told an entry by the one that it takes for the leader then.
 pub hints_are_kept : HintsAreKept
 hints_are_kept = record {
   begin = begins;
@@ -246,6 +242,7 @@ hints_are_kept = record {
 
 -- ---- what follows
 
+-- So a node that is told an entry takes a member for the leader after it, or is not the least member, or the entry is the last one and none leads; and then it takes no member for it.
 pub nodes_heed : NodesHeed
 nodes_heed = record {
   told = λ at by now hints marks node slot rest h other is.

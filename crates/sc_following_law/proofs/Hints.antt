@@ -1,14 +1,11 @@
 -- Whom nodes take for the leader, along the marks under way to them.
 use Rattle.std.proofs.Common.{◌≡◌, ℕ, zero, suc, ◌+◌, ◌<◌, ◌≤◌, Bool, true, false, List, [], ◌∷◌, ◌++◌, Option, Some, ◌⊎◌, inl, inr, refl, sym, ◌∙◌, ap, subst, arith}
 use Rattle.std.proofs.lemmas.Bool.{cond_both, cond-true}
-use Rattle.sc_base.specs.Among.{Each}
-use Rattle.sc_base.specs.declared.names.Ballot.{Ballot}
-use Rattle.sc_base.specs.Roster.{is_member, least_of}
-use Rattle.sc_node_table.specs.Execute.{is_among}
-use Rattle.sc_paxos_words.specs.Ballots.{below}
-use Rattle.sc_following_law.specs.Following.{Mark, Asks, Votes, Tells, Installs, Prepares, Promises, promise_by, reached, pledged, AreFit, Course, Sets, members_at}
-use Rattle.sc_following_law.specs.Hints.{Tellers, hint_by, hinted, MayLeave, IsHeeded, AreHeeded}
-use Rattle.sc_following_law.specs.Rows.{IsCount, IsOffer, told_of, told_from}
+use Rattle.sc_base.specs.Definitions.{Each, is_member, least_of}
+use Rattle.sc_node_table.specs.Values.{Ballot}
+use Rattle.sc_node_table.specs.Definitions.{is_among}
+use Rattle.sc_paxos_words.specs.Definitions.{below}
+use Rattle.sc_following_law.specs.Definitions.{Mark, Asks, Votes, Tells, Installs, Prepares, Promises, promise_by, reached, pledged, AreFit, Course, Sets, members_at, Tellers, hint_by, hinted, MayLeave, IsHeeded, AreHeeded, IsCount, IsOffer, told_of, told_from}
 use Rattle.sc_following_law.proofs.Marks.{reached-least, told-cases}
 
 module _ (at : Sets) (by : Tellers) where

@@ -2,11 +2,9 @@
 use Rattle.std.proofs.Common.{◌≡◌, ℕ, eqb, ltb, Bool, true, false, cond, List, [], ◌∷◌, Option, Some, None, refl, sym, ◌∙◌, ap}
 use Rattle.std.specs.Option.{option_map}
 use Rattle.std.proofs.lemmas.Bool.{ne_eqb, eq-eqb, eqb-true}
-use Rattle.sc_cmd.specs.declared.commands.Command.{Command}
-use Rattle.sc_paxos_words.specs.declared.flights.Flight.{Flight}
-use Rattle.sc_paxos_words.specs.Leaders.{flight_at, without_flight}
-use Rattle.sc_paxos_words.specs.Votes.{with_voters}
-use Rattle.sc_node_table.specs.Slots.{at_slot, with_slot, without_slot}
+use Rattle.sc_node_table.specs.Values.{Command, Flight}
+use Rattle.sc_paxos_words.specs.Definitions.{flight_at, without_flight, with_voters}
+use Rattle.sc_node_table.specs.Definitions.{at_slot, with_slot, without_slot}
 
 -- ---- a slot that is over
 

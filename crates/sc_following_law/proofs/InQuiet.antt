@@ -2,18 +2,16 @@
 use Rattle.std.proofs.Common.{◌≡◌, ℕ, ◌+◌, ◌*◌, ◌<◌, ◌≤◌, true, false, eqb, cond, List, [], ◌∷◌, length, Option, Some, None, inl, inr, refl, sym, ◌∙◌, ap, subst, arith}
 use Rattle.std.proofs.lemmas.Bool.{cases_Bool, cond_both, cond-true, eq-eqb, lt-ltb, or_left, or_right, both_ways}
 use Rattle.std.proofs.lemmas.List.Sums.{sum_by-cons}
-use Rattle.sc_base.specs.Among.{Among}
-use Rattle.sc_base.specs.declared.names.Ballot.{Ballot}
-use Rattle.sc_base.specs.Majority.{votes_of, is_majority}
-use Rattle.sc_base.specs.Roster.{IsRoster, is_member, least_of}
-use Rattle.sc_node_table.specs.Slots.{slots_ahead}
-use Rattle.sc_paxos_words.proofs.BallotLemmas.{at_least_itself}
-use Rattle.sc_following_law.specs.Following.{Mark, Asks, Votes, Prepares, Promises, reached, pledged, Progress, Sets, members_at, IsVoting, IsPromising, IsFollowing, IsEven, IsEvenLed}
-use Rattle.sc_following_law.specs.Rows.{begun}
+use Rattle.sc_base.specs.Definitions.{Among, votes_of, is_majority, IsRoster, is_member, least_of}
+use Rattle.sc_node_table.specs.Values.{Ballot}
+use Rattle.sc_node_table.specs.Definitions.{slots_ahead}
+use Rattle.sc_paxos_words.proofs.Lemmas.{at_least_itself}
+use Rattle.sc_following_law.specs.Definitions.{Mark, Asks, Votes, Prepares, Promises, reached, pledged, Progress, Sets, members_at, IsVoting, IsPromising, IsFollowing, IsEven, IsEvenLed, begun}
 use Rattle.sc_following_law.proofs.Leads.{least_in}
 
 -- ---- a group begins
 
+-- A group begins with its first members at the same place, one of which leads with the first ballot, and no mail under way: so each that decides an open slot follows the one that leads.
 pub begins : (at : Sets) (ballot : Ballot) → ((slot : ℕ) → slot < 1 + slots_ahead → at slot ≡ members_at at 1) → is_member (members_at at 1) ballot.node ≡ true → IsFollowing at (begun (members_at at 1) ballot) (λ node. [])
 begins at ballot same mine = record {
   fits = λ node. tt;
@@ -48,7 +46,7 @@ begins at ballot same mine = record {
 
 -- ---- where all that decide a slot have voted, a majority has
 
-all_votes : (members voters : List ℕ) → ((node : ℕ) → is_member members node ≡ true → is_member voters node ≡ true) → votes_of members voters ≡ length members
+pub all_votes : (members voters : List ℕ) → ((node : ℕ) → is_member members node ≡ true → is_member voters node ≡ true) → votes_of members voters ≡ length members
 all_votes [] voters f = refl
 all_votes (x ∷ members) voters f =
     let head = sum_by-cons (λ member. cond (is_member voters member) 1 0) x members in
@@ -56,7 +54,7 @@ all_votes (x ∷ members) voters f =
     let more = all_votes members voters (λ node is. f node (or_right (eqb x node) (is_member members node) is)) in
     omega (arith, head, one, more)
 
-decided : (members voters : List ℕ) → 1 ≤ length members → ((node : ℕ) → is_member members node ≡ true → is_member voters node ≡ true) → is_majority members voters ≡ true
+pub decided : (members voters : List ℕ) → 1 ≤ length members → ((node : ℕ) → is_member members node ≡ true → is_member voters node ≡ true) → is_majority members voters ≡ true
 decided members voters some f = (let all = all_votes members voters f in lt-ltb (length members) (2 * votes_of members voters) (omega (arith, all, some)))
 
 -- ---- where no mail is under way

@@ -1,15 +1,12 @@
 -- A row in which a node takes a mail, or none, keeps what stands between the leader of its group and the nodes.
 use Rattle.std.proofs.Common.{◌≡◌, ℕ, ◌<◌, ◌≤◌, ◌&&◌, true, false, eqb, List, [], ◌∷◌, ◌++◌, Option, Some, ◌⊎◌, inl, inr, refl, sym, ◌∙◌, ap, subst, append-nil}
 use Rattle.std.proofs.lemmas.Bool.{cases_eq, cond_both, cond-true, eq-eqb, and_from}
-use Rattle.sc_base.specs.Among.{Among, Each}
-use Rattle.sc_base.specs.declared.names.Ballot.{Ballot}
-use Rattle.sc_base.specs.Roster.{least_of}
-use Rattle.sc_node_table.specs.Replica.{listed}
-use Rattle.sc_paxos_words.specs.Ballots.{below, IsAtLeast}
-use Rattle.sc_paxos_words.proofs.BallotLemmas.{same_from_at_least, cases_below}
-use Rattle.sc_paxos_words.proofs.ListLemmas.{Each-append, Each-split, Each-weaker}
-use Rattle.sc_following_law.specs.Following.{Mark, Asks, Votes, Tells, Installs, Prepares, Promises, next_by, promise_by, reached, pledged, IsFit, AreFit, AreAskedFirst, Course, Progress, Sets, members_at, IsKnown, IsVoting, HasPromised, IsPromising, IsFollowing}
-use Rattle.sc_following_law.specs.Rows.{IsRow, IsIdle, answered, IsCount, Takes}
+use Rattle.sc_base.specs.Definitions.{Among, Each, least_of}
+use Rattle.sc_node_table.specs.Values.{Ballot}
+use Rattle.sc_node_table.specs.Definitions.{listed}
+use Rattle.sc_paxos_words.specs.Definitions.{below, IsAtLeast}
+use Rattle.sc_paxos_words.proofs.Lemmas.{same_from_at_least, cases_below, Each-append, Each-split, Each-weaker}
+use Rattle.sc_following_law.specs.Definitions.{Mark, Asks, Votes, Tells, Installs, Prepares, Promises, next_by, promise_by, reached, pledged, IsFit, AreFit, AreAskedFirst, Course, Progress, Sets, members_at, IsKnown, IsVoting, HasPromised, IsPromising, IsFollowing, IsRow, IsIdle, answered, IsCount, Takes}
 use Rattle.sc_following_law.proofs.Marks.{among-left, among-right, among-either, among-listed, reached-append, pledged-append, fit-append, no_step, promise-most, count-reached, count-pledged, count-fit, count-asks, IsLater, asked-append, asked-counts, asked-left}
 
 -- ---- what is under way before and after a row

@@ -3,25 +3,12 @@ use Rattle.std.proofs.Common.{◌≡◌, ℕ, ◌+◌, ◌<◌, ◌≤◌, ◌||
 use Rattle.std.specs.Prelude.{is_some}
 use Rattle.std.specs.Option.{option_map}
 use Rattle.std.proofs.lemmas.Bool.{cases_lt, cond-true, cond-false, eqb-true, eq-eqb, le-ltb, lt-ltb, or_parts, or_from}
-use Rattle.sc_base.specs.Among.{Among, Each}
-use Rattle.sc_base.specs.declared.names.Ballot.{Ballot}
-use Rattle.sc_cmd.specs.declared.commands.Command.{Command}
-use Rattle.sc_mail.specs.declared.bodies.Mail.{Mail}
-use Rattle.sc_base.specs.Majority.{votes_of}
-use Rattle.sc_base.specs.Roster.{is_member}
-use Rattle.sc_paxos_words.specs.declared.flights.Flight.{Flight}
-use Rattle.sc_paxos_words.specs.Leaders.{flight_at}
-use Rattle.sc_paxos_words.specs.Votes.{kept_voters}
-use Rattle.sc_paxos_words.proofs.ListLemmas.{Each-among, Each-weaker, find_found}
-use Rattle.sc_node_table.specs.Replica.{ReplicaState, Place, listed, name_of, next, members, either, taken_at, flying}
-use Rattle.sc_node_table.specs.Slots.{at_slot}
-use Rattle.sc_following_law.specs.Following.{Mark, Asks, Promises, Course, Progress, Sets, IsInFlight, members_at}
-use Rattle.sc_following_law.specs.Counted.{IsLed}
-use Rattle.sc_following_law.specs.Executed.{IsStill, IsStopped, LeadsBy}
-use Rattle.sc_following_law.specs.Leading.{voters_of, IsPolled, IsLeadOf, progress_by, LeadsInto, StopsAlone}
-use Rattle.sc_following_law.specs.Tables.{marks_for}
-use Rattle.sc_following_law.specs.Offers.{to_bound}
-use Rattle.sc_following_law.specs.Rows.{IsCount, IsElsewhere, IsOffer, IsOffered, IsCounted, IsKept, Leads, told_from}
+use Rattle.sc_base.specs.Definitions.{Among, Each, is_member}
+use Rattle.sc_node_table.specs.Values.{Ballot, Command, Mail, Flight}
+use Rattle.sc_paxos_words.specs.Definitions.{flight_at, kept_voters}
+use Rattle.sc_paxos_words.proofs.Lemmas.{Each-among, Each-weaker, find_found}
+use Rattle.sc_node_table.specs.Definitions.{ReplicaState, Place, listed, name_of, next, members, either, taken_at, flying, at_slot}
+use Rattle.sc_following_law.specs.Definitions.{Mark, Asks, Promises, Course, Progress, Sets, IsInFlight, members_at, IsLed, IsStill, IsStopped, LeadsBy, voters_of, IsPolled, IsLeadOf, progress_by, LeadsInto, StopsAlone, marks_for, to_bound, IsCount, IsElsewhere, IsOffer, IsOffered, IsCounted, IsKept, Leads, told_from}
 use Rattle.sc_following_law.proofs.Elected.{none_decided}
 use Rattle.sc_following_law.proofs.Marks.{among-right}
 
@@ -36,7 +23,7 @@ pub record Flies (r : ReplicaState) (slot : ℕ) (voters : List ℕ) : Type 0 wh
   pub found : flight_at slot r.leader.flights ≡ Some flight
   pub votes : kept_voters flight.voters ≡ voters
 
-none_there : {X : Type 0} (o : Option X) → is_some o ≡ false → o ≡ None
+pub none_there : {X : Type 0} (o : Option X) → is_some o ≡ false → o ≡ None
 none_there None e = refl
 none_there (Some x) e = absurd (true≢false e)
 
@@ -89,10 +76,6 @@ taken_flies r slot t none = by (flight_at slot r.leader.flights) refl (ap (λ p.
     by : (o : Option (Flight Command)) → flight_at slot r.leader.flights ≡ o → is_some (either (option_map (λ (f : Flight Command). f.value) o) None) ≡ true → (flight : Flight Command) × (flight_at slot r.leader.flights ≡ Some flight)
     by None i k = absurd (true≢false (sym k))
     by (Some f) i k = (f, i)
-
-no_votes : (members : List ℕ) → votes_of members [] ≡ 0
-no_votes [] = refl
-no_votes (x ∷ members) = no_votes members
 
 pub none_polled : (members : List ℕ) → IsPolled members []
 none_polled members = record { few = omega arith; undecided = none_decided members }

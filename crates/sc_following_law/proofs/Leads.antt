@@ -1,16 +1,12 @@
 -- A row of the one that leads keeps what stands between it and its nodes, also where it executes entries by which members come and go, and where it leaves.
 use Rattle.std.proofs.Common.{◌≡◌, ℕ, ◌+◌, ◌-◌, ◌<◌, ◌≤◌, true, false, eqb, Bool, List, [], ◌∷◌, ◌++◌, length, Option, Some, None, ◌⊎◌, inl, inr, refl, sym, ◌∙◌, ap, subst, arith}
 use Rattle.std.proofs.lemmas.Bool.{cases_eq, cases_lt, eq-eqb, or_left}
-use Rattle.sc_base.specs.Among.{Among, Each}
-use Rattle.sc_base.specs.declared.names.Ballot.{Ballot}
-use Rattle.sc_base.specs.Roster.{IsRoster, is_member, least_of}
-use Rattle.sc_node_table.specs.Replica.{listed}
-use Rattle.sc_node_table.specs.Slots.{slots_ahead}
-use Rattle.sc_paxos_words.specs.Ballots.{IsAtLeast}
-use Rattle.sc_paxos_words.proofs.BallotLemmas.{at_least_itself}
-use Rattle.sc_paxos_words.proofs.ListLemmas.{Each-append, Each-weaker}
-use Rattle.sc_following_law.specs.Following.{Mark, Asks, Votes, Tells, Installs, Prepares, Promises, reached, pledged, AreFit, AreAskedFirst, Progress, Sets, members_at, IsOpen, IsKnown, IsVoting, HasPromised, IsPromising, IsFollowing}
-use Rattle.sc_following_law.specs.Rows.{IsRow, IsCount, IsElsewhere, told_from, IsCounted, IsKept, Leads}
+use Rattle.sc_base.specs.Definitions.{Among, Each, IsRoster, is_member, least_of}
+use Rattle.sc_node_table.specs.Values.{Ballot}
+use Rattle.sc_node_table.specs.Definitions.{listed, slots_ahead}
+use Rattle.sc_paxos_words.specs.Definitions.{IsAtLeast}
+use Rattle.sc_paxos_words.proofs.Lemmas.{at_least_itself, Each-append, Each-weaker}
+use Rattle.sc_following_law.specs.Definitions.{Mark, Asks, Votes, Tells, Installs, Prepares, Promises, reached, pledged, AreFit, AreAskedFirst, Progress, Sets, members_at, IsOpen, IsKnown, IsVoting, HasPromised, IsPromising, IsFollowing, IsRow, IsCount, IsElsewhere, told_from, IsCounted, IsKept, Leads}
 use Rattle.sc_following_law.proofs.Marks.{among-left, among-right, among-either, reached-append, pledged-append, fit-append, reached-least, pledged-most, stands, count-reached, count-pledged, IsLater, IsNoVote, asked-none, asked-votes, offers-fit, offers-reached, offers-pledged, offers-each, told-each, told-own, told-prepares, IsTold, told-all}
 use Rattle.sc_following_law.proofs.Keeps.{goes, stays, each-row, asked-row}
 
@@ -43,7 +39,7 @@ elsewhere (Some (Prepares other)) left o ballot slot a = (tt, tt)
 counted_is : (taken : Option Mark) (mark : Mark) → Each IsCount (listed taken) → taken ≡ Some mark → IsCount mark
 counted_is taken mark c e = (subst (λ o. Each IsCount (listed o)) e c).0
 
-both_no : {b : Bool} → b ≡ true → b ≡ false → ⊥
+pub both_no : {b : Bool} → b ≡ true → b ≡ false → ⊥
 both_no t f = cc
 
 module _ (at : Sets) (now after : Progress) (node : ℕ) (taken : Option Mark) (sent marks marks_after : ℕ → List Mark) (rosters : (slot : ℕ) → IsRoster (at slot))

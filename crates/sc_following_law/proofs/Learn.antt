@@ -2,31 +2,16 @@
 use Rattle.std.proofs.Common.{◌≡◌, ℕ, max, ◌≤◌, eqb, ltb, Bool, true, false, true≢false, cond, List, [], Option, Some, None, inl, inr, refl, sym, ◌∙◌, ap, subst, arith}
 use Rattle.std.specs.Option.{option_map}
 use Rattle.std.proofs.lemmas.Bool.{eqb-true, eq-eqb, le-ltb}
-use Rattle.sc_base.specs.declared.names.Draw.{Draw}
-use Rattle.sc_cmd.specs.declared.commands.Command.{Command}
-use Rattle.sc_cmd.specs.declared.effects.Effect.{Effect}
-use Rattle.sc_cmd.specs.declared.links.Route.{Route}
-use Rattle.sc_cmd.specs.declared.orders.ToldResult.{ToldResult}
-use Rattle.sc_mail.specs.declared.bodies.Mail.{Mail}
-use Rattle.sc_mail.specs.declared.bodies.MailBody.TheVariants.{Ask, Told}
-use Rattle.sc_base.specs.Roster.{least_of}
-use Rattle.sc_policy.specs.Wishes.{is_told}
-use Rattle.sc_paxos_words.specs.declared.flights.Flight.{Flight}
-use Rattle.sc_paxos_words.specs.Leaders.{LeaderState, flight_at, without_flight_at}
-use Rattle.sc_machine_table.specs.Machine.{applied}
+use Rattle.sc_node_table.specs.Values.{Draw, Command, Effect, Route, ToldResult, Mail, Ask, Told, Flight}
+use Rattle.sc_base.specs.Definitions.{least_of}
+use Rattle.sc_policy.specs.Definitions.{is_told}
+use Rattle.sc_paxos_words.specs.Definitions.{LeaderState, flight_at, without_flight_at}
+use Rattle.sc_machine_table.specs.Definitions.{applied}
 use Rattle.sc_node_table.specs.declared.Before.{Before}
-use Rattle.sc_node_table.specs.Election.{elected}
-use Rattle.sc_node_table.specs.Execute.{entered, order_result, told_effect, announced, learnt_to, welcomed, slot_lost, landed, left_gone, left, is_among, looked_for, looked, executed_one, executed_ready, executed}
-use Rattle.sc_node_table.specs.Mails.{sent, told_order, told_desk, order_number}
-use Rattle.sc_node_table.specs.Pump.{pumped}
-use Rattle.sc_node_table.specs.Replica.{ReplicaState, Place, Executed, childless, name_of, next, members, last_slot, floor_of, forgotten}
-use Rattle.sc_node_table.specs.Rows.{learn_row, mailed}
-use Rattle.sc_node_table.specs.Slots.{without_slot}
-use Rattle.sc_node_table.specs.Spoken.{before_of, begun_result, spoken_number, told_result, told_begun, spoken_mails, spoken}
-use Rattle.sc_following_law.specs.Following.{Tells}
-use Rattle.sc_following_law.specs.Tables.{marks_for, StepsBy, IsInTime, Stays, TablesFollow}
+use Rattle.sc_node_table.specs.Definitions.{elected, entered, order_result, told_effect, announced, learnt_to, welcomed, slot_lost, landed, left_gone, left, is_among, looked_for, looked, executed_one, executed_ready, executed, sent, told_order, told_desk, order_number, pumped, ReplicaState, Place, Executed, childless, name_of, next, members, last_slot, floor_of, forgotten, learn_row, mailed, without_slot, before_of, begun_result, spoken_number, told_result, told_begun, spoken_mails, spoken}
+use Rattle.sc_following_law.specs.Definitions.{Tells, marks_for, StepsBy, IsInTime, Stays, TablesFollow}
 use Rattle.sc_following_law.proofs.Nodes.{marks-push, floor_low, accept_steps, prepare_steps, install_steps}
-use Rattle.sc_law_lemmas.proofs.Entries.{entered_next, idle_ready, idle_pump}
+use Rattle.sc_law_lemmas.proofs.Lemmas.{entered_next, idle_ready, idle_pump}
 
 -- ---- what the desk is told is nothing to a group
 
@@ -182,6 +167,7 @@ told_is P from slot command r at low p =
 learn_steps : (from slot : ℕ) (command : Command) (r : ReplicaState) → IsInTime (Tells slot) r → r.running ≡ false → r.leader.flights ≡ [] → slot ≤ last_slot → Stays (entered command r) → StepsBy (Tells slot) r (learn_row from slot command (r, [])).0
 learn_steps from slot command r fit off none low stays = told_is (StepsBy (Tells slot) r) from slot command r fit.1 low (executed_steps command r off none slot fit.1 stays)
 
+-- What a replica's table does by an Accept, a Prepare, a Learn or an Install of its group that comes in time is what its mark says: where its next slot goes, what it promises, and what it answers.
 pub tables : TablesFollow
 unfolding mailed
 tables = record {

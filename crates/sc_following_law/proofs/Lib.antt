@@ -31,3 +31,5 @@ pub mod Spoken
 pub mod TableHints
 pub mod Taught
 pub mod Voted
+pub mod Laws
+pub mod Lemmas

@@ -1,16 +1,12 @@
 -- Marks one after another: how far they take a node, that they come in time, and that what is asked for comes before votes.
 use Rattle.std.proofs.Common.{◌≡◌, ℕ, zero, suc, ◌+◌, ◌<◌, ◌≤◌, Bool, true, false, eqb, cond, List, [], ◌∷◌, ◌++◌, Option, Some, None, ◌⊎◌, inl, inr, refl, sym, ◌∙◌, ap, subst, arith}
 use Rattle.std.proofs.lemmas.Bool.{cond_both, cond-true, cond-false, cases_lt, eq-eqb, ne_eqb}
-use Rattle.sc_base.specs.Among.{Among, Each}
-use Rattle.sc_base.specs.declared.names.Ballot.{Ballot}
-use Rattle.sc_base.specs.Roster.{is_member}
-use Rattle.sc_node_table.specs.Replica.{listed}
-use Rattle.sc_node_table.specs.Slots.{slots_ahead}
-use Rattle.sc_paxos_words.specs.Ballots.{IsAtLeast}
-use Rattle.sc_paxos_words.proofs.BallotLemmas.{at_least_itself}
-use Rattle.sc_paxos_words.proofs.ListLemmas.{Each-append, Each-weaker}
-use Rattle.sc_following_law.specs.Following.{Mark, Asks, Votes, Tells, Installs, Prepares, Promises, next_by, promise_by, reached, pledged, IsFit, AreFit, IsNoAsk, AreAskedFirst, Course, Sets, members_at, IsKnown}
-use Rattle.sc_following_law.specs.Rows.{IsCount, IsOffer, welcome, told_of, told_from}
+use Rattle.sc_base.specs.Definitions.{Among, Each, is_member}
+use Rattle.sc_node_table.specs.Values.{Ballot}
+use Rattle.sc_node_table.specs.Definitions.{listed, slots_ahead}
+use Rattle.sc_paxos_words.specs.Definitions.{IsAtLeast}
+use Rattle.sc_paxos_words.proofs.Lemmas.{at_least_itself, Each-append, Each-weaker}
+use Rattle.sc_following_law.specs.Definitions.{Mark, Asks, Votes, Tells, Installs, Prepares, Promises, next_by, promise_by, reached, pledged, IsFit, AreFit, IsNoAsk, AreAskedFirst, Course, Sets, members_at, IsKnown, IsCount, IsOffer, welcome, told_of, told_from}
 
 -- ---- what stands in lists
 

@@ -2,37 +2,17 @@
 use Rattle.std.proofs.Common.{◌≡◌, ℕ, suc, ◌<◌, ◌≤◌, ◌&&◌, ◌||◌, not, max, eqb, ltb, Bool, true, false, true≢false, cond, List, [], ◌∷◌, ◌++◌, length, Option, Some, None, inl, inr, refl, sym, ◌∙◌, ap, subst, arith}
 use Rattle.std.specs.List.{filter}
 use Rattle.std.proofs.lemmas.Bool.{cases_eq, cond_both, cond-true, cond-false, eq-eqb, ne_eqb, lt-leb, le-ltb, or_from, not_from_true}
-use Rattle.sc_base.specs.declared.names.Ballot.{Ballot}
-use Rattle.sc_base.specs.declared.names.Draw.{Draw}
-use Rattle.sc_base.specs.Same.{same_draw}
-use Rattle.sc_base.proofs.NameLemmas.{same_name}
-use Rattle.sc_cmd.specs.declared.commands.Command.{Command}
-use Rattle.sc_cmd.specs.declared.cores.Base.{Base}
-use Rattle.sc_mail.specs.declared.bodies.Mail.{Mail}
-use Rattle.sc_mail.specs.declared.bodies.MailBody.{MailBody}
-use Rattle.sc_mail.specs.declared.bodies.MailBody.TheVariants.{Promise, Accepted, Nack}
-use Rattle.sc_base.specs.Roster.{is_member}
+use Rattle.sc_node_table.specs.Values.{Ballot, Draw, Command, Base, Mail, MailBody, Promise, Accepted, Nack, Report}
+use Rattle.sc_base.specs.Definitions.{same_draw, is_member}
+use Rattle.sc_base.proofs.Lemmas.{same_name}
 use Rattle.sc_paxos_words.specs.declared.answers.AcceptAnswer.TheVariants as Asked
 use Rattle.sc_paxos_words.specs.declared.answers.PrepareAnswer.TheVariants as Answers
-use Rattle.sc_paxos_words.specs.declared.reports.Report.{Report}
-use Rattle.sc_paxos_words.specs.Accepting.{accepted as accepted_by}
-use Rattle.sc_paxos_words.specs.Acceptors.{after_accept, after_promise, reports_from}
-use Rattle.sc_paxos_words.specs.Ballots.{below}
-use Rattle.sc_paxos_words.specs.Logs.{installed}
-use Rattle.sc_paxos_words.specs.Preparing.{prepared}
-use Rattle.sc_paxos_words.proofs.BallotLemmas.{at_least_itself, same_from_at_least}
-use Rattle.sc_node_table.specs.Election.{saw, stopped}
-use Rattle.sc_node_table.specs.Install.{install_to, named, jumped}
-use Rattle.sc_node_table.specs.Execute.{looked}
-use Rattle.sc_node_table.specs.Mails.{sent}
-use Rattle.sc_node_table.specs.Replica.{ReplicaState, Place, listed, name_of, next, members, first_ballot, last_slot, floor_of, forgotten, installed_replica}
-use Rattle.sc_node_table.specs.Rows.{looked_up, took_over, install_row, made_by}
-use Rattle.sc_node_table.specs.Voting.{hinted, promise_to, promised, prepare_row, accepted_to, took, accept_row}
-use Rattle.sc_law_lemmas.proofs.Entries.{cut_next}
-use Rattle.sc_following_law.specs.Following.{Mark, Asks, Votes, Installs, Prepares, Promises, mark_of, marks_of}
-use Rattle.sc_following_law.specs.Tables.{marks_for, StepsBy, IsInTime, StatesMake}
-use Rattle.sc_following_law.specs.Rows.{answered}
-use Rattle.sc_law_lemmas.specs.Steps.{GoesOn}
+use Rattle.sc_paxos_words.specs.Definitions.{accepted as accepted_by, after_accept, after_promise, reports_from, below, installed, prepared}
+use Rattle.sc_paxos_words.proofs.Lemmas.{at_least_itself, same_from_at_least}
+use Rattle.sc_node_table.specs.Definitions.{saw, stopped, install_to, named, jumped, looked, sent, ReplicaState, Place, listed, name_of, next, members, first_ballot, last_slot, floor_of, forgotten, installed_replica, looked_up, took_over, install_row, made_by, hinted, promise_to, promised, prepare_row, accepted_to, took, accept_row}
+use Rattle.sc_law_lemmas.proofs.Lemmas.{cut_next}
+use Rattle.sc_following_law.specs.Definitions.{Mark, Asks, Votes, Installs, Prepares, Promises, mark_of, marks_of, marks_for, StepsBy, IsInTime, StatesMake, answered}
+use Rattle.sc_law_lemmas.specs.Definitions.{GoesOn}
 
 -- ---- the marks of one mail
 
@@ -234,6 +214,7 @@ floor_is me slot base sets = refl
 installed_floor : (me slot : ℕ) (base : Base) (sets : List (List ℕ)) → (installed_replica me slot base sets).acceptor.floor < next (installed_replica me slot base sets)
 installed_floor me slot base sets = (let reach = next_installed me slot base sets in let floor = floor_is me slot base sets in let most = floor_low slot in omega (arith, reach, floor, most))
 
+-- A replica that is made of a state that a member sends is where that says, has promised the first ballot, does not run, and sends nothing.
 pub states : StatesMake
 states = record {
   reaches = λ me from group slot base sets mine. ap (λ (p : Place). next p.0) (made_is me from group slot base sets mine) ∙ next_installed me slot (named group base) sets;

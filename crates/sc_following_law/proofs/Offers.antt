@@ -4,30 +4,13 @@ use Rattle.std.specs.Prelude.{is_some, nat_le}
 use Rattle.std.specs.List.{list_any}
 use Rattle.std.specs.Option.{option_map}
 use Rattle.std.proofs.lemmas.Bool.{cases_lt, cases_eq, cond_both, eq-eqb, ne_eqb, or_left}
-use Rattle.sc_base.specs.Among.{Among, Each}
-use Rattle.sc_base.specs.declared.names.Ballot.{Ballot}
-use Rattle.sc_base.specs.declared.names.Draw.{Draw}
-use Rattle.sc_cmd.specs.declared.commands.Command.{Command}
-use Rattle.sc_cmd.specs.declared.commands.Command.TheVariants.{Noop, Call, Join, Leave, Split, Begin, Prepared, RecordVote, GiveUp, Finish, Watched, RecordWatch}
-use Rattle.sc_cmd.specs.declared.cores.Core.{Core}
-use Rattle.sc_mail.specs.declared.bodies.AnswerBody.{AnswerBody}
-use Rattle.sc_mail.specs.declared.bodies.Mail.{Mail}
-use Rattle.sc_mail.specs.declared.bodies.MailBody.TheVariants.{Accept, Answer}
-use Rattle.sc_base.specs.Limits.{client_actor}
-use Rattle.sc_base.specs.Roster.{is_member}
-use Rattle.sc_paxos_words.specs.declared.answers.Must.{Must}
-use Rattle.sc_paxos_words.specs.declared.answers.Must.TheVariants.{Value, Gap, Free as Open}
-use Rattle.sc_paxos_words.specs.declared.flights.Flight.{Flight}
-use Rattle.sc_paxos_words.specs.Leaders.{must, flight_at}
-use Rattle.sc_paxos_words.proofs.ListLemmas.{Each-append, Each-weaker}
-use Rattle.sc_node_table.specs.Mails.{answered, sent_all}
-use Rattle.sc_node_table.specs.Pump.{Found, is_act, waits, turned_down, next_call, from_calls, from_acts, from_queues, found_by, found_for, offered, pumped_from, pumped}
-use Rattle.sc_node_table.specs.Replica.{ReplicaState, Place, name_of, next, settled, may_offer, either, taken_at, under_way, is_idle, last_slot}
-use Rattle.sc_node_table.specs.Slots.{at_slot}
-use Rattle.sc_following_law.specs.Following.{Mark, Asks, Course, Sets}
-use Rattle.sc_following_law.specs.Tables.{marks_for}
-use Rattle.sc_following_law.specs.Offers.{AreAt, MayOffer, IsBegun, to_bound, OffersBy, PumpsOffer}
-use Rattle.sc_following_law.specs.Rows.{IsOffer}
+use Rattle.sc_base.specs.Definitions.{Among, Each, client_actor, is_member}
+use Rattle.sc_node_table.specs.Values.{Ballot, Draw, Command, Noop, Call, Join, Leave, Split, Begin, Prepared, RecordVote, GiveUp, Finish, Watched, RecordWatch, Core, AnswerBody, Mail, Accept, Answer, Must, Gap, Flight}
+use Rattle.sc_paxos_words.specs.declared.answers.Must.TheVariants.{Value, Free as Open}
+use Rattle.sc_paxos_words.specs.Definitions.{must, flight_at}
+use Rattle.sc_paxos_words.proofs.Lemmas.{Each-append, Each-weaker}
+use Rattle.sc_node_table.specs.Definitions.{answered, sent_all, Found, is_act, waits, turned_down, next_call, from_calls, from_acts, from_queues, found_by, found_for, offered, pumped_from, pumped, ReplicaState, Place, name_of, next, settled, may_offer, either, taken_at, under_way, is_idle, last_slot, at_slot}
+use Rattle.sc_following_law.specs.Definitions.{Mark, Asks, Course, Sets, marks_for, AreAt, MayOffer, IsBegun, to_bound, OffersBy, PumpsOffer, IsOffer}
 use Rattle.sc_following_law.proofs.Elected.{append_one, marks_to, sent_marks}
 use Rattle.sc_following_law.proofs.Marks.{among-left, among-right}
 use Rattle.sc_following_law.proofs.Nodes.{marks-push, same_mark}
@@ -61,7 +44,7 @@ new_found slot [] new e = ap (λ b. is_some (cond b (Some new) None)) (eq-eqb ne
 new_found slot (f ∷ flights) new e =
     cond_both (eqb f.slot slot) (Some f) (flight_at slot (flights ++ new ∷ [])) (λ o. is_some o ≡ true) (λ _. refl) (λ _. new_found slot flights new e)
 
-old_found : (slot : ℕ) (flights : List (Flight Command)) (new : Flight Command) → (new.slot ≡ slot → ⊥) → flight_at slot (flights ++ new ∷ []) ≡ flight_at slot flights
+pub old_found : (slot : ℕ) (flights : List (Flight Command)) (new : Flight Command) → (new.slot ≡ slot → ⊥) → flight_at slot (flights ++ new ∷ []) ≡ flight_at slot flights
 old_found slot [] new ne = ap (λ b. cond b (Some new) None) (ne_eqb new.slot slot ne)
 old_found slot (f ∷ flights) new ne = ap (λ o. cond (eqb f.slot slot) (Some f) o) (old_found slot flights new ne)
 
@@ -275,6 +258,7 @@ slots_offer at course slot (set ∷ sets) r mails m are least most ends = by (λ
           subst (λ (o : Option Command). OffersBy at course (r, mails) (step (is_some o))) (sym (m.free slot (omega (arith, is)))) (offering rest is (may_offer r set)))
     ]
 
+-- A pump asks those that decide the slots behind what is in flight to accept what it offers, each slot's once, and nobody else; it leaves no other mark.
 pub pumps_offer : PumpsOffer
 unfolding pumped
 pumps_offer at course (r, mails) m = by (settled r && nat_le (next r) last_slot)

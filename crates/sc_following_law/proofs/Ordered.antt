@@ -4,26 +4,13 @@ use Rattle.std.specs.Prelude.{is_some}
 use Rattle.std.specs.Option.{option_map}
 use Rattle.std.proofs.lemmas.Bool.{cases_lt, or_left}
 use Rattle.std.proofs.lemmas.List.Folds.{list_any-append}
-use Rattle.sc_base.specs.declared.names.Ballot.{Ballot}
-use Rattle.sc_cmd.specs.declared.commands.Command.{Command}
-use Rattle.sc_mail.specs.declared.bodies.Mail.{Mail}
-use Rattle.sc_base.specs.Roster.{is_member}
-use Rattle.sc_paxos_words.specs.declared.flights.Flight.{Flight}
-use Rattle.sc_paxos_words.specs.Leaders.{LeaderState, flight_at, promise_counted}
-use Rattle.sc_node_table.specs.Execute.{executed_one, next_child, next_ready, ending, executed_ready, executed}
-use Rattle.sc_node_table.specs.Pump.{pumped}
-use Rattle.sc_node_table.specs.Replica.{ReplicaState, Place, Executed, childless, next, either, taken_at, flying}
-use Rattle.sc_node_table.specs.Rows.{mailed}
-use Rattle.sc_node_table.specs.Slots.{at_slot}
-use Rattle.sc_node_table.specs.Voting.{leads, promise_row}
-use Rattle.sc_law_lemmas.specs.Steps.{IfThere}
-use Rattle.sc_law_lemmas.proofs.Entries.{entered_next, idle_ready, idle_pump}
-use Rattle.sc_following_law.specs.Following.{Course, Progress, Sets}
-use Rattle.sc_following_law.specs.Counted.{IsLed, IsNext, IsOn, LeadsPast}
-use Rattle.sc_following_law.specs.Executed.{AreNext, LeadsBy}
-use Rattle.sc_following_law.specs.Leading.{IsLeadOf, ActsAlone}
-use Rattle.sc_following_law.specs.Offers.{MayOffer}
-use Rattle.sc_following_law.specs.Orderly.{AreApart, HasBallot, IsOrderly, OrderIsKept}
+use Rattle.sc_node_table.specs.Values.{Ballot, Command, Mail, Flight}
+use Rattle.sc_base.specs.Definitions.{is_member}
+use Rattle.sc_paxos_words.specs.Definitions.{LeaderState, flight_at, promise_counted}
+use Rattle.sc_node_table.specs.Definitions.{executed_one, next_child, next_ready, ending, executed_ready, executed, pumped, ReplicaState, Place, Executed, childless, next, either, taken_at, flying, mailed, at_slot, leads, promise_row}
+use Rattle.sc_law_lemmas.specs.Definitions.{IfThere}
+use Rattle.sc_law_lemmas.proofs.Lemmas.{entered_next, idle_ready, idle_pump}
+use Rattle.sc_following_law.specs.Definitions.{Course, Progress, Sets, IsLed, IsNext, IsOn, LeadsPast, AreNext, LeadsBy, IsLeadOf, ActsAlone, MayOffer, AreApart, HasBallot, IsOrderly, OrderIsKept}
 use Rattle.sc_following_law.proofs.Asides.{aside_is, order_is}
 use Rattle.sc_following_law.proofs.Counted.{entries_lead}
 use Rattle.sc_following_law.proofs.Executed.{stays_led, ready_of, ready_leads}
@@ -155,6 +142,7 @@ module _ (at : Sets) (now : Progress) (r : ReplicaState) (was : IsLeadOf at now 
   offers : (acts calls : List Command) → Kept (pumped (record r { acts = acts; calls = calls }, []))
   offers acts calls = pump_orderly (record r { acts = acts; calls = calls }) [] (record { apart = o.apart; single = o.single; alone = o.alone; plain = o.plain; asked = o.asked }) (led_bounded at now.course r was.led.may)
 
+-- What a leader has in flight and ready stays one command at a slot, and anything but a call or a filler alone, by each of its rows after which it leads on, where promises have no reports.
 pub order_is_kept : OrderIsKept
 unfolding mailed
 order_is_kept = record {

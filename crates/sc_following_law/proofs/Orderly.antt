@@ -3,37 +3,21 @@ use Rattle.std.proofs.Common.{◌≡◌, ℕ, zero, suc, ◌+◌, ◌*◌, ◌<�
 use Rattle.std.specs.Prelude.{is_some, nat_le}
 use Rattle.std.specs.List.{list_any}
 use Rattle.std.specs.Option.{option_map}
-use Rattle.std.proofs.lemmas.Bool.{and_parts, cases_Bool, cases_eq, cases_lt, eqb-true, eq-eqb, ltb-true, ne_eqb, or_cases, or_left, or_right}
+use Rattle.std.proofs.lemmas.Bool.{and_parts, cases_Bool, cases_eq, cases_lt, eqb-true, eq-eqb, ltb-true, or_cases, or_left, or_right}
 use Rattle.std.proofs.lemmas.List.Folds.{list_any-append}
 use Rattle.std.proofs.lemmas.List.Sums.{sum_by-cons}
-use Rattle.sc_cmd.specs.declared.commands.Command.{Command}
-use Rattle.sc_cmd.specs.declared.commands.Command.TheVariants.{Noop, Call, Join, Leave, Split, Begin, Prepared, RecordVote, GiveUp, Finish, Watched, RecordWatch}
-use Rattle.sc_cmd.specs.declared.cores.Core.{Core}
-use Rattle.sc_mail.specs.declared.bodies.AnswerBody.{AnswerBody}
-use Rattle.sc_mail.specs.declared.bodies.Mail.{Mail}
-use Rattle.sc_mail.specs.declared.bodies.MailBody.TheVariants.{Accept}
-use Rattle.sc_base.specs.Majority.{votes_of, is_majority}
-use Rattle.sc_base.specs.Roster.{is_member}
-use Rattle.sc_paxos_words.specs.declared.flights.Flight.{Flight}
-use Rattle.sc_paxos_words.specs.declared.reports.Report.{Report}
-use Rattle.sc_paxos_words.specs.Ballots.{below}
-use Rattle.sc_paxos_words.specs.Choice.{chosen_value, names_above}
-use Rattle.sc_paxos_words.specs.Leaders.{must_without, flight_at, without_flight}
-use Rattle.sc_paxos_words.specs.Votes.{with_voters}
-use Rattle.sc_node_table.specs.Mails.{answered, sent_all}
-use Rattle.sc_node_table.specs.Pump.{Found, is_act, waits, turned_down, next_call, from_calls, from_acts, from_queues, found_by, found_for, offered, pumped_from, pumped}
-use Rattle.sc_node_table.specs.Replica.{ReplicaState, Place, listed, name_of, next, settled, may_offer, either, taken_at, flying, taken_from, under_way, is_idle, first_set, last_slot}
-use Rattle.sc_node_table.specs.Slots.{at_slot, with_slot, numbers_from}
-use Rattle.sc_following_law.specs.Orderly.{AreApart, HasBallot, IsOrderly}
+use Rattle.sc_node_table.specs.Values.{Command, Noop, Call, Join, Leave, Split, Begin, Prepared, RecordVote, GiveUp, Finish, Watched, RecordWatch, Core, AnswerBody, Mail, Accept, Flight, Report}
+use Rattle.sc_base.specs.Definitions.{votes_of, is_majority, is_member}
+use Rattle.sc_paxos_words.specs.Definitions.{below, chosen_value, names_above, must_without, flight_at, without_flight, with_voters}
+use Rattle.sc_node_table.specs.Definitions.{answered, sent_all, Found, is_act, waits, turned_down, next_call, from_calls, from_acts, from_queues, found_by, found_for, offered, pumped_from, pumped, ReplicaState, Place, listed, name_of, next, settled, may_offer, either, taken_at, flying, taken_from, under_way, is_idle, first_set, last_slot, at_slot, with_slot, numbers_from}
+use Rattle.sc_following_law.specs.Definitions.{AreApart, HasBallot, IsOrderly}
 use Rattle.sc_following_law.proofs.InFlight.{flight_out, slot_in, slot_over, polled_here, polled_out}
 use Rattle.sc_following_law.proofs.Leading.{none_taken}
 use Rattle.sc_following_law.proofs.Offers.{offered_is}
+use Rattle.sc_following_law.proofs.Leading.{none_there as none_is}
+use Rattle.sc_following_law.proofs.Offers.{old_found as pushed_at}
 
 -- ---- flights apart
-
-none_is : {X : Type 0} (o : Option X) → is_some o ≡ false → o ≡ None
-none_is None e = refl
-none_is (Some x) e = absurd (true≢false e)
 
 -- where they are apart, a slot whose first flight goes has none
 pub apart_gone : (slot : ℕ) (fs : List (Flight Command)) → AreApart fs → flight_at slot (without_flight slot fs) ≡ None
@@ -73,10 +57,6 @@ apart_polled slot voters (f ∷ fs) a = by (eqb f.slot slot) (apart_polled slot 
     by true rest = (a.0, a.1)
     by false rest = (still_none slot f.slot voters fs a.0, rest)
 
-pushed_at : (slot : ℕ) (fs : List (Flight Command)) (new : Flight Command) → (new.slot ≡ slot → ⊥) → flight_at slot (fs ++ new ∷ []) ≡ flight_at slot fs
-pushed_at slot [] new ne = ap (λ b. cond b (Some new) None) (ne_eqb new.slot slot ne)
-pushed_at slot (f ∷ fs) new ne = ap (λ o. cond (eqb f.slot slot) (Some f) o) (pushed_at slot fs new ne)
-
 pushed_here : (fs : List (Flight Command)) (new : Flight Command) → flight_at new.slot fs ≡ None → flight_at new.slot (fs ++ new ∷ []) ≡ Some new
 pushed_here [] new e = ap (λ b. cond b (Some new) None) (eq-eqb new.slot new.slot refl)
 pushed_here (f ∷ fs) new e = by (eqb f.slot new.slot) e (λ i. pushed_here fs new i)
@@ -85,7 +65,7 @@ pushed_here (f ∷ fs) new e = by (eqb f.slot new.slot) e (λ i. pushed_here fs 
     by true i rest = cc
     by false i rest = rest i
 
-apart_pushed : (fs : List (Flight Command)) (new : Flight Command) → AreApart fs → flight_at new.slot fs ≡ None → AreApart (fs ++ new ∷ [])
+pub apart_pushed : (fs : List (Flight Command)) (new : Flight Command) → AreApart fs → flight_at new.slot fs ≡ None → AreApart (fs ++ new ∷ [])
 apart_pushed [] new a e = (refl, tt)
 apart_pushed (f ∷ fs) new a e = by (eqb f.slot new.slot) refl e (λ i. apart_pushed fs new a.1 i)
   where

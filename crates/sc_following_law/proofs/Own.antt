@@ -1,23 +1,13 @@
 -- One that leads does so still after it took what it asked itself: only its acceptor changes.
 use Rattle.std.proofs.Common.{◌≡◌, ℕ, ◌<◌, not, eqb, Bool, true, false, cond, List, [], Some, refl, sym, subst, arith}
 use Rattle.std.proofs.lemmas.Bool.{cond-true, eq-eqb, lt-leb}
-use Rattle.sc_base.specs.declared.names.Ballot.{Ballot}
-use Rattle.sc_cmd.specs.declared.commands.Command.{Command}
+use Rattle.sc_node_table.specs.Values.{Ballot, Command, Report}
 use Rattle.sc_paxos_words.specs.declared.answers.AcceptAnswer.TheVariants as Asked
 use Rattle.sc_paxos_words.specs.declared.answers.PrepareAnswer.TheVariants as Answers
-use Rattle.sc_paxos_words.specs.declared.reports.Report.{Report}
-use Rattle.sc_paxos_words.specs.Accepting.{accepted as accepted_by}
-use Rattle.sc_paxos_words.specs.Acceptors.{AcceptorState, after_accept, after_promise, reports_from}
-use Rattle.sc_paxos_words.specs.Ballots.{below}
-use Rattle.sc_paxos_words.specs.Preparing.{prepared}
-use Rattle.sc_node_table.specs.Install.{install_to}
-use Rattle.sc_node_table.specs.Replica.{ReplicaState, Place, next}
-use Rattle.sc_node_table.specs.Rows.{mailed}
-use Rattle.sc_node_table.specs.Voting.{hinted, promise_to, promised, prepare_row, accepted_to, took, accept_row}
-use Rattle.sc_law_lemmas.specs.Steps.{GoesOn}
-use Rattle.sc_following_law.specs.Following.{Asks, Progress, Sets}
-use Rattle.sc_following_law.specs.Leading.{IsLeadOf, promised_by, OwnRowsKeep}
-use Rattle.sc_following_law.specs.Tables.{IsInTime}
+use Rattle.sc_paxos_words.specs.Definitions.{accepted as accepted_by, AcceptorState, after_accept, after_promise, reports_from, below, prepared}
+use Rattle.sc_node_table.specs.Definitions.{install_to, ReplicaState, Place, next, mailed, hinted, promise_to, promised, prepare_row, accepted_to, took, accept_row}
+use Rattle.sc_law_lemmas.specs.Definitions.{GoesOn}
+use Rattle.sc_following_law.specs.Definitions.{Asks, Progress, Sets, IsLeadOf, promised_by, OwnRowsKeep, IsInTime}
 use Rattle.sc_following_law.proofs.Nodes.{saw_either}
 
 module _ (at : Sets) (now : Progress) (r : ReplicaState) (was : IsLeadOf at now r) where
@@ -94,6 +84,7 @@ module _ (at : Sets) (now : Progress) (r : ReplicaState) (was : IsLeadOf at now 
   unfolding prepare_row
   prepare_leads ballot from_slot goes low = saw_either (λ p. Leads (promised ballot.node ballot from_slot p)) ballot r [] goes (promised_leads ballot from_slot ballot low) (promised_leads ballot from_slot r.top low)
 
+-- One that leads does so still after it took an Accept or a Prepare of its own.
 pub own_rows_keep : OwnRowsKeep
 unfolding mailed
 own_rows_keep = record {

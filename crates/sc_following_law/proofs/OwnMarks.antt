@@ -1,16 +1,13 @@
 -- Marks under way to one that leads or is to lead: what asks to promise, what promises, and what tells the last entry.
 use Rattle.std.proofs.Common.{◌≡◌, ℕ, zero, suc, ◌+◌, ◌<◌, ◌≤◌, eqb, cond, List, [], ◌∷◌, ◌++◌, Option, Some, None, refl, sym, ap, subst, arith}
 use Rattle.std.proofs.lemmas.Bool.{cond_both}
-use Rattle.sc_base.specs.Among.{Each}
-use Rattle.sc_base.specs.declared.names.Ballot.{Ballot}
-use Rattle.sc_base.specs.Roster.{is_member}
-use Rattle.sc_node_table.specs.Replica.{listed}
-use Rattle.sc_paxos_words.proofs.ListLemmas.{Each-append, Each-weaker}
-use Rattle.sc_following_law.specs.Dated.{IsNoPrepare}
-use Rattle.sc_following_law.specs.Following.{Mark, Asks, Votes, Tells, Installs, Prepares, Promises, reached, AreFit, Course, Sets, members_at}
-use Rattle.sc_following_law.specs.Owning.{IsOtherPrepare, IsOwnPrepare, ArePromisedLast, AreToldLast}
-use Rattle.sc_following_law.specs.Rows.{IsCount, IsOffer, welcome, told_of, told_from}
+use Rattle.sc_base.specs.Definitions.{Each, is_member}
+use Rattle.sc_node_table.specs.Values.{Ballot}
+use Rattle.sc_node_table.specs.Definitions.{listed}
+use Rattle.sc_paxos_words.proofs.Lemmas.{Each-append, Each-weaker}
+use Rattle.sc_following_law.specs.Definitions.{IsNoPrepare, Mark, Asks, Votes, Tells, Installs, Prepares, Promises, reached, AreFit, Course, Sets, members_at, IsOtherPrepare, IsOwnPrepare, ArePromisedLast, AreToldLast, IsCount, IsOffer, welcome, told_of, told_from}
 use Rattle.sc_following_law.proofs.Marks.{reached-least, offers-each}
+pub use Rattle.sc_following_law.proofs.Dated.{count_none}
 
 -- ---- lists
 
@@ -41,14 +38,6 @@ neither ballot (Promises node other) o n = tt
 pub all_neither : (ballot : Ballot) (marks : List Mark) → Each (IsOwnPrepare ballot) marks → Each (IsOtherPrepare ballot) marks → Each IsNoPrepare marks
 all_neither ballot [] o n = tt
 all_neither ballot (mark ∷ marks) o n = (neither ballot mark o.0 n.0, all_neither ballot marks o.1 n.1)
-
-pub count_none : (mark : Mark) → IsCount mark → IsNoPrepare mark
-count_none (Votes node ballot slot) c = tt
-count_none (Promises node ballot) c = tt
-count_none (Asks ballot slot) c = absurd c
-count_none (Tells slot) c = absurd c
-count_none (Installs slot) c = absurd c
-count_none (Prepares ballot) c = absurd c
 
 pub each_all : (P : Mark → Type 0) → ((mark : Mark) → P mark) → (marks : List Mark) → Each P marks
 each_all P f [] = tt

@@ -1,16 +1,12 @@
 -- A leader's own Prepare comes before every promise of its ballot, by each kind of row.
 use Rattle.std.proofs.Common.{◌≡◌, ℕ, ◌<◌, ◌≤◌, ◌&&◌, eqb, true, false, true≢false, List, [], ◌∷◌, ◌++◌, Option, Some, None, inl, inr, refl, sym, ◌∙◌, ap, subst, arith, append-nil}
 use Rattle.std.proofs.lemmas.Bool.{cases_Bool, cases_eq, cond_both, eqb-true, and_parts}
-use Rattle.sc_base.specs.Among.{Each}
-use Rattle.sc_base.specs.declared.names.Ballot.{Ballot}
-use Rattle.sc_node_table.specs.Replica.{listed, next}
-use Rattle.sc_paxos_words.specs.Ballots.{below, IsAtLeast}
-use Rattle.sc_paxos_words.proofs.BallotLemmas.{at_least_below, at_least_from_below, not_both}
-use Rattle.sc_paxos_words.proofs.ListLemmas.{Each-append, Each-split, Each-weaker}
-use Rattle.sc_following_law.specs.Dated.{IsNoPrepare}
-use Rattle.sc_following_law.specs.Following.{Mark, Asks, Votes, Tells, Installs, Prepares, Promises, Progress, Sets, IsKnown, IsFollowing}
-use Rattle.sc_following_law.specs.Owning.{IsOtherPrepare, IsOwnPrepare, IsHome, ArePromisedLast, AreToldLast, IsOwnFirst, CountsOwn, CountsNone, OwnIsKept, LeadersCountOwn}
-use Rattle.sc_following_law.specs.Rows.{IsRow, IsIdle, IsCount, answered, Takes, told_from, Leads, Elects}
+use Rattle.sc_base.specs.Definitions.{Each}
+use Rattle.sc_node_table.specs.Values.{Ballot}
+use Rattle.sc_node_table.specs.Definitions.{listed, next}
+use Rattle.sc_paxos_words.specs.Definitions.{below, IsAtLeast}
+use Rattle.sc_paxos_words.proofs.Lemmas.{at_least_below, at_least_from_below, not_both, Each-append, Each-split, Each-weaker}
+use Rattle.sc_following_law.specs.Definitions.{IsNoPrepare, Mark, Asks, Votes, Tells, Installs, Prepares, Promises, Progress, Sets, IsKnown, IsFollowing, IsOtherPrepare, IsOwnPrepare, IsHome, ArePromisedLast, AreToldLast, IsOwnFirst, CountsOwn, CountsNone, OwnIsKept, LeadersCountOwn, IsRow, IsIdle, IsCount, answered, Takes, told_from, Leads, Elects}
 use Rattle.sc_following_law.proofs.Keeps.{counts_of, each-row}
 use Rattle.sc_following_law.proofs.Marks.{offers-each, told-each, told-own}
 use Rattle.sc_following_law.proofs.OwnMarks.{Behind, IsNoPromise, IsNotLast, all_neither, behind_none, count_none, each_all, last_append, last_counts, last_tail, last_told, no_promised, none_own, not_last, promised_append, promised_left, promised_none}
@@ -217,6 +213,7 @@ executing at now after node taken sent marks l o some = subst (λ n. Each IsNoPr
   | inr later ↦ (let up = l.newest in let within = l.within in let counted = o.some l.runs later (omega (arith, up, within, some)) in o.own l.runs counted.0 counted.1)
 ])
 
+-- A leader's own Prepare is taken before any promise of its ballot is counted, and so before it executes an entry: each kind of row keeps it.
 pub own_is_kept : OwnIsKept
 own_is_kept = record {
   begin = λ at ballot. record { home = λ who. tt; order = λ who. tt; own = λ r who c. tt; some = λ r later below_. absurd (true≢false later); first = λ r f. tt; only = λ r. tt; stop = λ off who. tt };
@@ -229,6 +226,7 @@ own_is_kept = record {
 
 -- ---- tables
 
+-- A leader's row in the table is one of a leader that counts so.
 pub leaders_count_own : LeadersCountOwn
 leaders_count_own at now taken r after was l orderly = record {
   grown = λ on who m. elim (l.promisers on who m) [ inl old ↦ inl (was.counted who ∙ old) | inr takes ↦ inr takes ];

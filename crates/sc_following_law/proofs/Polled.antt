@@ -1,12 +1,11 @@
 -- One more vote of a member is one more vote that is kept.
-use Rattle.std.proofs.Common.{◌≡◌, ℕ, ◌+◌, ◌*◌, ◌≤◌, ◌||◌, not, eqb, ltb, Bool, true, false, cond, List, [], ◌∷◌, length, filter, count_by, Option, Some, None, inl, inr, refl, sym, ◌∙◌, ap, subst, arith}
-use Rattle.std.proofs.lemmas.Bool.{cases_Bool, cases_order, cond_both, cond-true, cond-false, both_ways, eqb-true, eq-eqb, lt-ltb, or_cases, or_left, or_parts, or_right}
+use Rattle.std.proofs.Common.{◌≡◌, ℕ, ◌+◌, ◌*◌, ◌≤◌, ◌||◌, eqb, ltb, Bool, true, false, cond, List, [], ◌∷◌, length, filter, count_by, Option, Some, None, inl, inr, refl, sym, ◌∙◌, ap, subst, arith}
+use Rattle.std.proofs.lemmas.Bool.{cases_Bool, cases_order, cond_both, cond-true, both_ways, eqb-true, eq-eqb, lt-ltb, or_cases, or_left, or_parts, or_right}
 use Rattle.std.proofs.lemmas.List.Folds.{list_any-append}
 use Rattle.std.proofs.lemmas.List.Sums.{sum_by-cons}
-use Rattle.sc_base.specs.Majority.{votes_of, is_majority}
-use Rattle.sc_base.specs.Roster.{is_member, with_member, IsRoster}
-use Rattle.sc_base.proofs.UnionLemmas.{count_united}
-use Rattle.sc_paxos_words.specs.Votes.{kept_voters, add_voter, voters_after}
+use Rattle.sc_base.specs.Definitions.{votes_of, is_majority, is_member, with_member, IsRoster}
+use Rattle.sc_base.proofs.Lemmas.{length_with as with_one}
+use Rattle.sc_paxos_words.specs.Definitions.{kept_voters, add_voter, voters_after}
 
 -- ---- a set with one more
 
@@ -37,14 +36,6 @@ with_kept members node who m =
         | inr gt ↦ or_right (is_member low who) (is_member (node ∷ high) who) (or_right (eqb node who) (is_member high who) (in_part (λ x. ltb node x) members who m (lt-ltb node who gt)))
       ]
     ]
-
--- one more is one more
-with_one : (members : List ℕ) (node : ℕ) → is_member members node ≡ false → length (with_member members node) ≡ length members + 1
-with_one members node absent =
-    let all = count_united members (node ∷ []) (λ k low. absurd (omega (arith, low))) in
-    let same = ap length (cond-false (is_member members node) members (with_member members node) absent) in
-    let new = ap length (cond-true (not (is_member members node)) (node ∷ []) [] (ap not absent)) in
-    omega (arith, all, same, new)
 
 -- ---- what passes more tests counts more
 

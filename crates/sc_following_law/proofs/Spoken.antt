@@ -1,45 +1,17 @@
 -- What a leader says of an entry to clients, the desk and other groups is nothing to its own group.
 use Rattle.std.proofs.Common.{◌≡◌, ℕ, Bool, true, false, cond, List, [], ◌∷◌, ◌++◌, Option, Some, None, refl, ◌∙◌}
-use Rattle.sc_base.specs.declared.names.Draw.{Draw}
-use Rattle.sc_base.specs.Limits.{client_actor}
-use Rattle.sc_cmd.specs.declared.bodies.Body.{Body}
+use Rattle.sc_node_table.specs.Values.{Draw, Body, Offer, Watch, Command, Noop, Call, Join, Leave, Split, Begin, Prepared, RecordVote, GiveUp, Finish, Watched, RecordWatch, Core, Lock, Free, Coordinating, Promised, Watching, Effect, Link, Heard, Outcome, Past, Vote, ToldResult, AnswerBody, Mail, MailBody, Answer, TxPrepare, TxOutcome, Told}
+use Rattle.sc_base.specs.Definitions.{client_actor, least_of}
 use Rattle.sc_cmd.specs.declared.bodies.Body.TheVariants as At
-use Rattle.sc_cmd.specs.declared.bodies.Offer.{Offer}
-use Rattle.sc_cmd.specs.declared.bodies.Watch.{Watch}
-use Rattle.sc_cmd.specs.declared.commands.Command.{Command}
-use Rattle.sc_cmd.specs.declared.commands.Command.TheVariants.{Noop, Call, Join, Leave, Split, Begin, Prepared, RecordVote, GiveUp, Finish, Watched, RecordWatch}
-use Rattle.sc_cmd.specs.declared.cores.Core.{Core}
-use Rattle.sc_cmd.specs.declared.cores.Lock.{Lock}
-use Rattle.sc_cmd.specs.declared.cores.Lock.TheVariants.{Free, Coordinating, Promised, Watching}
-use Rattle.sc_cmd.specs.declared.effects.Effect.{Effect}
-use Rattle.sc_cmd.specs.declared.links.Link.{Link}
-use Rattle.sc_cmd.specs.declared.votes.Heard.{Heard}
-use Rattle.sc_cmd.specs.declared.votes.Outcome.{Outcome}
 use Rattle.sc_cmd.specs.declared.votes.Outcome.TheVariants as Is
-use Rattle.sc_cmd.specs.declared.votes.Past.{Past}
 use Rattle.sc_cmd.specs.declared.votes.Past.TheVariants as Cast
-use Rattle.sc_cmd.specs.declared.votes.Vote.{Vote}
 use Rattle.sc_cmd.specs.declared.votes.Vote.TheVariants as Says
-use Rattle.sc_cmd.specs.Effects.{decided_in, cast_in, is_changed}
-use Rattle.sc_cmd.specs.declared.orders.ToldResult.{ToldResult}
-use Rattle.sc_mail.specs.declared.bodies.AnswerBody.{AnswerBody}
-use Rattle.sc_mail.specs.declared.bodies.Mail.{Mail}
-use Rattle.sc_mail.specs.declared.bodies.MailBody.{MailBody}
-use Rattle.sc_mail.specs.declared.bodies.MailBody.TheVariants.{Answer, TxPrepare, TxOutcome, Told}
-use Rattle.sc_machine_table.specs.Group.{Group}
-use Rattle.sc_base.specs.Roster.{least_of}
-use Rattle.sc_policy.specs.Wishes.{is_told}
+use Rattle.sc_cmd.specs.Definitions.{decided_in, cast_in, is_changed}
+use Rattle.sc_machine_table.specs.Definitions.{Group}
+use Rattle.sc_policy.specs.Definitions.{is_told}
 use Rattle.sc_node_table.specs.declared.Before.{Before}
-use Rattle.sc_node_table.specs.Election.{ended}
-use Rattle.sc_node_table.specs.Execute.{answer_of, order_result, told_call, told_effect, announced}
-use Rattle.sc_node_table.specs.Mails.{sent, sent_all, answered, answered_all, dismissed, dismissed_all, order_number, told_desk, told_order}
-use Rattle.sc_node_table.specs.Questions.{offer_of, question, asked_first}
-use Rattle.sc_node_table.specs.Queues.{put_back}
-use Rattle.sc_node_table.specs.Replica.{ReplicaState, Place, name_of, under_way}
-use Rattle.sc_node_table.specs.Spoken.{asked_on, begun_asks, vote_sent, watch_sent, aborted_to, aborted_watcher, given_up_by, vote_answered, released_to, watch_answered_by, went_on, begun_result, spoken_number, told_result, told_begun, spoken_mails, spoken}
-use Rattle.sc_node_table.specs.Transactions.{told_outcome}
-use Rattle.sc_following_law.specs.Following.{mark_of}
-use Rattle.sc_following_law.specs.Tables.{marks_for}
+use Rattle.sc_node_table.specs.Definitions.{ended, answer_of, order_result, told_call, told_effect, announced, sent, sent_all, answered, answered_all, dismissed, dismissed_all, order_number, told_desk, told_order, offer_of, question, asked_first, put_back, ReplicaState, Place, name_of, under_way, asked_on, begun_asks, vote_sent, watch_sent, aborted_to, aborted_watcher, given_up_by, vote_answered, released_to, watch_answered_by, went_on, begun_result, spoken_number, told_result, told_begun, spoken_mails, spoken, told_outcome}
+use Rattle.sc_following_law.specs.Definitions.{mark_of, marks_for}
 use Rattle.sc_following_law.proofs.Nodes.{marks-push}
 
 -- what a coordinator asks is no part of an agreement

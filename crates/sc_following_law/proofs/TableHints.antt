@@ -2,32 +2,16 @@
 use Rattle.std.proofs.Common.{◌≡◌, ℕ, suc, ◌+◌, ◌<◌, ◌≤◌, ◌||◌, not, eqb, ltb, Bool, true, false, true≢false, cond, List, [], length, Option, Some, None, ◌⊎◌, inl, inr, refl, sym, ◌∙◌, ap, subst, arith}
 use Rattle.std.specs.Prelude.{is_some}
 use Rattle.std.proofs.lemmas.Bool.{cases_eq, eqb-true, eq-eqb, le-ltb, lt-leb, or_from, not_from_true}
-use Rattle.sc_base.specs.declared.names.Ballot.{Ballot}
-use Rattle.sc_cmd.specs.declared.commands.Command.{Command}
-use Rattle.sc_cmd.specs.declared.cores.Base.{Base}
-use Rattle.sc_cmd.specs.declared.links.Route.{Route}
-use Rattle.sc_mail.specs.declared.bodies.Mail.{Mail}
-use Rattle.sc_base.specs.Roster.{is_member, least_of}
+use Rattle.sc_node_table.specs.Values.{Ballot, Command, Base, Route, Mail, Report}
+use Rattle.sc_base.specs.Definitions.{is_member, least_of}
 use Rattle.sc_paxos_words.specs.declared.answers.AcceptAnswer.TheVariants as Asked
 use Rattle.sc_paxos_words.specs.declared.answers.PrepareAnswer.TheVariants as Answers
-use Rattle.sc_paxos_words.specs.declared.reports.Report.{Report}
-use Rattle.sc_paxos_words.specs.Accepting.{accepted as accepted_by}
-use Rattle.sc_paxos_words.specs.Acceptors.{after_accept, after_promise, reports_from}
-use Rattle.sc_paxos_words.specs.Ballots.{below}
-use Rattle.sc_paxos_words.specs.Preparing.{prepared}
-use Rattle.sc_paxos_words.proofs.BallotLemmas.{at_least_itself}
-use Rattle.sc_node_table.specs.Election.{elected, stopped}
-use Rattle.sc_node_table.specs.Execute.{entered, is_among, looked_for, looked, executed_one, executed_ready, executed}
-use Rattle.sc_node_table.specs.Install.{install_to, jumped}
-use Rattle.sc_node_table.specs.Pump.{pumped}
-use Rattle.sc_node_table.specs.Replica.{ReplicaState, Place, Executed, next, members, last_slot, forgotten}
-use Rattle.sc_node_table.specs.Rows.{looked_up, took_over, install_row, mailed}
-use Rattle.sc_node_table.specs.Voting.{promise_to, promised, prepare_row, accepted_to, took, accept_row}
-use Rattle.sc_law_lemmas.specs.Steps.{GoesOn}
-use Rattle.sc_law_lemmas.proofs.Entries.{idle_ready, idle_pump}
-use Rattle.sc_following_law.specs.Following.{Asks, Installs, members_at}
-use Rattle.sc_following_law.specs.Heeding.{HintsFollow, IsHeir, HeirsElect, LeadersLeaveLast}
-use Rattle.sc_following_law.specs.Tables.{IsInTime, Stays}
+use Rattle.sc_paxos_words.specs.Definitions.{accepted as accepted_by, after_accept, after_promise, reports_from, below, prepared}
+use Rattle.sc_paxos_words.proofs.Lemmas.{at_least_itself}
+use Rattle.sc_node_table.specs.Definitions.{elected, stopped, entered, is_among, looked_for, looked, executed_one, executed_ready, executed, install_to, jumped, pumped, ReplicaState, Place, Executed, next, members, last_slot, forgotten, looked_up, took_over, install_row, mailed, promise_to, promised, prepare_row, accepted_to, took, accept_row}
+use Rattle.sc_law_lemmas.specs.Definitions.{GoesOn}
+use Rattle.sc_law_lemmas.proofs.Lemmas.{idle_ready, idle_pump}
+use Rattle.sc_following_law.specs.Definitions.{Asks, Installs, members_at, HintsFollow, IsHeir, HeirsElect, LeadersLeaveLast, IsInTime, Stays}
 use Rattle.sc_following_law.proofs.Heeding.{nodes_heed}
 use Rattle.sc_following_law.proofs.Learn.{over, place2, over_off, looks, looked_same, told_is}
 use Rattle.sc_following_law.proofs.Nodes.{saw_either, jumped_keeps, made_is}
@@ -136,6 +120,7 @@ install_hint from slot base sets r fit off low sized mine =
 
 -- ---- the whole
 
+-- A replica's table that does not run takes for the leader whom the mark of a mail says.
 pub hints_follow : HintsFollow
 unfolding mailed
 hints_follow = record {
@@ -154,6 +139,7 @@ kept_after : (command : Command) (r : ReplicaState) → ((entered command r).hin
 unfolding entered forgotten
 kept_after command r = (refl, refl, refl)
 
+-- So a replica that is told an entry by which it is to lead next elects itself, if it has a later round, and by any other entry it does not.
 pub heirs_elect : HeirsElect
 heirs_elect at by now hints marks slot rest command r h is told = elim (nodes_heed.told at by now hints marks r.me slot rest h told.other is) [
   | inl m ↦ inl (inl (hinted ∙ m))
@@ -188,6 +174,7 @@ heirs_elect at by now hints marks slot rest command r h is told = elim (nodes_he
 
 -- ---- a leader leaves last
 
+-- A leader's row in the table is one of a leader that leaves last, where it counts the entries that it executes, and nobody comes by one by which it goes.
 pub leaders_leave_last : LeadersLeaveLast
 leaders_leave_last at by now taken r after was l counts alone = record {
   counts = counts;

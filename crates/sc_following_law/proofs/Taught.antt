@@ -1,15 +1,11 @@
 -- Each kind of row keeps it that members learn all entries, and nobody else is told one.
 use Rattle.std.proofs.Common.{◌≡◌, ℕ, zero, suc, ◌+◌, ◌-◌, ◌<◌, ◌≤◌, Bool, true, false, cond, List, [], ◌∷◌, ◌++◌, Option, inl, inr, refl, sym, ◌∙◌, ap, subst, arith, append-nil}
 use Rattle.std.proofs.lemmas.Bool.{cases_eq, cases_lt, cond_both, cond-true}
-use Rattle.sc_base.specs.Among.{Among, Each}
-use Rattle.sc_base.specs.declared.names.Ballot.{Ballot}
-use Rattle.sc_base.specs.Roster.{IsRoster, is_member}
-use Rattle.sc_node_table.specs.Replica.{listed}
-use Rattle.sc_paxos_words.proofs.ListLemmas.{Each-append, Each-weaker}
-use Rattle.sc_following_law.specs.Following.{Mark, Asks, Votes, Tells, Installs, Prepares, Promises, next_by, promise_by, reached, pledged, AreFit, Course, Progress, Sets, members_at, IsFollowing}
-use Rattle.sc_following_law.specs.Hints.{Tellers, LeavesLast}
-use Rattle.sc_following_law.specs.Rows.{IsRow, IsIdle, IsCount, Takes, told_of, told_from, Leads, Elects, begun}
-use Rattle.sc_following_law.specs.Taught.{IsForMember, IsMemberBy, AreTaught, TaughtIsKept, QuietMembersKnow}
+use Rattle.sc_base.specs.Definitions.{Among, Each, IsRoster, is_member}
+use Rattle.sc_node_table.specs.Values.{Ballot}
+use Rattle.sc_node_table.specs.Definitions.{listed}
+use Rattle.sc_paxos_words.proofs.Lemmas.{Each-append, Each-weaker}
+use Rattle.sc_following_law.specs.Definitions.{Mark, Asks, Votes, Tells, Installs, Prepares, Promises, next_by, promise_by, reached, pledged, AreFit, Course, Progress, Sets, members_at, IsFollowing, Tellers, LeavesLast, IsRow, IsIdle, IsCount, Takes, told_of, told_from, Leads, Elects, begun, IsForMember, IsMemberBy, AreTaught, TaughtIsKept, QuietMembersKnow}
 use Rattle.sc_following_law.proofs.Elects.{elects-keeps}
 use Rattle.sc_following_law.proofs.Keeps.{counts_of, each-row, reached_left}
 use Rattle.sc_following_law.proofs.Leads.{leads-keeps}
@@ -18,7 +14,7 @@ use Rattle.sc_following_law.proofs.Marks.{among-left, among-right, offers-each, 
 -- ---- lists
 
 -- what comes behind fits from where what is before it leads
-fit_behind : (next : ℕ) (promise : Ballot) (xs ys : List Mark) → AreFit next promise (xs ++ ys) → AreFit (reached next xs) (pledged promise xs) ys
+pub fit_behind : (next : ℕ) (promise : Ballot) (xs ys : List Mark) → AreFit next promise (xs ++ ys) → AreFit (reached next xs) (pledged promise xs) ys
 fit_behind next promise [] ys f = f
 fit_behind next promise (mark ∷ xs) ys f = fit_behind (next_by next mark) (promise_by promise mark) xs ys f.1
 
@@ -244,6 +240,7 @@ module _ (at : Sets) (by : Tellers) (now after : Progress) (node : ℕ) (taken :
       learnt = λ who slot is. elim (cases_eq who node) [ inl own ↦ subst (λ n. IsMemberBy at n slot) (sym own) (last_learnt slot (subst (λ n. after.next n ≡ suc slot) own is)) | inr ne ↦ others_learnt who ne slot is ];
     }
 
+-- Each kind of row keeps it that each member of a state learns the entry after it, and that nobody else is told one.
 pub taught_is_kept : TaughtIsKept
 taught_is_kept = record {
   begin = begin_taught;
@@ -253,5 +250,6 @@ taught_is_kept = record {
   elects = λ at by now after node taken sent marks marks_after rosters row k was more o. elects_taught at by now after node taken sent marks marks_after rosters row was o k;
 }
 
+-- So where no mail is under way, each node that was a member before an entry has learnt it.
 pub quiet_members_know : QuietMembersKnow
 quiet_members_know at now marks quiet o node slot low is = subst (λ l. slot < reached (now.next node) l) (quiet node) (o.taught node slot low is)

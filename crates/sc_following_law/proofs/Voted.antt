@@ -3,29 +3,12 @@ use Rattle.std.proofs.Common.{◌≡◌, ℕ, zero, suc, ◌+◌, ◌-◌, ◌<�
 use Rattle.std.specs.Prelude.{is_some, slice_get}
 use Rattle.std.specs.Option.{option_map}
 use Rattle.std.proofs.lemmas.Bool.{and_from, and_parts, cases_eq, cases_lt, cond-true, cond-false, eqb-true, le-ltb, lt-ltb}
-use Rattle.sc_base.specs.Among.{Each}
-use Rattle.sc_base.specs.Same.{same_ballot}
-use Rattle.sc_base.specs.declared.names.Ballot.{Ballot}
-use Rattle.sc_base.proofs.NameLemmas.{ballot_is, ballot_itself}
-use Rattle.sc_cmd.specs.declared.commands.Command.{Command}
-use Rattle.sc_base.specs.Majority.{votes_of, is_majority}
-use Rattle.sc_base.specs.Roster.{IsRoster, is_member}
-use Rattle.sc_paxos_words.specs.declared.answers.Counted.{Counted}
-use Rattle.sc_paxos_words.specs.declared.answers.Counted.TheVariants.{Chosen, NotYet}
-use Rattle.sc_paxos_words.specs.declared.flights.Flight.{Flight}
-use Rattle.sc_paxos_words.specs.declared.reports.Report.{Report}
-use Rattle.sc_paxos_words.specs.Leaders.{LeaderState, flight_at, without_flight, without_flight_at}
-use Rattle.sc_paxos_words.specs.Votes.{kept_voters, add_voter, voters_after, with_voters, tallied, vote_at, counted}
-use Rattle.sc_node_table.specs.Execute.{executed, has_room}
-use Rattle.sc_node_table.specs.Replica.{ReplicaState, Executed, childless, listed, next, set_at, either, taken_at, flying}
-use Rattle.sc_node_table.specs.Slots.{at_slot, with_slot}
-use Rattle.sc_node_table.specs.Voting.{leads, readied, vote_tallied, voted, accepted_row}
-use Rattle.sc_following_law.specs.Following.{Mark, Votes, Promises, Course, Progress, Sets}
-use Rattle.sc_following_law.specs.Counted.{IsLed}
-use Rattle.sc_following_law.specs.Leading.{voters_of, IsPolled, IsLeadOf, LeadsInto, AreEntries, StopsAlone, DecidesNext}
-use Rattle.sc_following_law.specs.Offers.{AreAt, MayOffer}
-use Rattle.sc_following_law.specs.Orderly.{IsOrderly}
-use Rattle.sc_following_law.specs.Rows.{IsCount, IsCounted}
+use Rattle.sc_base.specs.Definitions.{Each, same_ballot, votes_of, is_majority, IsRoster, is_member}
+use Rattle.sc_node_table.specs.Values.{Ballot, Command, Counted, Chosen, NotYet, Flight, Report}
+use Rattle.sc_base.proofs.Lemmas.{ballot_is, ballot_itself}
+use Rattle.sc_paxos_words.specs.Definitions.{LeaderState, flight_at, without_flight, without_flight_at, kept_voters, add_voter, voters_after, with_voters, tallied, vote_at, counted}
+use Rattle.sc_node_table.specs.Definitions.{executed, has_room, ReplicaState, Executed, childless, listed, next, set_at, either, taken_at, flying, at_slot, with_slot, leads, readied, vote_tallied, voted, accepted_row}
+use Rattle.sc_following_law.specs.Definitions.{Mark, Votes, Promises, Course, Progress, Sets, IsLed, voters_of, IsPolled, IsLeadOf, LeadsInto, AreEntries, StopsAlone, DecidesNext, AreAt, MayOffer, IsOrderly, IsCount, IsCounted}
 use Rattle.sc_following_law.proofs.Executed.{none_leads, executions_lead}
 use Rattle.sc_following_law.proofs.InFlight.{flight_out, slot_in, slot_over, polled_here, polled_out}
 use Rattle.sc_following_law.proofs.Leading.{voters_fly, fly_voters, none_taken, Counts, leads_into}

@@ -1,12 +1,9 @@
 -- What a leader's table does by an entry that it counted, as the marks of it say.
 use Rattle.std.specs.Prelude.{◌≡◌, ℕ, ◌+◌, true, false, List, [], ◌++◌, length, Option, Some, None, ◌⊎◌}
-use Rattle.sc_cmd.specs.declared.commands.Command.{Command}
-use Rattle.sc_cmd.specs.declared.links.Route.{Route}
-use Rattle.sc_base.specs.Roster.{IsRoster, is_member}
-use Rattle.sc_node_table.specs.Execute.{entered, executed_one}
-use Rattle.sc_node_table.specs.Replica.{ReplicaState, Place, name_of, next, members}
-use Rattle.sc_node_table.specs.Slots.{slots_ahead, without_slot}
-use Rattle.sc_paxos_words.specs.Leaders.{new_leader, without_flight_at}
+use Rattle.sc_node_table.specs.Values.{Command, Route}
+use Rattle.sc_base.specs.Definitions.{IsRoster, is_member}
+use Rattle.sc_node_table.specs.Definitions.{entered, executed_one, ReplicaState, Place, name_of, next, members, slots_ahead, without_slot}
+use Rattle.sc_paxos_words.specs.Definitions.{new_leader, without_flight_at}
 use Rattle.sc_following_law.specs.Following.{Course, Sets, members_at}
 use Rattle.sc_following_law.specs.Tables.{marks_for}
 use Rattle.sc_following_law.specs.Offers.{MayOffer}

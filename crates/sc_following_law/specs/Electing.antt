@@ -1,15 +1,9 @@
 -- A replica's row in the table by which it elects itself, as such a row of what stands between a leader and its nodes.
 use Rattle.std.specs.Prelude.{◌≡◌, ℕ, suc, ◌+◌, ◌<◌, ◌≤◌, ◌==◌, true, false, [], length, if◌then◌else◌, Some, None, is_some}
-use Rattle.sc_base.specs.Limits.{most_nodes}
-use Rattle.sc_cmd.specs.declared.commands.Command.{Command}
-use Rattle.sc_cmd.specs.declared.cores.Base.{Base}
-use Rattle.sc_mail.specs.declared.bodies.MailBody.TheVariants.{Learn}
-use Rattle.sc_base.specs.Roster.{IsRoster, is_member, least_of}
-use Rattle.sc_paxos_words.specs.Ballots.{below}
-use Rattle.sc_node_table.specs.Execute.{entered}
-use Rattle.sc_node_table.specs.Replica.{ReplicaState, Place, name_of, next, members, first_ballot, born_replica, last_slot}
-use Rattle.sc_node_table.specs.Rows.{mailed}
-use Rattle.sc_node_table.specs.Slots.{slots_ahead}
+use Rattle.sc_base.specs.Definitions.{most_nodes, IsRoster, is_member, least_of}
+use Rattle.sc_node_table.specs.Values.{Command, Base, Learn}
+use Rattle.sc_paxos_words.specs.Definitions.{below}
+use Rattle.sc_node_table.specs.Definitions.{entered, ReplicaState, Place, name_of, next, members, first_ballot, born_replica, last_slot, mailed, slots_ahead}
 use Rattle.sc_following_law.specs.Following.{Mark, Tells, Progress, Sets, members_at}
 use Rattle.sc_following_law.specs.Leading.{voters_of, IsLeadOf}
 use Rattle.sc_following_law.specs.Offers.{AreAt}

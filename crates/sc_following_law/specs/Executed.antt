@@ -1,15 +1,10 @@
 -- What a leader's table does by all that it executes at once, and by what it then offers, as the marks of it say.
 use Rattle.std.specs.Prelude.{◌≡◌, ℕ, suc, ◌+◌, ◌<◌, ◌≤◌, true, false, List, [], ◌∷◌, ◌++◌, Some, None, is_some, ◌⊎◌}
-use Rattle.sc_base.specs.Among.{Among, Each}
-use Rattle.sc_cmd.specs.declared.commands.Command.{Command}
-use Rattle.sc_cmd.specs.declared.links.Route.{Route}
-use Rattle.sc_base.specs.Roster.{is_member}
-use Rattle.sc_node_table.specs.Execute.{executed_one, executed, next_ready}
-use Rattle.sc_node_table.specs.Replica.{ReplicaState, Place, name_of, next, members}
-use Rattle.sc_node_table.specs.Slots.{at_slot}
-use Rattle.sc_paxos_words.specs.declared.flights.Flight.{Flight}
-use Rattle.sc_paxos_words.specs.Leaders.{flight_at}
-use Rattle.sc_law_lemmas.specs.Steps.{IfThere}
+use Rattle.sc_base.specs.Definitions.{Among, Each, is_member}
+use Rattle.sc_node_table.specs.Values.{Command, Route, Flight}
+use Rattle.sc_node_table.specs.Definitions.{executed_one, executed, next_ready, ReplicaState, Place, name_of, next, members, at_slot}
+use Rattle.sc_paxos_words.specs.Definitions.{flight_at}
+use Rattle.sc_law_lemmas.specs.Definitions.{IfThere}
 use Rattle.sc_following_law.specs.Following.{Mark, Asks, Course, Sets, members_at}
 use Rattle.sc_following_law.specs.Counted.{IsLed, IsNext}
 use Rattle.sc_following_law.specs.Tables.{marks_for}

@@ -1,17 +1,9 @@
 -- What stands between the leader of a group and its nodes while members come and go: which mail of Paxos is under way to whom, and in which order it comes.
 use Rattle.std.specs.Prelude.{◌≡◌, ℕ, suc, ◌+◌, ◌<◌, ◌≤◌, Bool, true, false, List, [], ◌∷◌, ◌++◌, if◌then◌else◌, Option, Some, None, ◌⊎◌}
-use Rattle.sc_base.specs.Among.{Among, Each}
-use Rattle.sc_base.specs.Same.{same_draw}
-use Rattle.sc_base.specs.declared.names.Ballot.{Ballot}
-use Rattle.sc_base.specs.declared.names.Draw.{Draw}
-use Rattle.sc_mail.specs.declared.bodies.Mail.{Mail}
-use Rattle.sc_mail.specs.declared.bodies.MailBody.{MailBody}
-use Rattle.sc_mail.specs.declared.bodies.MailBody.TheVariants.{Request, Answer, Prepare, Promise, Accept, Accepted, Nack, Learn, Ask, Install, TxPrepare, TxVote, TxOutcome, TxElsewhere, TxWatch, TxWatched, Told}
-use Rattle.sc_base.specs.Majority.{is_majority}
-use Rattle.sc_base.specs.Roster.{is_member, least_of}
-use Rattle.sc_node_table.specs.Replica.{listed}
-use Rattle.sc_node_table.specs.Slots.{slots_ahead}
-use Rattle.sc_paxos_words.specs.Ballots.{IsAtLeast}
+use Rattle.sc_base.specs.Definitions.{Among, Each, same_draw, is_majority, is_member, least_of}
+use Rattle.sc_node_table.specs.Values.{Ballot, Draw, Mail, MailBody, Request, Answer, Prepare, Promise, Accept, Accepted, Nack, Learn, Ask, Install, TxPrepare, TxVote, TxOutcome, TxElsewhere, TxWatch, TxWatched, Told}
+use Rattle.sc_node_table.specs.Definitions.{listed, slots_ahead}
+use Rattle.sc_paxos_words.specs.Definitions.{IsAtLeast}
 
 -- What a mail is to a group: it asks to accept something at a slot in a ballot, it is the vote of a node for that, it tells what was decided at a slot, it has the state after a slot, it asks to promise a ballot, or it is a node's promise of that.
 pub data Mark : Type 0 where

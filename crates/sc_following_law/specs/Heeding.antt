@@ -1,15 +1,9 @@
 -- Whom a replica's table takes for the leader, and so which replica elects itself by an entry that it is told.
 use Rattle.std.specs.Prelude.{◌≡◌, ℕ, suc, ◌+◌, ◌-◌, ◌^◌, ◌<◌, ◌≤◌, false, List, [], ◌∷◌, length, Option, None, is_some, true, ◌⊎◌}
-use Rattle.sc_base.specs.declared.names.Ballot.{Ballot}
-use Rattle.sc_base.specs.declared.names.Draw.{Draw}
-use Rattle.sc_cmd.specs.declared.commands.Command.{Command}
-use Rattle.sc_cmd.specs.declared.cores.Base.{Base}
-use Rattle.sc_mail.specs.declared.bodies.MailBody.TheVariants.{Prepare, Accept, Learn, Install}
-use Rattle.sc_base.specs.Roster.{is_member}
-use Rattle.sc_node_table.specs.Execute.{entered}
-use Rattle.sc_node_table.specs.Replica.{ReplicaState, Place, name_of, next, members, last_slot}
-use Rattle.sc_node_table.specs.Rows.{mailed, made_by}
-use Rattle.sc_law_lemmas.specs.Steps.{GoesOn}
+use Rattle.sc_node_table.specs.Values.{Ballot, Draw, Command, Base, Prepare, Accept, Learn, Install}
+use Rattle.sc_base.specs.Definitions.{is_member}
+use Rattle.sc_node_table.specs.Definitions.{entered, ReplicaState, Place, name_of, next, members, last_slot, mailed, made_by}
+use Rattle.sc_law_lemmas.specs.Definitions.{GoesOn}
 use Rattle.sc_following_law.specs.Following.{Mark, Asks, Tells, Installs, Prepares, Progress, Sets, members_at}
 use Rattle.sc_following_law.specs.Hints.{Tellers, hint_by, IsOther, IsHeeding, LeavesLast}
 use Rattle.sc_following_law.specs.Leading.{IsLeadOf, progress_by, LeadsInto}

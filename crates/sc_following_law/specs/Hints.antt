@@ -1,9 +1,9 @@
 -- Whom each node of a group takes for the leader while members come and go, so that the one that is to lead next elects itself by the last entry, and nobody else by any.
 use Rattle.std.specs.Prelude.{◌≡◌, ℕ, suc, ◌+◌, ◌<◌, ◌≤◌, true, false, List, [], ◌∷◌, if◌then◌else◌, Option, Some, ◌⊎◌}
-use Rattle.sc_base.specs.declared.names.Ballot.{Ballot}
-use Rattle.sc_base.specs.Roster.{IsRoster, is_member, least_of}
-use Rattle.sc_node_table.specs.Execute.{is_among}
-use Rattle.sc_paxos_words.specs.Ballots.{below}
+use Rattle.sc_node_table.specs.Values.{Ballot}
+use Rattle.sc_base.specs.Definitions.{IsRoster, is_member, least_of}
+use Rattle.sc_node_table.specs.Definitions.{is_among}
+use Rattle.sc_paxos_words.specs.Definitions.{below}
 use Rattle.sc_following_law.specs.Following.{Mark, Asks, Votes, Tells, Installs, Prepares, Promises, promise_by, Course, Progress, Sets, members_at, IsOpen, IsFollowing}
 use Rattle.sc_following_law.specs.Rows.{IsRow, IsIdle, Takes, Leads, Elects, begun}
 

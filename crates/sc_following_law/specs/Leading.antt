@@ -1,25 +1,12 @@
 -- A leader's whole rows in the table, as rows of what stands between it and its nodes.
 use Rattle.std.specs.Prelude.{◌≡◌, ℕ, suc, ◌+◌, ◌<◌, ◌≤◌, ◌==◌, ◌||◌, not, nat_lt, Bool, true, false, List, [], length, if◌then◌else◌, Option, Some, None, is_some, ◌⊎◌}
 use Rattle.std.specs.Option.{option_map}
-use Rattle.sc_base.specs.Drawing.{Drawer}
-use Rattle.sc_base.specs.declared.names.Ballot.{Ballot}
-use Rattle.sc_cmd.specs.declared.commands.Command.{Command}
-use Rattle.sc_cmd.specs.declared.orders.OrderLine.{OrderLine}
-use Rattle.sc_mail.specs.declared.bodies.MailBody.{MailBody}
-use Rattle.sc_mail.specs.declared.bodies.MailBody.TheVariants.{Request, Answer, Prepare, Promise, Accept, Accepted, Nack, Learn, Ask, Install, TxPrepare, TxVote, TxOutcome, TxElsewhere, TxWatch, TxWatched, Told}
-use Rattle.sc_base.specs.Majority.{votes_of, is_majority}
-use Rattle.sc_base.specs.Roster.{IsRoster, is_member}
-use Rattle.sc_paxos_words.specs.declared.answers.Counted.TheVariants.{Chosen}
-use Rattle.sc_paxos_words.specs.declared.reports.Report.{Report}
-use Rattle.sc_paxos_words.specs.Leaders.{LeaderState, flight_at}
-use Rattle.sc_paxos_words.specs.Votes.{kept_voters, counted}
+use Rattle.sc_base.specs.Definitions.{Drawer, votes_of, is_majority, IsRoster, is_member}
+use Rattle.sc_node_table.specs.Values.{Ballot, Command, OrderLine, MailBody, Request, Answer, Prepare, Promise, Accept, Accepted, Nack, Learn, Ask, Install, TxPrepare, TxVote, TxOutcome, TxElsewhere, TxWatch, TxWatched, Told, Chosen, Report}
+use Rattle.sc_paxos_words.specs.Definitions.{LeaderState, flight_at, kept_voters, counted}
 use Rattle.sc_node_table.specs.declared.ReplicaInput.TheVariants as Given
-use Rattle.sc_node_table.specs.Execute.{executed_one}
-use Rattle.sc_node_table.specs.Pump.{is_act}
-use Rattle.sc_node_table.specs.Replica.{ReplicaState, Place, name_of, next, flying}
-use Rattle.sc_node_table.specs.Rows.{mailed, stepped}
-use Rattle.sc_node_table.specs.Slots.{at_slot, with_slot}
-use Rattle.sc_law_lemmas.specs.Steps.{GoesOn}
+use Rattle.sc_node_table.specs.Definitions.{executed_one, is_act, ReplicaState, Place, name_of, next, flying, mailed, stepped, at_slot, with_slot}
+use Rattle.sc_law_lemmas.specs.Definitions.{GoesOn}
 use Rattle.sc_following_law.specs.Following.{Mark, Asks, Votes, Promises, Course, Progress, Sets, members_at}
 use Rattle.sc_following_law.specs.Counted.{IsLed, IsNext}
 use Rattle.sc_following_law.specs.Executed.{AreNext}

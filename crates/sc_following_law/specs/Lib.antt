@@ -12,3 +12,4 @@ pub mod Owning
 pub mod Rows
 pub mod Tables
 pub mod Taught
+pub mod Definitions

@@ -1,11 +1,8 @@
 -- What a leader's table offers at its open slots, as the marks of it say.
 use Rattle.std.specs.Prelude.{◌≡◌, ℕ, ◌+◌, ◌<◌, ◌≤◌, true, List, [], ◌∷◌, ◌++◌, length, None, is_some}
-use Rattle.sc_base.specs.Among.{Among, Each}
-use Rattle.sc_cmd.specs.declared.commands.Command.{Command}
-use Rattle.sc_base.specs.Roster.{is_member}
-use Rattle.sc_node_table.specs.Pump.{pumped}
-use Rattle.sc_node_table.specs.Replica.{ReplicaState, Place, name_of, next, taken_at}
-use Rattle.sc_paxos_words.specs.declared.flights.Flight.{Flight}
+use Rattle.sc_base.specs.Definitions.{Among, Each, is_member}
+use Rattle.sc_node_table.specs.Values.{Command, Flight}
+use Rattle.sc_node_table.specs.Definitions.{pumped, ReplicaState, Place, name_of, next, taken_at}
 use Rattle.sc_following_law.specs.Following.{Mark, Asks, Course, Sets}
 use Rattle.sc_following_law.specs.Tables.{marks_for}
 use Rattle.sc_following_law.specs.Rows.{IsOffer}

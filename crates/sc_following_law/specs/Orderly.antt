@@ -1,19 +1,10 @@
 -- What a leader has in flight and ready: one command at a slot, and anything but a call or a filler alone.
 use Rattle.std.specs.Prelude.{◌≡◌, ℕ, ◌≤◌, Bool, true, List, [], ◌∷◌, Some, None, is_some, ◌⊎◌}
-use Rattle.sc_base.specs.Drawing.{Drawer}
-use Rattle.sc_base.specs.declared.names.Ballot.{Ballot}
-use Rattle.sc_cmd.specs.declared.commands.Command.{Command}
-use Rattle.sc_cmd.specs.declared.orders.OrderLine.{OrderLine}
-use Rattle.sc_mail.specs.declared.bodies.MailBody.{MailBody}
-use Rattle.sc_mail.specs.declared.bodies.MailBody.TheVariants.{Promise, Accepted}
-use Rattle.sc_base.specs.Roster.{IsRoster, is_member}
-use Rattle.sc_paxos_words.specs.declared.flights.Flight.{Flight}
-use Rattle.sc_paxos_words.specs.Leaders.{flight_at}
+use Rattle.sc_base.specs.Definitions.{Drawer, IsRoster, is_member}
+use Rattle.sc_node_table.specs.Values.{Ballot, Command, OrderLine, MailBody, Promise, Accepted, Flight}
+use Rattle.sc_paxos_words.specs.Definitions.{flight_at}
 use Rattle.sc_node_table.specs.declared.ReplicaInput.TheVariants as Given
-use Rattle.sc_node_table.specs.Pump.{is_act}
-use Rattle.sc_node_table.specs.Replica.{ReplicaState, name_of, next, taken_at}
-use Rattle.sc_node_table.specs.Rows.{mailed, stepped}
-use Rattle.sc_node_table.specs.Slots.{at_slot}
+use Rattle.sc_node_table.specs.Definitions.{is_act, ReplicaState, name_of, next, taken_at, mailed, stepped, at_slot}
 use Rattle.sc_following_law.specs.Following.{Course, Progress, Sets}
 use Rattle.sc_following_law.specs.Counted.{IsLed}
 use Rattle.sc_following_law.specs.Leading.{IsLeadOf, IsAside, DecidesNext, ActsAlone}

@@ -1,9 +1,9 @@
 -- That a leader has taken what it asked itself to promise before it executes an entry: its own Prepare comes before every promise of its ballot.
 use Rattle.std.specs.Prelude.{◌≡◌, ℕ, suc, ◌<◌, ◌≤◌, true, false, List, [], ◌∷◌, Option, Some, ◌⊎◌}
-use Rattle.sc_base.specs.Among.{Each}
-use Rattle.sc_base.specs.declared.names.Ballot.{Ballot}
-use Rattle.sc_node_table.specs.Replica.{ReplicaState, Place}
-use Rattle.sc_paxos_words.specs.Ballots.{IsAtLeast}
+use Rattle.sc_base.specs.Definitions.{Each}
+use Rattle.sc_node_table.specs.Values.{Ballot}
+use Rattle.sc_node_table.specs.Definitions.{ReplicaState, Place}
+use Rattle.sc_paxos_words.specs.Definitions.{IsAtLeast}
 use Rattle.sc_following_law.specs.Dated.{IsNoPrepare}
 use Rattle.sc_following_law.specs.Following.{Mark, Asks, Votes, Tells, Installs, Prepares, Promises, Course, Progress, Sets, members_at, IsFollowing}
 use Rattle.sc_following_law.specs.Leading.{IsLeadOf, progress_by, LeadsInto}

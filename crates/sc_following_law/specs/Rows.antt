@@ -1,12 +1,10 @@
 -- What one row does to what stands between the leader of a group and its nodes, and that each row keeps it.
-use Rattle.std.specs.Prelude.{◌≡◌, ℕ, zero, suc, ◌+◌, ◌<◌, ◌≤◌, ◌==◌, ◌&&◌, true, false, List, [], ◌∷◌, ◌++◌, if◌then◌else◌, Option, Some, None, ◌⊎◌}
-use Rattle.sc_base.specs.Among.{Among, Each}
-use Rattle.sc_base.specs.declared.names.Ballot.{Ballot}
-use Rattle.sc_base.specs.Roster.{IsRoster, is_member, least_of}
-use Rattle.sc_node_table.specs.Replica.{listed}
-use Rattle.sc_node_table.specs.Slots.{slots_ahead}
-use Rattle.sc_paxos_words.specs.Ballots.{below}
-use Rattle.sc_following_law.specs.Following.{Mark, Asks, Votes, Tells, Installs, Prepares, Promises, next_by, promise_by, Course, Progress, Sets, members_at, IsOpen, IsInFlight, IsFollowing, IsEven, IsEvenLed}
+use Rattle.std.specs.Prelude.{◌≡◌, ℕ, zero, suc, ◌+◌, ◌<◌, ◌≤◌, ◌==◌, ◌&&◌, true, false, List, [], ◌∷◌, ◌++◌, Option, Some, None, ◌⊎◌, if◌then◌else◌}
+use Rattle.sc_base.specs.Definitions.{Among, Each, IsRoster, is_member, least_of}
+use Rattle.sc_node_table.specs.Values.{Ballot}
+use Rattle.sc_node_table.specs.Definitions.{listed, slots_ahead}
+use Rattle.sc_paxos_words.specs.Definitions.{below}
+use Rattle.sc_following_law.specs.Following.{Mark, Asks, Votes, Tells, Installs, Prepares, Promises, next_by, promise_by, Course, Progress, Sets, members_at, IsOpen, IsInFlight, IsFollowing}
 
 -- A row of a node that takes a mail, or none of the group: the others stay where they are, and what is sent to each comes behind its mail.
 pub record IsRow (now after : Progress) (node : ℕ) (taken : Option Mark) (sent marks marks_after : ℕ → List Mark) : Type 0 where
@@ -167,12 +165,6 @@ begun members ballot = record {
   course = record { newest = 1; bound = 1; ballot = ballot; is_first = true; runs = true; gone = false; voters = λ slot. None; counted = λ node. false };
 }
 
--- a group begins so, where its first members decide the slots that are open then
-abbrev pub GroupsBeginFollowing : Type 0
-GroupsBeginFollowing =
-    (at : Sets) (ballot : Ballot) → ((slot : ℕ) → slot < 1 + slots_ahead → at slot ≡ members_at at 1) → is_member (members_at at 1) ballot.node ≡ true
-    → IsFollowing at (begun (members_at at 1) ballot) (λ node. [])
-
 -- such a row keeps what stands between a leader and its nodes, where some decide each slot
 abbrev pub Keeps : (Sets → Progress → Progress → ℕ → Option Mark → (ℕ → List Mark) → Type 0) → Type 0
 Keeps Kind =
@@ -189,12 +181,3 @@ TakersKeep = Keeps Takes
 
 abbrev pub LeadersKeep : Type 0
 LeadersKeep = Keeps Leads
-
-abbrev pub ElectionsKeep : Type 0
-ElectionsKeep = Keeps Elects
-
--- where none of a group's mail is under way, all is even, and one leads unless the group is gone
-abbrev pub QuietGroupsAreEven : Type 0
-QuietGroupsAreEven =
-    (at : Sets) (now : Progress) (marks : ℕ → List Mark) → ((slot : ℕ) → IsRoster (at slot)) → ((node : ℕ) → marks node ≡ []) → IsFollowing at now marks
-    → IsEven at now × (now.course.gone ≡ false → IsEvenLed at now)

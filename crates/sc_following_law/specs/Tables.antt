@@ -1,21 +1,12 @@
 -- That a replica's table takes the mail of its group as the marks of it say.
 use Rattle.std.specs.Prelude.{◌≡◌, ℕ, suc, ◌+◌, ◌-◌, ◌^◌, ◌<◌, ◌≤◌, ◌==◌, true, false, List, [], ◌∷◌, ◌++◌, length, filter, if◌then◌else◌, Some, None, ◌⊎◌}
-use Rattle.sc_base.specs.declared.names.Ballot.{Ballot}
-use Rattle.sc_base.specs.declared.names.Draw.{Draw}
-use Rattle.sc_cmd.specs.declared.commands.Command.{Command}
-use Rattle.sc_cmd.specs.declared.cores.Base.{Base}
-use Rattle.sc_cmd.specs.declared.links.Route.{Route}
-use Rattle.sc_mail.specs.declared.bodies.Mail.{Mail}
-use Rattle.sc_mail.specs.declared.bodies.MailBody.TheVariants.{Prepare, Accept, Learn, Install}
-use Rattle.sc_base.specs.Roster.{IsRoster, is_member, least_of}
-use Rattle.sc_node_table.specs.Election.{open_nodes}
-use Rattle.sc_node_table.specs.Execute.{entered, learnt_to, welcomed, is_among}
-use Rattle.sc_node_table.specs.Replica.{ReplicaState, Place, name_of, next, members, first_ballot, last_slot}
-use Rattle.sc_node_table.specs.Rows.{mailed, made_by}
-use Rattle.sc_paxos_words.specs.Leaders.{new_leader}
+use Rattle.sc_node_table.specs.Values.{Ballot, Draw, Command, Base, Route, Mail, Prepare, Accept, Learn, Install}
+use Rattle.sc_base.specs.Definitions.{IsRoster, is_member, least_of}
+use Rattle.sc_node_table.specs.Definitions.{open_nodes, entered, learnt_to, welcomed, is_among, ReplicaState, Place, name_of, next, members, first_ballot, last_slot, mailed, made_by}
+use Rattle.sc_paxos_words.specs.Definitions.{new_leader}
 use Rattle.sc_following_law.specs.Following.{Mark, Asks, Tells, Installs, Prepares, marks_of, next_by, promise_by, IsFit, Course, Sets, members_at}
 use Rattle.sc_following_law.specs.Rows.{answered, told_of}
-use Rattle.sc_law_lemmas.specs.Steps.{GoesOn}
+use Rattle.sc_law_lemmas.specs.Definitions.{GoesOn}
 
 -- the marks, for a group, of the mail for an actor
 abbrev pub marks_for : Draw → ℕ → List Mail → List Mark

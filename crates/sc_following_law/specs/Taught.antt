@@ -1,8 +1,7 @@
 -- That each member of a state learns the entry after it, and nobody else is told one.
 use Rattle.std.specs.Prelude.{◌≡◌, ℕ, suc, ◌<◌, true, List, [], Option, ◌⊎◌}
-use Rattle.sc_base.specs.Among.{Each}
-use Rattle.sc_base.specs.declared.names.Ballot.{Ballot}
-use Rattle.sc_base.specs.Roster.{IsRoster, is_member}
+use Rattle.sc_base.specs.Definitions.{Each, IsRoster, is_member}
+use Rattle.sc_node_table.specs.Values.{Ballot}
 use Rattle.sc_following_law.specs.Following.{Mark, Asks, Votes, Tells, Installs, Prepares, Promises, reached, Progress, Sets, members_at, IsFollowing}
 use Rattle.sc_following_law.specs.Hints.{Tellers, LeavesLast}
 use Rattle.sc_following_law.specs.Rows.{IsRow, IsIdle, Takes, Leads, Elects, begun}

@@ -1,22 +1,17 @@
 -- What holds of a scenario's groups before any row, and what the start of a group gives.
 use Rattle.std.proofs.Common.{◌≡◌, ℕ, ◌≤◌, List, [], ◌∷◌, length, map, filter, inl, inr, refl, sym, subst, arith}
 use Rattle.std.proofs.lemmas.Bool.{cond_both}
-use Rattle.sc_base.specs.Among.{Among, Each}
-use Rattle.sc_cmd.specs.declared.commands.Command.{Command}
-use Rattle.sc_cmd.specs.declared.cores.Base.{Base}
-use Rattle.sc_client_table.specs.Client.{born_client}
-use Rattle.sc_base.specs.Roster.{is_member}
-use Rattle.sc_paxos_words.proofs.ListLemmas.{Each-among}
-use Rattle.sc_node_table.specs.Replica.{ReplicaState, name_of, born_replica}
+use Rattle.sc_base.specs.Definitions.{Among, Each, is_member}
+use Rattle.sc_node_table.specs.Values.{Command, Base, Route, MailBody}
+use Rattle.sc_client_table.specs.Definitions.{born_client}
+use Rattle.sc_paxos_words.proofs.Lemmas.{Each-among}
+use Rattle.sc_node_table.specs.Definitions.{ReplicaState, name_of, born_replica}
 use Rattle.sc_scenario.specs.declared.scenarios.Scenario.{Scenario}
-use Rattle.sc_cmd.specs.declared.links.Route.{Route}
-use Rattle.sc_sound.specs.Players.{Ahead}
-use Rattle.sc_sound.specs.GroupsOf.{AreNamedApart}
+use Rattle.sc_sound.specs.Definitions.{Ahead, AreNamedApart}
 use Rattle.sc_group_law.proofs.Holding.{IsOther, Holds, holds_none}
 use Rattle.sc_group_law.proofs.Newborn.{born_replica_is}
 use Rattle.sc_group_law.proofs.Names.{IsOneOf}
 use Rattle.sc_group_law.proofs.Places.{Journal}
-use Rattle.sc_mail.specs.declared.bodies.MailBody.{MailBody}
 use Rattle.sc_group_law.proofs.Families.{Kept}
 
 -- a list that is not empty has a first element

@@ -4,32 +4,18 @@ use Rattle.std.specs.Prelude.{slice_get}
 use Rattle.std.specs.Option.{option_map}
 use Rattle.std.proofs.lemmas.Bool.{cases_Bool, cond-true, cond-false}
 use Rattle.std.proofs.lemmas.List.{length_push}
-use Rattle.sc_base.specs.Limits.{client_actor}
-use Rattle.sc_base.specs.declared.names.Draw.{Draw}
-use Rattle.sc_base.specs.declared.ops.Op.{Op}
-use Rattle.sc_base.specs.declared.ops.Reply.{Reply}
-use Rattle.sc_cmd.specs.declared.commands.Command.{Command}
-use Rattle.sc_cmd.specs.declared.cores.Base.{Base}
-use Rattle.sc_cmd.specs.declared.orders.OrderLine.{OrderLine}
-use Rattle.sc_mail.specs.declared.bodies.AnswerBody.TheVariants.{Value}
-use Rattle.sc_mail.specs.declared.bodies.Mail.{Mail}
-use Rattle.sc_mail.specs.declared.bodies.MailBody.{MailBody}
-use Rattle.sc_actor.specs.declared.rows.Row.{Row}
-use Rattle.sc_actor.specs.declared.rows.Input.{Input}
-use Rattle.sc_actor.specs.declared.rows.Input.TheVariants.{Got, Go}
-use Rattle.sc_client_table.specs.Client.{Client, request_at}
-use Rattle.sc_client_table.specs.Table.{request_of}
-use Rattle.sc_client_table.specs.Turns.{InTurn, Waits, Begins, TakesReply}
-use Rattle.sc_base.specs.Among.{Among}
+use Rattle.sc_base.specs.Definitions.{client_actor, Among}
+use Rattle.sc_node_table.specs.Values.{Draw, Op, Reply, Command, Base, OrderLine, Value, Mail, MailBody, Row, Input, Got}
+use Rattle.sc_actor.specs.declared.rows.Input.TheVariants.{Go}
+use Rattle.sc_client_table.specs.Definitions.{Client, request_at, request_of, InTurn, Waits, Begins, TakesReply}
 use Rattle.sc_scenario.specs.declared.scenarios.Asks.{Asks}
 use Rattle.sc_scenario.specs.declared.scenarios.Scenario.{Scenario}
-use Rattle.sc_sound.specs.Players.{Ahead}
-use Rattle.sc_sound.specs.Requests.{issues, issued_from, issue_row}
+use Rattle.sc_sound.specs.Definitions.{Ahead, issues, issued_from, issue_row}
 use Rattle.sc_group_law.proofs.Invariant.{Steps, IsReplyAt, IsTrue, IsTrueAnswer, grown_reply}
 use Rattle.sc_group_law.proofs.Names.{IsOneOf, IsNamedIn}
 use Rattle.sc_group_law.proofs.Places.{Journal, or_now, issue-push}
-use Rattle.sc_paxos_law.proofs.Among.{get_pushed}
-use Rattle.sc_base.proofs.NameLemmas.{same_name}
+use Rattle.sc_paxos_law.proofs.Lemmas.{get_pushed}
+use Rattle.sc_base.proofs.Lemmas.{same_name}
 
 -- ---- requests
 

@@ -3,31 +3,14 @@ use Rattle.std.proofs.Common.{◌≡◌, ℕ, ◌+◌, ◌-◌, ◌<◌, ◌≤�
 use Rattle.std.specs.Prelude.{slice_get}
 use Rattle.std.specs.List.{flat_map}
 use Rattle.std.proofs.lemmas.Bool.{cases_Bool, eqb-true, eqb-false, ltb-true, ltb-false, and_parts, cond_both}
-use Rattle.sc_base.specs.declared.names.Ballot.{Ballot}
-use Rattle.sc_base.specs.Same.{same_ballot}
-use Rattle.sc_cmd.specs.declared.commands.Command.{Command}
-use Rattle.sc_cmd.specs.declared.cores.Base.{Base}
-use Rattle.sc_mail.specs.declared.bodies.Mail.{Mail}
-use Rattle.sc_mail.specs.declared.bodies.MailBody.{MailBody}
-use Rattle.sc_base.specs.Roster.{is_member, with_member}
-use Rattle.sc_base.specs.Majority.{is_majority}
-use Rattle.sc_paxos_words.specs.declared.answers.Counted.{Counted}
-use Rattle.sc_paxos_words.specs.declared.answers.Counted.TheVariants.{Chosen, NotYet}
-use Rattle.sc_paxos_words.specs.declared.flights.Flight.{Flight}
-use Rattle.sc_paxos_words.specs.declared.reports.Report.{Report}
-use Rattle.sc_base.specs.Among.{Among, Each}
-use Rattle.sc_paxos_words.specs.Leaders.{LeaderState, flight_at, without_flight_at, promise_counted}
-use Rattle.sc_paxos_words.specs.Votes.{kept_voters, add_voter, voters_after, with_voters, vote_at, counted}
-use Rattle.sc_paxos_words.proofs.ListLemmas.{Each-among, Each-weaker, Each-append, Each-filter, find_found}
-use Rattle.sc_paxos_law.specs.Steps.{Prepared, Promised, Offered, Accepted}
-use Rattle.sc_paxos_law.specs.Chosen.{needed, members_of}
-use Rattle.sc_paxos_law.specs.Lawful.{CountedPromise}
-use Rattle.sc_paxos_law.proofs.History.{was_offered, one_offer}
-use Rattle.sc_node_table.specs.Slots.{with_slot}
-use Rattle.sc_node_table.specs.Replica.{ReplicaState, Place, Executed, next, set_at}
-use Rattle.sc_node_table.specs.Execute.{has_room}
-use Rattle.sc_node_table.specs.Voting.{leads, promise_row, readied, vote_tallied, voted, accepted_row}
-use Rattle.sc_sound.specs.Players.{Ahead}
+use Rattle.sc_node_table.specs.Values.{Ballot, Command, Base, Mail, MailBody, Counted, Chosen, NotYet, Flight, Report}
+use Rattle.sc_base.specs.Definitions.{same_ballot, is_member, with_member, is_majority, Among, Each}
+use Rattle.sc_paxos_words.specs.Definitions.{LeaderState, flight_at, without_flight_at, promise_counted, kept_voters, add_voter, voters_after, with_voters, vote_at, counted}
+use Rattle.sc_paxos_words.proofs.Lemmas.{Each-among, Each-weaker, Each-append, Each-filter, find_found}
+use Rattle.sc_paxos_law.specs.Definitions.{Prepared, Promised, Offered, Accepted, needed, members_of, CountedPromise}
+use Rattle.sc_paxos_law.proofs.Lemmas.{was_offered, one_offer}
+use Rattle.sc_node_table.specs.Definitions.{with_slot, ReplicaState, Place, Executed, next, set_at, has_room, leads, promise_row, readied, vote_tallied, voted, accepted_row}
+use Rattle.sc_sound.specs.Definitions.{Ahead}
 use Rattle.sc_group_law.proofs.Growth.{IsLearnt}
 use Rattle.sc_group_law.proofs.Invariant.{Steps, rule, first, IsFlying, IsTaken, IsReplica, next_after}
 use Rattle.sc_group_law.proofs.Speech.{Speaks}
@@ -36,7 +19,7 @@ use Rattle.sc_group_law.proofs.Parts.{among_without_flight, Each-without_flight}
 use Rattle.sc_group_law.proofs.Executing.{fine_executed}
 use Rattle.std.proofs.lemmas.List.{map-append}
 use Rattle.sc_group_law.proofs.Offering.{fine_pumped}
-use Rattle.sc_base.proofs.NameLemmas.{ballot_is}
+use Rattle.sc_base.proofs.Lemmas.{ballot_is}
 
 reports_push : (votes : List (CountedPromise Command)) (vote : CountedPromise Command) → flat_map (λ (v : CountedPromise Command). v.reports) (votes ++ vote ∷ []) ≡ flat_map (λ (v : CountedPromise Command). v.reports) votes ++ vote.reports
 reports_push [] vote = append-nil vote.reports
@@ -44,13 +27,13 @@ reports_push (v ∷ votes) vote = ap (λ rs. v.reports ++ rs) (reports_push vote
 
 -- ---- kept voters
 
-each_voter : (P : ℕ → Type 0) (node : ℕ) (o : Option (List ℕ)) → P node → Each P (kept_voters o) → Each P (kept_voters (add_voter node o))
+pub each_voter : (P : ℕ → Type 0) (node : ℕ) (o : Option (List ℕ)) → P node → Each P (kept_voters o) → Each P (kept_voters (add_voter node o))
 each_voter P node None p e = (p, tt)
 each_voter P node (Some voters) p e =
     cond_both (is_member voters node || eqb (length voters) 9) (Some voters) (Some (with_member voters node)) (λ o. Each P (kept_voters o)) (λ _. e)
     (λ _. Each-append P (filter (λ m. nat_lt m node) voters) (node ∷ filter (λ m. nat_lt node m) voters) (Each-filter P (λ m. nat_lt m node) voters e) (p, Each-filter P (λ m. nat_lt node m) voters e))
 
-each_after : (P : ℕ → Type 0) (members : List ℕ) (node : ℕ) (o : Option (List ℕ)) → P node → Each P (kept_voters o) → Each P (kept_voters (voters_after members node o))
+pub each_after : (P : ℕ → Type 0) (members : List ℕ) (node : ℕ) (o : Option (List ℕ)) → P node → Each P (kept_voters o) → Each P (kept_voters (voters_after members node o))
 each_after P members node o p e = cond_both (is_member members node) (add_voter node o) o (λ x. Each P (kept_voters x)) (λ _. each_voter P node o p e) (λ _. e)
 
 each_with_voters : (P : Flight Command → Type 0) (slot : ℕ) (voters : Option (List ℕ)) (fs : List (Flight Command)) → Each P fs → ((f : Flight Command) → Among f fs → f.slot ≡ slot → P (record f { voters = voters }))
@@ -72,7 +55,7 @@ still_flying slot voters (x ∷ fs) at f (inr a) e =
 
 -- ---- what is ready
 
-each_with_slot : (P : ℕ × Command → Type 0) (es : List (ℕ × Command)) (slot : ℕ) (c : Command) → Each P es → P (slot, c) → Each P (with_slot es slot c)
+pub each_with_slot : (P : ℕ × Command → Type 0) (es : List (ℕ × Command)) (slot : ℕ) (c : Command) → Each P es → P (slot, c) → Each P (with_slot es slot c)
 each_with_slot P [] slot c e p = (p, tt)
 each_with_slot P (x ∷ es) slot c e p =
     cond_both (eqb x.0 slot) _ _ (Each P) (λ _. (p, e.1)) (λ _. cond_both (nat_lt slot x.0) _ _ (Each P) (λ _. (p, e)) (λ _. (e.0, each_with_slot P es slot c e.1 p)))

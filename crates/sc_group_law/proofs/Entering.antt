@@ -1,29 +1,17 @@
 -- The first part of an execution: the entry of the next slot lengthens the log, and what is old is forgotten.
-use Rattle.std.proofs.Common.{◌≡◌, ℕ, suc, ◌+◌, ◌<◌, ◌≤◌, eqb, List, [], ◌∷◌, ◌++◌, length, inl, inr, refl, sym, ◌∙◌, ap, subst, arith}
-use Rattle.std.proofs.lemmas.Bool.{eqb-false, cond_both}
+use Rattle.std.proofs.Common.{◌≡◌, ℕ, suc, ◌+◌, ◌<◌, ◌≤◌, List, [], ◌∷◌, ◌++◌, length, inl, inr, sym, ◌∙◌, ap, subst, arith}
 use Rattle.std.proofs.lemmas.List.{length_push, take-append-le, take_all}
-use Rattle.sc_cmd.specs.declared.commands.Command.{Command}
-use Rattle.sc_cmd.specs.declared.cores.Base.{Base}
-use Rattle.sc_machine_table.specs.Group.{Group}
-use Rattle.sc_machine_table.specs.Machine.{applied}
-use Rattle.sc_paxos_words.specs.declared.answers.Learnt.{Learnt}
-use Rattle.sc_paxos_words.specs.Logs.{LogState, next_of}
-use Rattle.sc_paxos_words.proofs.ListLemmas.{Each-weaker}
-use Rattle.sc_paxos_law.specs.Chosen.{needed, members_of, IsChosenAfter}
-use Rattle.sc_paxos_law.proofs.Law.{longer_log}
-use Rattle.sc_node_table.specs.Slots.{rest_of}
-use Rattle.sc_node_table.specs.Replica.{ReplicaState, next, floor_of, forgotten, waits_in}
-use Rattle.sc_node_table.specs.Execute.{with_entry, entered}
-use Rattle.sc_sound.specs.Players.{Ahead}
+use Rattle.sc_node_table.specs.Values.{Command, Base}
+use Rattle.sc_machine_table.specs.Definitions.{Group, applied}
+use Rattle.sc_paxos_words.proofs.Lemmas.{Each-weaker}
+use Rattle.sc_paxos_law.specs.Definitions.{needed, members_of, IsChosenAfter}
+use Rattle.sc_paxos_law.proofs.Lemmas.{longer_log, get_pushed}
+use Rattle.sc_node_table.specs.Definitions.{rest_of, ReplicaState, next, floor_of, forgotten, waits_in, with_entry, entered}
+use Rattle.sc_sound.specs.Definitions.{Ahead}
 use Rattle.sc_group_law.proofs.Held.{floor_low}
 use Rattle.sc_group_law.proofs.Invariant.{Steps, rule, AreSets, HasLog, next_is, pushed_has, cut_has, IsReplica, next_after, forgotten_replica}
 use Rattle.sc_group_law.proofs.Parts.{rest_length, rest_count, rest_get}
-use Rattle.sc_paxos_law.proofs.Among.{get_pushed}
-
-with_entry-is : (c : Command) (log : LogState Command) → with_entry c log ≡ record log { entries = log.entries ++ c ∷ [] }
-with_entry-is c log =
-    cond_both (eqb (next_of log) (next_of log)) _ _ (λ (x : Learnt × LogState Command). x.1 ≡ record log { entries = log.entries ++ c ∷ [] })
-    (λ _. refl) (λ f. absurd (eqb-false (next_of log) (next_of log) f refl))
+use Rattle.sc_law_lemmas.proofs.Lemmas.{entry_is as with_entry-is}
 
 module _ (ahead : Ahead) (base : Base) where
   -- ---- the log and the open slots with one entry more

@@ -1,40 +1,19 @@
 -- Execution: the command of the next slot, which is chosen there, lengthens the log.
 use Rattle.std.proofs.Common.{◌≡◌, ℕ, ◌+◌, ◌<◌, ◌&&◌, nat_lt, Bool, true, false, cond, eqb, List, [], ◌∷◌, ◌++◌, length, Option, Some, None, ◌⊎◌, inl, inr, refl, sym, ◌∙◌, subst, arith}
 use Rattle.std.proofs.lemmas.Bool.{cases_Bool, eqb-true, eqb-false, and_parts, cond_both}
-use Rattle.sc_base.specs.Limits.{client_actor}
-use Rattle.sc_base.specs.declared.ops.Op.{Op}
-use Rattle.sc_base.specs.declared.ops.Reply.{Reply}
-use Rattle.sc_cmd.specs.declared.links.Route.{Route}
-use Rattle.sc_cmd.specs.declared.commands.Command.{Command}
-use Rattle.sc_cmd.specs.declared.commands.Command.TheVariants.{Noop, Call, Join, Leave, Split, Begin}
-use Rattle.sc_cmd.specs.declared.cores.Base.{Base}
-use Rattle.sc_cmd.specs.declared.effects.Effect.{Effect}
+use Rattle.sc_base.specs.Definitions.{client_actor, is_member, least_of, Among, Each}
+use Rattle.sc_node_table.specs.Values.{Op, Reply, Route, Command, Noop, Call, Join, Leave, Split, Begin, Base, Effect, AnswerBody, Mail, MailBody, Answer, Told, ToldResult, Flight}
 use Rattle.sc_cmd.specs.declared.effects.Effect.TheVariants as Was
-use Rattle.sc_mail.specs.declared.bodies.AnswerBody.{AnswerBody}
 use Rattle.sc_mail.specs.declared.bodies.AnswerBody.TheVariants as Says
-use Rattle.sc_mail.specs.declared.bodies.Mail.{Mail}
-use Rattle.sc_mail.specs.declared.bodies.MailBody.{MailBody}
-use Rattle.sc_mail.specs.declared.bodies.MailBody.TheVariants.{Answer, Told}
-use Rattle.sc_base.specs.Roster.{is_member, least_of}
-use Rattle.sc_machine_table.specs.Group.{Group}
-use Rattle.sc_cmd.specs.declared.orders.ToldResult.{ToldResult}
-use Rattle.sc_machine_table.specs.Machine.{applied}
-use Rattle.sc_paxos_words.specs.declared.flights.Flight.{Flight}
-use Rattle.sc_base.specs.Among.{Among, Each}
-use Rattle.sc_paxos_words.specs.Logs.{LogState, next_of}
-use Rattle.sc_paxos_words.specs.Leaders.{flight_at, without_flight_at}
-use Rattle.sc_paxos_words.proofs.ListLemmas.{Each-among, find_found}
-use Rattle.sc_paxos_law.specs.Chosen.{IsLog}
-use Rattle.sc_paxos_law.proofs.Law.{earlier}
-use Rattle.sc_node_table.specs.Slots.{at_slot, without_slot}
-use Rattle.sc_node_table.specs.Replica.{ReplicaState, Place, Executed, childless, name_of, next, members, flying, forgotten}
-use Rattle.sc_node_table.specs.Mails.{sent, order_number, told_order}
-use Rattle.sc_node_table.specs.Queues.{call_of, without_call, call_before, put_back}
-use Rattle.sc_node_table.specs.Execute.{entered, answer_of, told_call, order_result, told_effect, announced, learnt_to, landed, left_gone, left, is_among, looked_for, looked, executed_one, next_child, has_room, next_ready, ending, executed_ready, executed}
+use Rattle.sc_machine_table.specs.Definitions.{Group, applied}
+use Rattle.sc_paxos_words.specs.Definitions.{LogState, next_of, flight_at, without_flight_at}
+use Rattle.sc_paxos_words.proofs.Lemmas.{Each-among, find_found}
+use Rattle.sc_paxos_law.specs.Definitions.{IsLog}
+use Rattle.sc_paxos_law.proofs.Lemmas.{earlier}
+use Rattle.sc_node_table.specs.Definitions.{at_slot, without_slot, ReplicaState, Place, Executed, childless, name_of, next, members, flying, forgotten, sent, order_number, told_order, call_of, without_call, call_before, put_back, entered, answer_of, told_call, order_result, told_effect, announced, learnt_to, landed, left_gone, left, is_among, looked_for, looked, executed_one, next_child, has_room, next_ready, ending, executed_ready, executed, before_of, begun_result, spoken_number, told_result, told_begun, went_on, spoken_mails, spoken}
 use Rattle.sc_node_table.specs.declared.Before.{Before}
-use Rattle.sc_node_table.specs.Spoken.{before_of, begun_result, spoken_number, told_result, told_begun, went_on, spoken_mails, spoken}
-use Rattle.sc_hist_law.specs.Laws.{IsReplied}
-use Rattle.sc_sound.specs.Players.{Ahead}
+use Rattle.sc_hist_law.specs.Definitions.{IsReplied}
+use Rattle.sc_sound.specs.Definitions.{Ahead}
 use Rattle.sc_group_law.proofs.Growth.{IsLearnt, by_own_log, learnt_offered}
 use Rattle.sc_group_law.proofs.Invariant.{Steps, rule, first, IsTaken, IsReplica, next_after, IsReplyAt, IsTrueAnswer}
 use Rattle.sc_group_law.proofs.Speech.{AreSaid, Speaks}
@@ -46,7 +25,7 @@ use Rattle.sc_group_law.proofs.Parts.{Each-without_flight, among_without_flight,
 use Rattle.sc_group_law.proofs.Offering.{with_calls, with_acts, fine_pumped}
 use Rattle.sc_group_law.proofs.Entering.{entered_has, entered_replica, entered_next, entered_runs}
 use Rattle.sc_group_law.proofs.Welcoming.{welcomed_place}
-use Rattle.sc_law_lemmas.proofs.Places.{landed_place, cleared}
+use Rattle.sc_law_lemmas.proofs.Lemmas.{landed_place, cleared}
 
 module _ (ahead : Ahead) (base : Base) (made : Command → Type 0) (heard : MailBody → Type 0) (me : ℕ) (older : List Mail) (before : Steps) (speaks : Speaks ahead base made heard before)
     (some : (log : List Command) → Each made log → (node : ℕ) × (rest : List ℕ) × ((rule ahead base).members log ≡ node ∷ rest)) where

@@ -1,38 +1,19 @@
 -- What holds of each lawful journal with any number of groups, its parts named: a part for each group, and what all groups share; what may be queued and which mails of transactions are true grow with the rows. One more row keeps it.
 use Rattle.std.proofs.Common.{◌≡◌, ℕ, ◌+◌, ◌≤◌, false, List, [], ◌∷◌, ◌++◌, length, drop, take, None, Some, inl, inr, sym, ◌∙◌, ap, subst}
 use Rattle.std.specs.Prelude.{slice_get}
-use Rattle.sc_base.specs.declared.names.Ballot.{Ballot}
-use Rattle.sc_base.specs.declared.ops.Reply.{Reply}
-use Rattle.sc_base.specs.Limits.{client_actor}
-use Rattle.sc_base.specs.Among.{Among, Each}
-use Rattle.sc_cmd.specs.declared.commands.Command.{Command}
-use Rattle.sc_cmd.specs.declared.cores.Base.{Base}
-use Rattle.sc_cmd.specs.declared.links.Route.{Route}
-use Rattle.sc_cmd.specs.declared.orders.OrderLine.{OrderLine}
-use Rattle.sc_mail.specs.declared.bodies.Mail.{Mail}
-use Rattle.sc_mail.specs.declared.bodies.MailBody.{MailBody}
-use Rattle.sc_actor.specs.declared.rows.Row.{Row}
-use Rattle.sc_actor.specs.Mail.{mails}
-use Rattle.sc_actor.specs.Replay.{value}
-use Rattle.sc_actor.specs.System.{has_gone}
-use Rattle.sc_actor.proofs.ReplayLemmas.{mails-snoc}
-use Rattle.sc_client_table.specs.Client.{Client}
-use Rattle.sc_node_table.specs.Node.{NodeState}
-use Rattle.sc_paxos_words.proofs.ListLemmas.{Each-among}
-use Rattle.sc_paxos_law.specs.Steps.{Offered}
-use Rattle.sc_paxos_law.specs.Chosen.{members_of, IsChosenAfter}
-use Rattle.sc_paxos_law.specs.Decided.{log_of}
-use Rattle.sc_paxos_law.specs.Lawful.{IsLawfulHistory}
-use Rattle.sc_paxos_law.proofs.Among.{Among-either, shared_member}
-use Rattle.sc_paxos_law.proofs.History.{was_offered}
-use Rattle.sc_paxos_law.proofs.Decided.{log_of-longest, log_grows}
+use Rattle.sc_node_table.specs.Values.{Ballot, Reply, Command, Base, Route, OrderLine, Mail, MailBody, Row, Node as ANode, Client as AClient}
+use Rattle.sc_base.specs.Definitions.{client_actor, Among, Each}
+use Rattle.sc_actor.specs.Definitions.{mails, value, has_gone}
+use Rattle.sc_actor.proofs.Lemmas.{mails-snoc}
+use Rattle.sc_client_table.specs.Definitions.{Client}
+use Rattle.sc_node_table.specs.Definitions.{NodeState}
+use Rattle.sc_paxos_words.proofs.Lemmas.{Each-among}
+use Rattle.sc_paxos_law.specs.Definitions.{Offered, members_of, IsChosenAfter, log_of, IsLawfulHistory}
+use Rattle.sc_paxos_law.proofs.Lemmas.{Among-either, shared_member, was_offered, log_of-longest, log_grows}
 use Rattle.sc_scenario.specs.declared.scenarios.Asks.{Asks}
 use Rattle.sc_scenario.specs.declared.scenarios.Scenario.{Scenario}
-use Rattle.sc_sound.specs.Players.{Ahead, node_seat, player_table, client_seat}
-use Rattle.sc_mail.specs.declared.roles.Role.TheVariants.{Node as ANode, Client as AClient}
-use Rattle.sc_sound.specs.Logs.{decided_log}
-use Rattle.sc_sound.specs.Requests.{kept_replies}
-use Rattle.sc_group_law.specs.Steps.{steps}
+use Rattle.sc_sound.specs.Definitions.{Ahead, node_seat, player_table, client_seat, decided_log, kept_replies}
+use Rattle.sc_group_law.specs.Definitions.{steps}
 use Rattle.sc_group_law.proofs.Lists.{each_got}
 use Rattle.sc_group_law.proofs.Invariant.{Steps, rule, first, IsTrue, grown_true, OffersMade}
 use Rattle.sc_group_law.proofs.Holding.{more_holds}

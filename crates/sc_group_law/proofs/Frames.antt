@@ -2,23 +2,12 @@
 use Rattle.std.proofs.Common.{◌≡◌, ℕ, ◌&&◌, true, false, List, [], ◌∷◌, ◌++◌, Some, refl, sym, ◌∙◌, ap}
 use Rattle.std.specs.List.{flat_map, list_any}
 use Rattle.std.proofs.lemmas.Bool.{and_left, cond-false}
-use Rattle.sc_base.specs.Among.{Each}
-use Rattle.sc_base.specs.Same.{same_draw, same_ballot}
-use Rattle.sc_base.specs.declared.names.Ballot.{Ballot}
-use Rattle.sc_base.specs.declared.names.Draw.{Draw}
-use Rattle.sc_cmd.specs.declared.commands.Command.{Command}
-use Rattle.sc_cmd.specs.declared.cores.Base.{Base}
-use Rattle.sc_cmd.specs.declared.orders.OrderLine.{OrderLine}
-use Rattle.sc_mail.specs.declared.bodies.Mail.{Mail}
-use Rattle.sc_mail.specs.declared.bodies.MailBody.{MailBody}
-use Rattle.sc_mail.specs.declared.bodies.MailBody.TheVariants.{Request, Answer, Prepare, Promise, Accept, Accepted as AcceptedMail, Nack, Learn, Ask, Install, TxPrepare, TxVote, TxOutcome, TxElsewhere, TxWatch, TxWatched, Told}
-use Rattle.sc_actor.specs.declared.rows.Row.{Row}
-use Rattle.sc_actor.specs.declared.rows.Event.{Event}
-use Rattle.sc_paxos_law.specs.Steps.{Prepared, Promised, Offered, Accepted}
-use Rattle.sc_node_table.specs.Node.{group_of_mail}
-use Rattle.sc_sound.specs.Accepts.{is_accepted, accepts_of}
-use Rattle.sc_sound.specs.Players.{Ahead}
-use Rattle.sc_group_law.specs.Steps.{proposer_steps, asked_in, promised_by, promises_of}
+use Rattle.sc_base.specs.Definitions.{Each, same_draw, same_ballot}
+use Rattle.sc_node_table.specs.Values.{Ballot, Draw, Command, Base, OrderLine, Mail, MailBody, Request, Answer, Prepare, Promise, Accept, Accepted as AcceptedMail, Nack, Learn, Ask, Install, TxPrepare, TxVote, TxOutcome, TxElsewhere, TxWatch, TxWatched, Told, Row, Event}
+use Rattle.sc_paxos_law.specs.Definitions.{Prepared, Promised, Offered, Accepted}
+use Rattle.sc_node_table.specs.Definitions.{group_of_mail}
+use Rattle.sc_sound.specs.Definitions.{is_accepted, accepts_of, Ahead}
+use Rattle.sc_group_law.specs.Definitions.{proposer_steps, asked_in, promised_by, promises_of}
 use Rattle.sc_group_law.proofs.Invariant.{Steps, IsOwn, IsTrue}
 
 -- a row of a node

@@ -1,16 +1,12 @@
 -- What holds of a history holds after more steps, and whose a step is.
 use Rattle.std.proofs.Common.{◌≡◌, ℕ, ◌≤◌, eqb, List, [], ◌∷◌, ◌++◌, length, inl, inr, refl, sym, ◌∙◌, subst}
 use Rattle.std.proofs.lemmas.Bool.{ne_eqb, cond-false}
-use Rattle.sc_base.specs.declared.names.Ballot.{Ballot}
-use Rattle.sc_base.specs.Among.{Among, Each}
-use Rattle.sc_paxos_words.specs.Acceptors.{born_acceptor}
-use Rattle.sc_paxos_words.proofs.ListLemmas.{Each-among}
-use Rattle.sc_paxos_law.specs.Steps.{Step, Prepared, Promised, Offered, Accepted, Cut, state_of}
-use Rattle.sc_paxos_law.specs.Chosen.{Rule, needed, members_of, IsChosen, IsChosenAfter, IsLog}
-use Rattle.sc_paxos_law.specs.Lawful.{MayOffer, IsLawfulStep, IsLawfulHistory}
-use Rattle.sc_paxos_law.proofs.Among.{shared_member}
-use Rattle.sc_paxos_law.proofs.History.{was_offered, one_offer}
-use Rattle.sc_paxos_law.proofs.Law.{later_log, later_chosen, agree_members, logs_agree, later_elected}
+use Rattle.sc_node_table.specs.Values.{Ballot}
+use Rattle.sc_base.specs.Definitions.{Among, Each}
+use Rattle.sc_paxos_words.specs.Definitions.{born_acceptor}
+use Rattle.sc_paxos_words.proofs.Lemmas.{Each-among}
+use Rattle.sc_paxos_law.specs.Definitions.{Step, Prepared, Promised, Offered, Accepted, Cut, state_of, Rule, needed, members_of, IsChosen, IsChosenAfter, IsLog, MayOffer, IsLawfulStep, IsLawfulHistory}
+use Rattle.sc_paxos_law.proofs.Lemmas.{shared_member, was_offered, one_offer, later_log, later_chosen, agree_members, logs_agree, later_elected}
 
 pub later_after : {V : Type 0} (rule : Rule V) (s : Step V) (h : List (Step V)) (log : List V) (slot : ℕ) (v : V) → IsChosenAfter rule h log slot v → IsChosenAfter rule (s ∷ h) log slot v
 later_after rule s h log slot v c = record { known = c.known; chosen = later_chosen _ s h slot v c.chosen }

@@ -1,17 +1,13 @@
 -- The replicas of a node, and which of them is a group's.
 use Rattle.std.proofs.Common.{◌≡◌, ℕ, false, List, [], ◌∷◌, ◌++◌, Some, None, ◌⊎◌, inl, inr, sym, ◌∙◌, ap, subst}
 use Rattle.std.proofs.lemmas.Bool.{cases_Bool, cond-true, cond-false, cond_both}
-use Rattle.sc_base.specs.Among.{Among, Each}
-use Rattle.sc_base.specs.Same.{same_draw}
-use Rattle.sc_base.specs.declared.names.Draw.{Draw}
-use Rattle.sc_base.proofs.NameLemmas.{same_name, draw_is}
-use Rattle.sc_log_entries.proofs.Names.{names_differ}
-use Rattle.sc_cmd.specs.declared.commands.Command.{Command}
-use Rattle.sc_cmd.specs.declared.cores.Base.{Base}
-use Rattle.sc_node_table.specs.Node.{replica_of, with_replica, is_before, with_new}
-use Rattle.sc_node_table.specs.Replica.{ReplicaState, name_of}
-use Rattle.sc_paxos_words.proofs.ListLemmas.{Each-among}
-use Rattle.sc_sound.specs.Players.{Ahead}
+use Rattle.sc_base.specs.Definitions.{Among, Each, same_draw}
+use Rattle.sc_node_table.specs.Values.{Draw, Command, Base}
+use Rattle.sc_base.proofs.Lemmas.{same_name, draw_is}
+use Rattle.sc_log_entries.proofs.Lemmas.{names_differ}
+use Rattle.sc_node_table.specs.Definitions.{replica_of, with_replica, is_before, with_new, ReplicaState, name_of}
+use Rattle.sc_paxos_words.proofs.Lemmas.{Each-among}
+use Rattle.sc_sound.specs.Definitions.{Ahead}
 use Rattle.sc_group_law.proofs.Growth.{By, IsFresh, fresh_on}
 use Rattle.sc_group_law.proofs.Invariant.{Steps, IsReplica, more_made, other_steps}
 

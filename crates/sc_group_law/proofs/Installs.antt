@@ -2,35 +2,15 @@
 use Rattle.std.proofs.Common.{◌≡◌, ℕ, ◌+◌, ◌≤◌, ◌||◌, not, nat_lt, true, false, eqb, List, [], ◌∷◌, ◌++◌, length, Option, Some, None, refl, sym, ◌∙◌, ap, subst, arith}
 use Rattle.std.proofs.lemmas.Bool.{eqb-true, ltb-false, or_parts, not-false, cond_both}
 use Rattle.std.proofs.lemmas.List.{drop_all}
-use Rattle.sc_base.specs.declared.names.Ballot.{Ballot}
-use Rattle.sc_base.specs.declared.names.Draw.{Draw}
-use Rattle.sc_cmd.specs.declared.commands.Command.{Command}
-use Rattle.sc_cmd.specs.declared.cores.Base.{Base}
-use Rattle.sc_cmd.specs.declared.orders.OrderLine.{OrderLine}
-use Rattle.sc_cmd.specs.declared.orders.OrderRefusal.{OrderRefusal}
-use Rattle.sc_cmd.specs.declared.orders.ToldResult.{ToldResult}
-use Rattle.sc_cmd.specs.declared.orders.ToldResult.TheVariants.{Refused}
-use Rattle.sc_mail.specs.declared.bodies.Mail.{Mail}
-use Rattle.sc_mail.specs.declared.bodies.MailBody.{MailBody}
-use Rattle.sc_mail.specs.declared.bodies.MailBody.TheVariants.{Told}
-use Rattle.sc_machine_table.specs.Group.{Group, group_of}
-use Rattle.sc_base.specs.Roster.{is_member}
-use Rattle.sc_base.specs.Among.{Among, Each}
-use Rattle.sc_paxos_words.specs.Acceptors.{born_acceptor}
-use Rattle.sc_paxos_words.specs.Logs.{installed}
-use Rattle.sc_paxos_words.specs.Leaders.{first_leader}
-use Rattle.sc_paxos_words.proofs.ListLemmas.{Each-among, Each-append}
-use Rattle.sc_paxos_law.specs.Steps.{Offered}
-use Rattle.sc_paxos_law.specs.Lawful.{IsLawfulHistory}
-use Rattle.sc_node_table.specs.Replica.{ReplicaState, Place, first_ballot, name_of, next, members, last_slot, forgotten, waits_in, installed_replica}
-use Rattle.sc_node_table.specs.Mails.{told_desk}
-use Rattle.sc_node_table.specs.Election.{ended, stopped}
-use Rattle.sc_node_table.specs.Install.{named, jumped}
-use Rattle.sc_node_table.specs.Rows.{looked_up, took_over, install_row, made_by}
-use Rattle.sc_node_table.specs.Ordering.{ordered_command, untaken, taken_or_told, ordered_row}
-use Rattle.sc_base.specs.Drawing.{Drawer, next_name}
-use Rattle.sc_hist_law.proofs.Logs.{state_same}
-use Rattle.sc_sound.specs.Players.{Ahead}
+use Rattle.sc_node_table.specs.Values.{Ballot, Draw, Command, Base, OrderLine, OrderRefusal, ToldResult, Refused, Mail, MailBody, Told}
+use Rattle.sc_machine_table.specs.Definitions.{Group, group_of}
+use Rattle.sc_base.specs.Definitions.{is_member, Among, Each, Drawer, next_name}
+use Rattle.sc_paxos_words.specs.Definitions.{born_acceptor, installed, first_leader}
+use Rattle.sc_paxos_words.proofs.Lemmas.{Each-among, Each-append}
+use Rattle.sc_paxos_law.specs.Definitions.{Offered, IsLawfulHistory}
+use Rattle.sc_node_table.specs.Definitions.{ReplicaState, Place, first_ballot, name_of, next, members, last_slot, forgotten, waits_in, installed_replica, told_desk, ended, stopped, named, jumped, looked_up, took_over, install_row, made_by, ordered_command, untaken, taken_or_told, ordered_row}
+use Rattle.sc_hist_law.proofs.Lemmas.{state_same}
+use Rattle.sc_sound.specs.Definitions.{Ahead}
 use Rattle.sc_group_law.proofs.Growth.{IsFresh, fresh_state}
 use Rattle.sc_group_law.proofs.Held.{Mirrors, mirrors_itself, floor_low}
 use Rattle.sc_group_law.proofs.Invariant.{Steps, rule, first, birth, AreSets, HasLog, IsReplica, next_after, forgotten_replica, IsState, grown_state}

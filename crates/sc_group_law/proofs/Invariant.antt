@@ -4,42 +4,20 @@ use Rattle.std.specs.Prelude.{slice_get}
 use Rattle.std.specs.List.{flat_map}
 use Rattle.std.proofs.Math.Nat.{max-le}
 use Rattle.std.proofs.lemmas.List.{length_push, length-drop, drop-drop, drop-append-le}
-use Rattle.sc_base.specs.Limits.{client_actor}
-use Rattle.sc_base.specs.declared.names.Ballot.{Ballot}
-use Rattle.sc_base.specs.declared.names.Draw.{Draw}
-use Rattle.sc_base.specs.declared.ops.Op.{Op}
-use Rattle.sc_base.specs.declared.ops.Reply.{Reply}
-use Rattle.sc_base.specs.Same.{same_draw}
-use Rattle.sc_cmd.specs.declared.commands.Command.{Command}
-use Rattle.sc_cmd.specs.declared.commands.Command.TheVariants.{Call}
-use Rattle.sc_cmd.specs.declared.cores.Base.{Base}
-use Rattle.sc_mail.specs.declared.bodies.AnswerBody.{AnswerBody}
+use Rattle.sc_base.specs.Definitions.{client_actor, same_draw, Among, Each}
+use Rattle.sc_node_table.specs.Values.{Ballot, Draw, Op, Reply, Command, Call, Base, AnswerBody, Mail, MailBody, Request, Answer, Prepare, Promise, Accept, Accepted as AcceptedMail, Nack, Learn, Ask, Install, TxPrepare, TxVote, TxOutcome, TxElsewhere, TxWatch, TxWatched, Told, Flight}
 use Rattle.sc_mail.specs.declared.bodies.AnswerBody.TheVariants as Says
-use Rattle.sc_mail.specs.declared.bodies.Mail.{Mail}
-use Rattle.sc_mail.specs.declared.bodies.MailBody.{MailBody}
-use Rattle.sc_mail.specs.declared.bodies.MailBody.TheVariants.{Request, Answer, Prepare, Promise, Accept, Accepted as AcceptedMail, Nack, Learn, Ask, Install, TxPrepare, TxVote, TxOutcome, TxElsewhere, TxWatch, TxWatched, Told}
-use Rattle.sc_machine_table.specs.Group.{Group, group_of}
-use Rattle.sc_machine_table.specs.Machine.{applied}
-use Rattle.sc_base.specs.Among.{Among, Each}
-use Rattle.sc_paxos_words.specs.Leaders.{LeaderState}
-use Rattle.sc_paxos_words.specs.Logs.{LogState, next_of, log_cut}
-use Rattle.sc_paxos_words.specs.Votes.{kept_voters}
-use Rattle.sc_paxos_words.specs.declared.flights.Flight.{Flight}
-use Rattle.sc_paxos_words.proofs.ListLemmas.{Each-weaker, Each-append}
-use Rattle.sc_paxos_law.specs.Steps.{Step, Prepared, Promised, Offered, Accepted, state_of}
-use Rattle.sc_paxos_law.specs.Chosen.{Rule, needed, members_of, IsLog}
-use Rattle.sc_paxos_law.specs.Lawful.{CountedPromise}
-use Rattle.sc_paxos_law.proofs.Among.{Among-right}
-use Rattle.sc_paxos_law.proofs.Law.{later_log}
-use Rattle.sc_node_table.specs.Replica.{ReplicaState, first_ballot, next, floor_of, forgotten}
-use Rattle.sc_hist_law.specs.Laws.{IsReplied}
-use Rattle.sc_sound.specs.Players.{Ahead}
-use Rattle.sc_machine_table.specs.Logs.{state_after}
-use Rattle.sc_sound.specs.Logs.{rule_of}
-use Rattle.sc_machine_table.proofs.LogLemmas.{state_push}
+use Rattle.sc_machine_table.specs.Definitions.{Group, group_of, applied, state_after}
+use Rattle.sc_paxos_words.specs.Definitions.{LeaderState, LogState, next_of, log_cut, kept_voters}
+use Rattle.sc_paxos_words.proofs.Lemmas.{Each-weaker, Each-append}
+use Rattle.sc_paxos_law.specs.Definitions.{Step, Prepared, Promised, Offered, Accepted, state_of, Rule, needed, members_of, IsLog, CountedPromise}
+use Rattle.sc_paxos_law.proofs.Lemmas.{Among-right, later_log, later_logs}
+use Rattle.sc_node_table.specs.Definitions.{ReplicaState, first_ballot, next, floor_of, forgotten}
+use Rattle.sc_hist_law.specs.Definitions.{IsReplied}
+use Rattle.sc_sound.specs.Definitions.{Ahead, rule_of}
+use Rattle.sc_machine_table.proofs.Lemmas.{state_push}
 use Rattle.sc_group_law.proofs.Growth.{IsLearnt, By, later_learnt, grown_learnt, state_kept}
 use Rattle.sc_group_law.proofs.Held.{Mirrors, cut_mirrors, max_is}
-use Rattle.sc_paxos_law.proofs.Decided.{later_logs}
 
 -- steps of commands
 abbrev pub Steps : Type 0

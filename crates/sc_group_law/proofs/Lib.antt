@@ -37,3 +37,4 @@ pub mod RowSteps
 pub mod Stepping
 pub mod Example
 pub mod JoinExample
+pub mod Lemmas

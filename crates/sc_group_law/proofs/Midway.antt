@@ -1,17 +1,12 @@
 -- What holds in the middle of a row of a node: a part of the table takes one place to the next, and keeps it.
 use Rattle.std.proofs.Common.{◌≡◌, ℕ, List, [], ◌∷◌, ◌++◌, inl, inr, refl, ◌∙◌, ap, subst, append_assoc}
-use Rattle.sc_base.specs.declared.names.Ballot.{Ballot}
-use Rattle.sc_cmd.specs.declared.commands.Command.{Command}
-use Rattle.sc_cmd.specs.declared.cores.Base.{Base}
-use Rattle.sc_mail.specs.declared.bodies.Mail.{Mail}
-use Rattle.sc_mail.specs.declared.bodies.MailBody.{MailBody}
-use Rattle.sc_base.specs.Among.{Among, Each}
-use Rattle.sc_paxos_law.specs.Steps.{Step, Offered}
-use Rattle.sc_paxos_law.specs.Lawful.{IsLawfulStep, IsLawfulHistory}
-use Rattle.sc_paxos_law.proofs.Among.{Among-either}
-use Rattle.sc_node_table.specs.Replica.{ReplicaState, Place}
-use Rattle.sc_sound.specs.Players.{Ahead}
-use Rattle.sc_group_law.specs.Steps.{proposer_steps, asked_in}
+use Rattle.sc_node_table.specs.Values.{Ballot, Command, Base, Mail, MailBody}
+use Rattle.sc_base.specs.Definitions.{Among, Each}
+use Rattle.sc_paxos_law.specs.Definitions.{Step, Offered, IsLawfulStep, IsLawfulHistory}
+use Rattle.sc_paxos_law.proofs.Lemmas.{Among-either}
+use Rattle.sc_node_table.specs.Definitions.{ReplicaState, Place}
+use Rattle.sc_sound.specs.Definitions.{Ahead}
+use Rattle.sc_group_law.specs.Definitions.{proposer_steps, asked_in}
 use Rattle.sc_group_law.proofs.Growth.{By}
 use Rattle.sc_group_law.proofs.Invariant.{Steps, rule, first, IsReplica, IsOwn, IsTrue, grown_true, OffersMade}
 

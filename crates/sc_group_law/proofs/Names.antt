@@ -2,23 +2,13 @@
 use Rattle.std.proofs.Common.{◌≡◌, ℕ, ◌&&◌, List, [], ◌∷◌, ◌++◌, Option, None, inl, inr, refl, ◌∙◌, ap, subst}
 use Rattle.std.specs.List.{list_any}
 use Rattle.std.proofs.lemmas.Bool.{and_right, cond-false}
-use Rattle.sc_base.specs.declared.names.Draw.{Draw}
-use Rattle.sc_base.specs.Same.{same_draw}
-use Rattle.sc_cmd.specs.declared.commands.Command.{Command}
-use Rattle.sc_cmd.specs.declared.cores.Base.{Base}
-use Rattle.sc_cmd.specs.declared.orders.OrderLine.{OrderLine}
-use Rattle.sc_mail.specs.declared.bodies.AnswerBody.{AnswerBody}
+use Rattle.sc_node_table.specs.Values.{Draw, Command, Base, OrderLine, AnswerBody, Mail, MailBody, Request, Answer, Prepare, Promise, Accept, Accepted as AcceptedMail, Nack, Learn, Ask, Install, TxPrepare, TxVote, TxOutcome, TxElsewhere, TxWatch, TxWatched, Told, Event}
+use Rattle.sc_base.specs.Definitions.{same_draw, Among}
 use Rattle.sc_mail.specs.declared.bodies.AnswerBody.TheVariants as Says
-use Rattle.sc_mail.specs.declared.bodies.Mail.{Mail}
-use Rattle.sc_mail.specs.declared.bodies.MailBody.{MailBody}
-use Rattle.sc_mail.specs.declared.bodies.MailBody.TheVariants.{Request, Answer, Prepare, Promise, Accept, Accepted as AcceptedMail, Nack, Learn, Ask, Install, TxPrepare, TxVote, TxOutcome, TxElsewhere, TxWatch, TxWatched, Told}
-use Rattle.sc_actor.specs.declared.rows.Event.{Event}
-use Rattle.sc_base.specs.Among.{Among}
-use Rattle.sc_paxos_law.specs.Steps.{Accepted}
-use Rattle.sc_node_table.specs.Node.{absent}
-use Rattle.sc_sound.specs.Accepts.{accepts_of, is_accepted}
-use Rattle.sc_sound.specs.Players.{Ahead}
-use Rattle.sc_group_law.specs.Steps.{proposer_steps, asked_in, promises_of}
+use Rattle.sc_paxos_law.specs.Definitions.{Accepted}
+use Rattle.sc_node_table.specs.Definitions.{absent}
+use Rattle.sc_sound.specs.Definitions.{accepts_of, is_accepted, Ahead}
+use Rattle.sc_group_law.specs.Definitions.{proposer_steps, asked_in, promises_of}
 use Rattle.sc_group_law.proofs.Invariant.{Steps, IsOwn, IsTrue}
 use Rattle.sc_group_law.proofs.Voting.{IsPlain, ArePlain, no_promises, any_accepted}
 use Rattle.sc_group_law.proofs.Frames.{node_row, steps_of}

@@ -1,31 +1,14 @@
 -- What holds of a node with its replicas, and what comes of mail and orders.
 use Rattle.std.proofs.Common.{◌≡◌, ℕ, ◌||◌, not, nat_lt, true, false, cond, eqb, List, [], ◌∷◌, ◌++◌, length, Option, Some, None, is_some, inl, inr, refl, sym, ◌∙◌, ap, subst, append-nil}
 use Rattle.std.proofs.lemmas.Bool.{cases_Bool, cond_both}
-use Rattle.sc_base.specs.declared.names.Draw.{Draw}
-use Rattle.sc_base.specs.Same.{same_draw}
-use Rattle.sc_cmd.specs.declared.commands.Command.{Command}
-use Rattle.sc_cmd.specs.declared.cores.Base.{Base}
-use Rattle.sc_cmd.specs.declared.orders.OrderLine.{OrderLine}
-use Rattle.sc_mail.specs.declared.bodies.Mail.{Mail}
-use Rattle.sc_mail.specs.declared.bodies.MailBody.{MailBody}
-use Rattle.sc_mail.specs.declared.bodies.MailBody.TheVariants.{Request, Answer, Prepare, Promise, Accept, Accepted as AcceptedMail, Nack, Learn, Ask, Install, TxPrepare, TxVote, TxOutcome, TxElsewhere, TxWatch, TxWatched, Told}
-use Rattle.sc_cmd.specs.declared.orders.ToldResult.{ToldResult}
-use Rattle.sc_cmd.specs.declared.orders.ToldResult.TheVariants.{Refused}
+use Rattle.sc_node_table.specs.Values.{Draw, Command, Base, OrderLine, Mail, MailBody, Request, Answer, Prepare, Promise, Accept, Accepted as AcceptedMail, Nack, Learn, Ask, Install, TxPrepare, TxVote, TxOutcome, TxElsewhere, TxWatch, TxWatched, Told, ToldResult, Refused, Event}
+use Rattle.sc_base.specs.Definitions.{same_draw, Among, Each, Drawer, next_name}
 use Rattle.sc_cmd.specs.declared.orders.OrderRefusal.TheVariants.{NotLeader}
-use Rattle.sc_actor.specs.declared.rows.Event.{Event}
-use Rattle.sc_base.specs.Among.{Among, Each}
-use Rattle.sc_paxos_words.proofs.ListLemmas.{Each-among, Each-from, Each-weaker, find_found}
-use Rattle.sc_paxos_law.specs.Lawful.{IsLawfulHistory}
-use Rattle.sc_node_table.specs.Node.{NodeState, replica_of, with_replica, with_new, group_of_mail, absent, with_made, unknown, may_come, with_born, with_children, taken_by, routed, on_mail, group_of_order, ordered_of, on_order}
-use Rattle.sc_node_table.specs.Ordering.{ordered_command, ordered_row, names_after, untaken}
-use Rattle.sc_base.specs.Drawing.{Drawer, next_name}
-use Rattle.sc_node_table.specs.Slots.{slots_ahead}
-use Rattle.sc_node_table.specs.Mails.{told_desk}
-use Rattle.sc_node_table.specs.Replica.{ReplicaState, Place, name_of, born_replica, last_slot}
-use Rattle.sc_node_table.specs.Voting.{prepare_row}
-use Rattle.sc_node_table.specs.Rows.{made_by, mailed}
-use Rattle.sc_sound.specs.Players.{Ahead}
-use Rattle.sc_group_law.specs.Steps.{asked_in}
+use Rattle.sc_paxos_words.proofs.Lemmas.{Each-among, Each-from, Each-weaker, find_found}
+use Rattle.sc_paxos_law.specs.Definitions.{IsLawfulHistory}
+use Rattle.sc_node_table.specs.Definitions.{NodeState, replica_of, with_replica, with_new, group_of_mail, absent, with_made, unknown, may_come, with_born, with_children, taken_by, routed, on_mail, group_of_order, ordered_of, on_order, ordered_command, ordered_row, names_after, untaken, slots_ahead, told_desk, ReplicaState, Place, name_of, born_replica, last_slot, prepare_row, made_by, mailed}
+use Rattle.sc_sound.specs.Definitions.{Ahead}
+use Rattle.sc_group_law.specs.Definitions.{asked_in}
 use Rattle.sc_group_law.proofs.Growth.{By}
 use Rattle.sc_group_law.proofs.Invariant.{Steps, rule, first, IsReplica, IsTrue, OffersMade}
 use Rattle.sc_group_law.proofs.Speech.{AnyoneHears, Speaks}
@@ -41,8 +24,8 @@ use Rattle.sc_group_law.proofs.Frames.{steps_of, AreFar, own_far, far_true, far_
 use Rattle.sc_group_law.proofs.Offspring.{IsChildOf, learnt_are, accepted_are}
 use Rattle.sc_group_law.proofs.Newborn.{born_replica_is}
 use Rattle.sc_group_law.proofs.Holding.{each_with, each_new, Holds, held, none_held, with_held, with_far, new_held, new_far}
-use Rattle.sc_base.proofs.NameLemmas.{same_name, draw_is}
-use Rattle.sc_log_entries.proofs.Names.{names_differ}
+use Rattle.sc_base.proofs.Lemmas.{same_name, draw_is}
+use Rattle.sc_log_entries.proofs.Lemmas.{names_differ}
 
 -- ---- one group's replica
 

@@ -3,49 +3,24 @@ use Rattle.std.proofs.Common.{◌≡◌, ℕ, suc, ◌+◌, ◌<◌, ◌≤◌, 
 use Rattle.std.specs.Option.{option_map}
 use Rattle.std.specs.List.{list_any, find}
 use Rattle.std.proofs.lemmas.Bool.{eq-eqb, and_parts, or_cases, cond-true, cond_both}
-use Rattle.sc_base.specs.declared.names.Ballot.{Ballot}
-use Rattle.sc_base.specs.declared.ops.Op.{Op}
-use Rattle.sc_cmd.specs.declared.links.Route.{Route}
-use Rattle.sc_cmd.specs.declared.commands.Command.{Command}
-use Rattle.sc_cmd.specs.declared.commands.Command.TheVariants.{Noop, Call}
-use Rattle.sc_cmd.specs.declared.cores.Base.{Base}
-use Rattle.sc_cmd.specs.declared.cores.Core.{Core}
-use Rattle.sc_ideal.specs.IdealStore.{key_of, holds_key}
-use Rattle.sc_mail.specs.declared.bodies.AnswerBody.{AnswerBody}
+use Rattle.sc_node_table.specs.Values.{Ballot, Op, Route, Command, Noop, Call, Base, Core, AnswerBody, Mail, MailBody, Accept, Must, Gap, Flight, Report}
+use Rattle.sc_ideal.specs.Definitions.{key_of, holds_key}
 use Rattle.sc_mail.specs.declared.bodies.AnswerBody.TheVariants as Says
-use Rattle.sc_mail.specs.declared.bodies.Mail.{Mail}
-use Rattle.sc_mail.specs.declared.bodies.MailBody.{MailBody}
-use Rattle.sc_mail.specs.declared.bodies.MailBody.TheVariants.{Accept}
-use Rattle.sc_base.specs.Majority.{is_majority}
-use Rattle.sc_paxos_words.specs.declared.answers.Must.{Must}
-use Rattle.sc_paxos_words.specs.declared.answers.Must.TheVariants.{Value, Gap, Free as Open}
-use Rattle.sc_paxos_words.specs.declared.flights.Flight.{Flight}
-use Rattle.sc_paxos_words.specs.declared.reports.Report.{Report}
-use Rattle.sc_base.specs.Among.{Among, Each}
-use Rattle.sc_paxos_words.specs.Ballots.{below}
-use Rattle.sc_paxos_words.specs.Choice.{choice, names_above}
-use Rattle.sc_paxos_words.specs.Leaders.{must, must_without, Obeys, flight_at, with_flight_at}
-use Rattle.sc_paxos_words.proofs.ChoiceLemmas.{choice_among}
-use Rattle.sc_paxos_words.proofs.ListLemmas.{Each-among, Each-weaker, Each-append}
-use Rattle.sc_paxos_law.specs.Steps.{Step, Offered}
-use Rattle.sc_paxos_law.specs.Chosen.{needed, members_of}
-use Rattle.sc_paxos_law.specs.Lawful.{CountedPromise, MayOffer}
-use Rattle.sc_paxos_law.proofs.Among.{Among-left, Among-right, from_flat_map}
-use Rattle.sc_paxos_law.proofs.History.{was_offered, report_accepted}
-use Rattle.sc_paxos_words.specs.Logs.{next_of}
-use Rattle.sc_paxos_law.proofs.Leading.{elected_by}
-use Rattle.sc_node_table.specs.Pump.{Found, is_act, waits, refused_by, turned_down, next_call, from_calls, from_acts, from_queues, found_by, found_for, offered, pumped_from, pumped}
-use Rattle.sc_node_table.specs.Mails.{sent_all}
-use Rattle.sc_node_table.specs.Slots.{at_slot}
-use Rattle.sc_node_table.specs.Replica.{ReplicaState, Place, name_of, next, flying, either, taken_at, may_offer, settled, under_way, is_idle, last_slot}
-use Rattle.sc_sound.specs.Players.{Ahead}
+use Rattle.sc_base.specs.Definitions.{is_majority, Among, Each}
+use Rattle.sc_paxos_words.specs.declared.answers.Must.TheVariants.{Value, Free as Open}
+use Rattle.sc_paxos_words.specs.Definitions.{below, choice, names_above, must, must_without, Obeys, flight_at, with_flight_at, next_of}
+use Rattle.sc_paxos_words.proofs.Lemmas.{choice_among, Each-among, Each-weaker, Each-append}
+use Rattle.sc_paxos_law.specs.Definitions.{Step, Offered, needed, members_of, CountedPromise, MayOffer}
+use Rattle.sc_paxos_law.proofs.Lemmas.{Among-left, Among-right, from_flat_map, was_offered, report_accepted, elected_by}
+use Rattle.sc_node_table.specs.Definitions.{Found, is_act, refused_by, turned_down, next_call, from_calls, from_acts, from_queues, found_by, found_for, offered, pumped_from, pumped, sent_all, at_slot, ReplicaState, Place, name_of, next, flying, either, taken_at, may_offer, settled, under_way, is_idle, last_slot}
+use Rattle.sc_sound.specs.Definitions.{Ahead}
 use Rattle.sc_group_law.proofs.Growth.{later_learnt}
 use Rattle.sc_group_law.proofs.Invariant.{Steps, rule, first, later_has, IsTaken, AreSets, IsReplica, next_after, IsTrueAnswer, later_flying}
 use Rattle.sc_group_law.proofs.Speech.{Speaks}
 use Rattle.sc_group_law.proofs.Midway.{Fine, turn, steps}
 use Rattle.sc_group_law.proofs.Lists.{Each-take}
 use Rattle.sc_group_law.proofs.Sending.{asked_accept, name_is, offered_again, answered_one}
-use Rattle.sc_law_lemmas.proofs.Calls.{next_found}
+use Rattle.sc_law_lemmas.proofs.Lemmas.{next_found}
 
 -- ---- what is taken
 

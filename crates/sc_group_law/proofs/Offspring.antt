@@ -1,31 +1,16 @@
 -- The children that a mail makes at a node: each is the child of a front of the log, by a command that the row executes.
 use Rattle.std.proofs.Common.{◌≡◌, ℕ, ◌+◌, ◌&&◌, nat_lt, Bool, true, false, eqb, List, [], ◌∷◌, ◌++◌, length, Option, Some, None, refl, sym, subst}
 use Rattle.std.proofs.lemmas.Bool.{eqb-true, and_parts, cond_both}
-use Rattle.sc_base.specs.declared.names.Ballot.{Ballot}
-use Rattle.sc_base.specs.Among.{Among, Each}
-use Rattle.sc_base.specs.Same.{same_ballot}
-use Rattle.sc_base.proofs.NameLemmas.{ballot_is}
-use Rattle.sc_cmd.specs.declared.commands.Command.{Command}
-use Rattle.sc_cmd.specs.declared.cores.Base.{Base}
-use Rattle.sc_mail.specs.declared.bodies.Mail.{Mail}
-use Rattle.sc_mail.specs.declared.bodies.MailBody.{MailBody}
-use Rattle.sc_base.specs.Roster.{is_member}
-use Rattle.sc_machine_table.specs.Children.{child_by}
-use Rattle.sc_machine_table.specs.Group.{Group}
-use Rattle.sc_machine_table.specs.Logs.{state_after}
-use Rattle.sc_paxos_words.specs.Leaders.{LeaderState, without_flight_at}
-use Rattle.sc_paxos_words.specs.declared.answers.Counted.{Counted}
-use Rattle.sc_paxos_words.specs.Votes.{counted}
-use Rattle.sc_paxos_words.proofs.ListLemmas.{Each-among, Each-append}
-use Rattle.sc_paxos_law.specs.Steps.{Accepted}
-use Rattle.sc_paxos_law.specs.Chosen.{IsLog}
-use Rattle.sc_paxos_law.proofs.Law.{earlier}
-use Rattle.sc_node_table.specs.Execute.{child_at, next_child, executed_one, has_room, next_ready, ending, executed_ready, executed}
-use Rattle.sc_node_table.specs.Replica.{ReplicaState, Place, Executed, childless, next, set_at, last_slot}
-use Rattle.sc_node_table.specs.Rows.{learn_row}
-use Rattle.sc_node_table.specs.Slots.{with_slot}
-use Rattle.sc_node_table.specs.Voting.{leads, readied, vote_tallied, voted, accepted_row}
-use Rattle.sc_sound.specs.Players.{Ahead}
+use Rattle.sc_node_table.specs.Values.{Ballot, Command, Base, Mail, MailBody, Counted}
+use Rattle.sc_base.specs.Definitions.{Among, Each, same_ballot, is_member}
+use Rattle.sc_base.proofs.Lemmas.{ballot_is}
+use Rattle.sc_machine_table.specs.Definitions.{child_by, Group, state_after}
+use Rattle.sc_paxos_words.specs.Definitions.{LeaderState, without_flight_at, counted}
+use Rattle.sc_paxos_words.proofs.Lemmas.{Each-among, Each-append}
+use Rattle.sc_paxos_law.specs.Definitions.{Accepted, IsLog}
+use Rattle.sc_paxos_law.proofs.Lemmas.{earlier}
+use Rattle.sc_node_table.specs.Definitions.{child_at, next_child, executed_one, has_room, next_ready, ending, executed_ready, executed, ReplicaState, Place, Executed, childless, next, set_at, last_slot, learn_row, with_slot, leads, readied, vote_tallied, voted, accepted_row}
+use Rattle.sc_sound.specs.Definitions.{Ahead}
 use Rattle.sc_group_law.proofs.Growth.{IsLearnt, by_own_log}
 use Rattle.sc_group_law.proofs.Invariant.{Steps, rule, first, birth, next_after}
 use Rattle.sc_group_law.proofs.Speech.{Speaks}

@@ -4,21 +4,14 @@ use Rattle.std.specs.Prelude.{slice_get}
 use Rattle.std.specs.List.{flat_map}
 use Rattle.std.proofs.lemmas.Option.{cond_some}
 use Rattle.std.proofs.lemmas.Bool.{eqb-true, cond_both}
-use Rattle.sc_base.specs.Among.{Each}
-use Rattle.sc_base.proofs.CommonLemmas.{and_then-some, map-some}
-use Rattle.sc_paxos_words.proofs.ListLemmas.{Each-append, find_found}
-use Rattle.sc_actor.specs.declared.actors.Seat.{Seat}
-use Rattle.sc_actor.specs.declared.rows.Row.{Row}
-use Rattle.sc_actor.specs.declared.rows.Event.{Event}
-use Rattle.sc_actor.specs.declared.rows.Event.TheVariants.{Deliver, Drop, Again, Go, Tick, Crash, Told}
-use Rattle.sc_actor.specs.declared.schedules.Line.{Line}
-use Rattle.sc_actor.specs.declared.schedules.Line.TheVariants.{Go as GoLine, Deliver as DeliverLine, Drop as DropLine, Again as AgainLine, Tick as TickLine, Crash as CrashLine, Told as ToldLine, Settle, Free, Storm}
-use Rattle.sc_actor.specs.Mail.{mails, numbered, may_get, has_crashed}
-use Rattle.sc_actor.specs.System.{System, acts, row_of, network, waiting, kth, numbers_of, has_gone}
-use Rattle.sc_actor.specs.Steps.{IsStep}
-use Rattle.sc_actor.specs.Walk.{Task, Once, Settles, Frees, Storms, WalkPlace, Allows, MayAdd, IsWalk, IsLawful, onward, is_over, after_row, start, rest_of_all, tasks_of, storm_steps, delivery, repeat_of, picked, storm_row}
-use Rattle.sc_actor.proofs.Induction.{MayAdd-step}
-use Rattle.sc_actor.proofs.WalkLemmas.{onward-rows}
+use Rattle.sc_base.specs.Definitions.{Each}
+use Rattle.sc_base.proofs.Lemmas.{and_then-some, map-some}
+use Rattle.sc_paxos_words.proofs.Lemmas.{Each-append, find_found}
+use Rattle.sc_node_table.specs.Values.{Seat, Row, Event, Deliver, Drop, Again, Go, Tick, Crash, Line, Settle, Storm}
+use Rattle.sc_actor.specs.declared.rows.Event.TheVariants.{Told}
+use Rattle.sc_actor.specs.declared.schedules.Line.TheVariants.{Go as GoLine, Deliver as DeliverLine, Drop as DropLine, Again as AgainLine, Tick as TickLine, Crash as CrashLine, Told as ToldLine, Free}
+use Rattle.sc_actor.specs.Definitions.{mails, numbered, may_get, has_crashed, System, acts, row_of, network, waiting, kth, numbers_of, has_gone, IsStep, Task, Once, Settles, Frees, Storms, WalkPlace, Allows, MayAdd, IsWalk, IsLawful, onward, is_over, after_row, start, rest_of_all, tasks_of, storm_steps, delivery, repeat_of, picked, storm_row}
+use Rattle.sc_actor.proofs.Lemmas.{MayAdd-step, onward-rows}
 
 given : {Y : Type 0} (b : Bool) (o : Option Y) (y : Y) → cond b None o ≡ Some y → o ≡ Some y
 given true o y e = cc

@@ -4,12 +4,10 @@ use Rattle.std.specs.Prelude.{slice_get}
 use Rattle.std.specs.Option.{option_map}
 use Rattle.std.proofs.lemmas.Bool.{cases_Bool, eqb-true, cond-true, cond-false, cond_both}
 use Rattle.std.proofs.lemmas.List.{length_push}
-use Rattle.sc_cmd.specs.declared.commands.Command.{Command}
-use Rattle.sc_paxos_words.specs.declared.flights.Flight.{Flight}
-use Rattle.sc_base.specs.Among.{Among, Each}
-use Rattle.sc_paxos_words.specs.Leaders.{without_flight}
-use Rattle.sc_node_table.specs.Slots.{rest_of, at_slot, without_slot}
-use Rattle.sc_node_table.specs.Queues.{is_call_of, without_call}
+use Rattle.sc_node_table.specs.Values.{Command, Flight}
+use Rattle.sc_base.specs.Definitions.{Among, Each}
+use Rattle.sc_paxos_words.specs.Definitions.{without_flight}
+use Rattle.sc_node_table.specs.Definitions.{rest_of, at_slot, without_slot, is_call_of, without_call}
 
 -- what holds of each flight holds with one less
 pub Each-without_flight : (P : Flight Command → Type 0) (slot : ℕ) (fs : List (Flight Command)) → Each P fs → Each P (without_flight slot fs)

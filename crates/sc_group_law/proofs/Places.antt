@@ -1,11 +1,8 @@
 -- Rows in which something first happens, when one more row comes.
 use Rattle.std.proofs.Common.{◌≡◌, ℕ, ◌+◌, Bool, cond, List, [], ◌∷◌, ◌++◌, length, take, drop, Option, Some, None, inl, inr, sym, ◌∙◌, ap, take-append-drop, arith}
 use Rattle.std.proofs.lemmas.Bool.{cases_Bool, cond-true, cond-false}
-use Rattle.sc_cmd.specs.declared.commands.Command.{Command}
-use Rattle.sc_cmd.specs.declared.orders.OrderLine.{OrderLine}
-use Rattle.sc_mail.specs.declared.bodies.Mail.{Mail}
-use Rattle.sc_actor.specs.declared.rows.Row.{Row}
-use Rattle.sc_sound.specs.Requests.{issues, issued_from, issue_row}
+use Rattle.sc_node_table.specs.Values.{Command, OrderLine, Mail, Row}
+use Rattle.sc_sound.specs.Definitions.{issues, issued_from, issue_row}
 
 -- the rows of a scenario
 abbrev pub Journal : Type 0

@@ -3,27 +3,13 @@ use Rattle.std.proofs.Common.{◌≡◌, ℕ, zero, suc, ◌+◌, ◌&&◌, max,
 use Rattle.std.specs.List.{flat_map, list_any}
 use Rattle.std.specs.Option.{option_map}
 use Rattle.std.proofs.lemmas.Bool.{cond_both}
-use Rattle.sc_base.specs.declared.names.Ballot.{Ballot}
-use Rattle.sc_base.specs.declared.names.Draw.{Draw}
-use Rattle.sc_base.specs.Same.{same_draw, same_ballot}
-use Rattle.sc_cmd.specs.declared.commands.Command.{Command}
-use Rattle.sc_cmd.specs.declared.orders.OrderLine.{OrderLine}
-use Rattle.sc_mail.specs.declared.bodies.Mail.{Mail}
-use Rattle.sc_mail.specs.declared.bodies.MailBody.{MailBody}
-use Rattle.sc_mail.specs.declared.bodies.MailBody.TheVariants.{Prepare, Promise, Accept}
-use Rattle.sc_base.specs.Majority.{is_majority}
-use Rattle.sc_actor.specs.declared.rows.Row.{Row}
-use Rattle.sc_actor.specs.declared.rows.Event.{Event}
-use Rattle.sc_actor.specs.declared.rows.Event.TheVariants.{Deliver}
-use Rattle.sc_actor.specs.Mail.{mails, numbered}
-use Rattle.sc_base.specs.Among.{Among}
-use Rattle.sc_paxos_words.specs.declared.reports.Report.{Report}
-use Rattle.sc_paxos_words.proofs.ListLemmas.{Each-weaker}
-use Rattle.sc_paxos_law.specs.Steps.{Step, Prepared, Promised, Offered, Accepted, Cut}
-use Rattle.sc_paxos_law.specs.Chosen.{Rule, members_of, IsChosenAfter, IsLog}
-use Rattle.sc_paxos_law.specs.Decided.{voters_of, lesser_of, found_in, chosen_at, top_slot, with_next_entries, log_of}
-use Rattle.sc_sound.specs.Accepts.{accepts_of, accepts_got, accepts_at, accepts_from, accepts, is_accepted}
-use Rattle.sc_group_law.specs.Steps.{proposer_steps, asked_in, promised_by, promises_of, promises_got, promises_at, steps_at, steps_from, steps}
+use Rattle.sc_node_table.specs.Values.{Ballot, Draw, Command, OrderLine, Mail, MailBody, Prepare, Promise, Accept, Row, Event, Deliver, Report}
+use Rattle.sc_base.specs.Definitions.{same_draw, same_ballot, is_majority, Among}
+use Rattle.sc_actor.specs.Definitions.{mails, numbered}
+use Rattle.sc_paxos_words.proofs.Lemmas.{Each-weaker}
+use Rattle.sc_paxos_law.specs.Definitions.{Step, Prepared, Promised, Offered, Accepted, Cut, Rule, members_of, IsChosenAfter, IsLog, voters_of, lesser_of, found_in, chosen_at, top_slot, with_next_entries, log_of}
+use Rattle.sc_sound.specs.Definitions.{accepts_of, accepts_got, accepts_at, accepts_from, accepts, is_accepted}
+use Rattle.sc_group_law.specs.Definitions.{proposer_steps, asked_in, promised_by, promises_of, promises_got, promises_at, steps_at, steps_from, steps}
 
 -- what is accepted among steps
 abbrev pub only : {V : Type 0} → List (Step V) → List (Step V)

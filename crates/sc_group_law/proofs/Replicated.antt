@@ -1,18 +1,12 @@
 -- What the steps of one group say of its decided log: one value per slot, a log that only grows, and replicas that have executed a front of it.
 use Rattle.std.proofs.Common.{◌≡◌, ℕ, ◌+◌, List, ◌++◌, length, drop, sym, ◌∙◌, ap, subst}
 use Rattle.std.proofs.lemmas.List.{take-append-drop}
-use Rattle.sc_cmd.specs.declared.commands.Command.{Command}
-use Rattle.sc_cmd.specs.declared.cores.Base.{Base}
-use Rattle.sc_node_table.specs.Replica.{ReplicaState}
-use Rattle.sc_paxos_law.specs.Chosen.{IsChosenAfter, IsLog}
-use Rattle.sc_paxos_law.specs.Lawful.{IsLawfulHistory}
-use Rattle.sc_paxos_law.proofs.Law.{one_value_per_slot}
-use Rattle.sc_paxos_law.proofs.Decided.{log_of-longest}
-use Rattle.sc_sound.specs.Players.{Ahead}
-use Rattle.sc_sound.specs.Soundness.{Continues, HasRun}
-use Rattle.sc_sound.specs.Accepts.{accepts}
-use Rattle.sc_machine_table.specs.Logs.{state_after}
-use Rattle.sc_sound.specs.Logs.{IsChosenIn, decided_log}
+use Rattle.sc_node_table.specs.Values.{Command, Base}
+use Rattle.sc_node_table.specs.Definitions.{ReplicaState}
+use Rattle.sc_paxos_law.specs.Definitions.{IsChosenAfter, IsLog, IsLawfulHistory}
+use Rattle.sc_paxos_law.proofs.Lemmas.{one_value_per_slot, log_of-longest}
+use Rattle.sc_sound.specs.Definitions.{Ahead, Continues, HasRun, accepts, IsChosenIn, decided_log}
+use Rattle.sc_machine_table.specs.Definitions.{state_after}
 use Rattle.sc_group_law.proofs.Invariant.{Steps, rule, first, birth, IsReplica, next_after}
 use Rattle.sc_group_law.proofs.Projected.{only, only_steps, log_from_only, after_from_only, log_to_only}
 use Rattle.sc_group_law.proofs.Places.{Journal}

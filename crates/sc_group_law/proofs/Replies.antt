@@ -1,12 +1,9 @@
 -- A reply of a group's log is that of an entry that its history has.
 use Rattle.std.proofs.Common.{◌≡◌, ◌≤◌, List, length, take, sym, subst}
-use Rattle.sc_cmd.specs.declared.commands.Command.{Command}
-use Rattle.sc_cmd.specs.declared.cores.Base.{Base}
-use Rattle.sc_paxos_law.specs.Chosen.{IsLog}
-use Rattle.sc_paxos_law.specs.Lawful.{IsLawfulHistory}
-use Rattle.sc_paxos_law.proofs.Decided.{front_of_log}
-use Rattle.sc_sound.specs.Players.{Ahead}
-use Rattle.sc_sound.specs.Logs.{decided_log}
+use Rattle.sc_node_table.specs.Values.{Command, Base}
+use Rattle.sc_paxos_law.specs.Definitions.{IsLog, IsLawfulHistory}
+use Rattle.sc_paxos_law.proofs.Lemmas.{front_of_log}
+use Rattle.sc_sound.specs.Definitions.{Ahead, decided_log}
 use Rattle.sc_group_law.proofs.Invariant.{rule, first}
 use Rattle.sc_group_law.proofs.Places.{Journal}
 use Rattle.sc_group_law.proofs.Families.{h_of, decided_is}

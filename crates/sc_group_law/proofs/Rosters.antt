@@ -1,20 +1,12 @@
 -- A group that no split divides has one to nine members, ascending, whatever it executes.
 use Rattle.std.proofs.Common.{◌≡◌, ℕ, ◌≤◌, ◌&&◌, not, true, false, cond, eqb, length, Option, Some, None, inl, inr, refl, sym, ◌∙◌, subst, arith}
 use Rattle.std.proofs.lemmas.Bool.{cases_Bool, eqb-false, and_from, cond_both}
-use Rattle.sc_cmd.specs.declared.commands.Command.{Command}
-use Rattle.sc_cmd.specs.declared.commands.Command.TheVariants.{Noop, Call, Join, Leave, Split, Begin, Prepared, RecordVote, GiveUp, Finish, Watched, RecordWatch}
-use Rattle.sc_cmd.specs.declared.cores.Core.{Core}
-use Rattle.sc_base.specs.declared.names.Draw.{Draw}
-use Rattle.sc_cmd.specs.declared.links.Route.{Route}
-use Rattle.sc_cmd.specs.declared.orders.OrderRefusal.{OrderRefusal}
-use Rattle.sc_cmd.specs.declared.orders.OrderRefusal.TheVariants.{TooManyMembers, NotMember, LastMember, IsMember}
-use Rattle.sc_machine_table.specs.Group.{Group}
-use Rattle.sc_machine_table.specs.Machine.{applied}
-use Rattle.sc_machine_table.specs.Orders.{locked_in, join_refused, leave_refused, refused_in, refusal_of, ordered, with_node, without_node}
-use Rattle.sc_base.specs.Roster.{IsRoster, is_member}
-use Rattle.sc_base.proofs.Rising.{roster_with, roster_without}
-use Rattle.sc_hist_law.specs.Laws.{LeavesWhole}
-use Rattle.sc_hist_law.proofs.Logs.{called_members}
+use Rattle.sc_node_table.specs.Values.{Command, Noop, Call, Join, Leave, Split, Begin, Prepared, RecordVote, GiveUp, Finish, Watched, RecordWatch, Core, Draw, Route, OrderRefusal, TooManyMembers, NotMember, LastMember, IsMember}
+use Rattle.sc_machine_table.specs.Definitions.{Group, applied, locked_in, join_refused, leave_refused, refused_in, refusal_of, ordered, with_node, without_node}
+use Rattle.sc_base.specs.Definitions.{IsRoster, is_member}
+use Rattle.sc_base.proofs.Lemmas.{roster_with, roster_without}
+use Rattle.sc_hist_law.specs.Definitions.{LeavesWhole}
+use Rattle.sc_hist_law.proofs.Lemmas.{called_members}
 
 -- an order makes the group another one only where it is not refused
 pub ordered_if : (P : Group → Type 0) (gone : Option Route) (why : Option OrderRefusal) (after group : Group) → (why ≡ None → P after) → P group → P (ordered gone why after group).0

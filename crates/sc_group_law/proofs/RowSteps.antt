@@ -1,16 +1,12 @@
 -- The steps that a row is, by its event.
 use Rattle.std.proofs.Common.{◌≡◌, ℕ, zero, suc, ◌+◌, ◌<◌, ◌≤◌, List, ◌++◌, Option, Some, None, inl, inr, ap, arith}
-use Rattle.sc_base.specs.declared.names.Draw.{Draw}
-use Rattle.sc_cmd.specs.declared.orders.OrderLine.{OrderLine}
-use Rattle.sc_mail.specs.declared.bodies.Mail.{Mail}
-use Rattle.sc_actor.specs.declared.rows.Event.{Event}
-use Rattle.sc_actor.specs.declared.rows.Event.TheVariants.{Deliver}
-use Rattle.sc_actor.specs.Mail.{numbered}
-use Rattle.sc_node_table.specs.Slots.{numbers_from}
-use Rattle.sc_base.specs.Among.{Among}
-use Rattle.sc_paxos_law.proofs.Among.{place_among}
-use Rattle.sc_sound.specs.Accepts.{accepts_got}
-use Rattle.sc_group_law.specs.Steps.{asked_in, promises_got, steps_at}
+use Rattle.sc_node_table.specs.Values.{Draw, OrderLine, Mail, Event, Deliver}
+use Rattle.sc_actor.specs.Definitions.{numbered}
+use Rattle.sc_node_table.specs.Definitions.{numbers_from}
+use Rattle.sc_base.specs.Definitions.{Among}
+use Rattle.sc_paxos_law.proofs.Lemmas.{place_among}
+use Rattle.sc_sound.specs.Definitions.{accepts_got}
+use Rattle.sc_group_law.specs.Definitions.{asked_in, promises_got, steps_at}
 use Rattle.sc_group_law.proofs.Invariant.{Steps}
 use Rattle.sc_group_law.proofs.Frames.{node_row, steps_of}
 use Rattle.sc_group_law.proofs.Names.{quiet_steps, no_asked}

@@ -3,40 +3,16 @@ use Rattle.std.proofs.Common.{◌≡◌, ℕ, zero, suc, ◌+◌, ◌-◌, ◌<�
 use Rattle.std.specs.Prelude.{slice_get}
 use Rattle.std.proofs.lemmas.Bool.{eqb-true, ltb-true, and_parts, cond_both, not-false}
 use Rattle.std.proofs.lemmas.Option.{slice_get_within}
-use Rattle.sc_base.specs.Drawing.{Drawer, next_name}
-use Rattle.sc_base.specs.Limits.{client_actor}
-use Rattle.sc_base.specs.declared.names.Ballot.{Ballot}
-use Rattle.sc_base.specs.declared.ops.Op.{Op}
-use Rattle.sc_ideal.specs.IdealStore.{key_of, holds_key}
-use Rattle.sc_cmd.specs.declared.links.Route.{Route}
-use Rattle.sc_cmd.specs.declared.commands.Command.{Command}
-use Rattle.sc_cmd.specs.declared.commands.Command.TheVariants.{Call}
-use Rattle.sc_cmd.specs.declared.cores.Base.{Base}
-use Rattle.sc_cmd.specs.declared.orders.OrderLine.{OrderLine}
-use Rattle.sc_cmd.specs.declared.orders.OrderRefusal.{OrderRefusal}
-use Rattle.sc_mail.specs.declared.bodies.AnswerBody.{AnswerBody}
+use Rattle.sc_base.specs.Definitions.{Drawer, next_name, client_actor, is_member, Among, Each}
+use Rattle.sc_node_table.specs.Values.{Ballot, Op, Route, Command, Call, Base, OrderLine, OrderRefusal, AnswerBody, Mail, MailBody, Answer, Accept, Learn, Ask, Flight}
+use Rattle.sc_ideal.specs.Definitions.{key_of, holds_key}
 use Rattle.sc_mail.specs.declared.bodies.AnswerBody.TheVariants as Says
-use Rattle.sc_mail.specs.declared.bodies.Mail.{Mail}
-use Rattle.sc_mail.specs.declared.bodies.MailBody.{MailBody}
-use Rattle.sc_mail.specs.declared.bodies.MailBody.TheVariants.{Answer, Accept, Learn, Ask}
-use Rattle.sc_base.specs.Roster.{is_member}
-use Rattle.sc_paxos_words.specs.declared.flights.Flight.{Flight}
-use Rattle.sc_base.specs.Among.{Among, Each}
-use Rattle.sc_paxos_words.specs.Logs.{entry_at}
-use Rattle.sc_paxos_words.specs.Leaders.{flight_at}
-use Rattle.sc_paxos_words.proofs.ListLemmas.{Each-among, Each-append, find_found}
-use Rattle.sc_paxos_law.specs.Steps.{Offered}
-use Rattle.sc_paxos_law.proofs.Law.{chosen_by, earlier}
-use Rattle.sc_node_table.specs.Replica.{ReplicaState, Place, Executed, name_of, next, members, settled, may_offer, first_set, flying, is_idle, last_slot}
-use Rattle.sc_node_table.specs.Mails.{sent, sent_all}
-use Rattle.sc_node_table.specs.Queues.{call_of, without_call}
-use Rattle.sc_node_table.specs.Ordering.{ordered_command, untaken}
-use Rattle.sc_node_table.specs.Policy.{wished_line, with_command, with_line, wishing}
-use Rattle.sc_node_table.specs.Pump.{serves_calls}
-use Rattle.sc_node_table.specs.Reminders.{waited_in, reminded}
-use Rattle.sc_node_table.specs.Voting.{nack_row}
-use Rattle.sc_node_table.specs.Rows.{refused_at, queued, requested, request_row, learn_row, taught, most_taught, ask_answered, ask_row, uncounted, asked_again, told_last, tick_row}
-use Rattle.sc_sound.specs.Players.{Ahead}
+use Rattle.sc_paxos_words.specs.Definitions.{entry_at, flight_at}
+use Rattle.sc_paxos_words.proofs.Lemmas.{Each-among, Each-append, find_found}
+use Rattle.sc_paxos_law.specs.Definitions.{Offered}
+use Rattle.sc_paxos_law.proofs.Lemmas.{chosen_by, earlier}
+use Rattle.sc_node_table.specs.Definitions.{ReplicaState, Place, Executed, name_of, next, members, settled, may_offer, first_set, flying, is_idle, last_slot, sent, sent_all, call_of, without_call, ordered_command, untaken, wished_line, with_command, with_line, wishing, serves_calls, waited_in, reminded, nack_row, refused_at, queued, requested, request_row, learn_row, taught, most_taught, ask_answered, ask_row, uncounted, asked_again, told_last, tick_row}
+use Rattle.sc_sound.specs.Definitions.{Ahead}
 use Rattle.sc_group_law.proofs.Growth.{IsLearnt}
 use Rattle.sc_group_law.proofs.Invariant.{Steps, rule, IsReplica, IsTrueAnswer}
 use Rattle.sc_group_law.proofs.Speech.{Speaks}

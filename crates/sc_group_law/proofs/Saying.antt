@@ -1,22 +1,14 @@
 -- What is said of transactions in the middle of a row, and which logs there were before it.
 use Rattle.std.proofs.Common.{ℕ, ◌+◌, List, [], ◌∷◌, ◌++◌, inl, inr, sym, ◌∙◌, ap, subst, append_assoc}
 use Rattle.std.proofs.lemmas.Bool.{cond_both}
-use Rattle.sc_base.specs.declared.names.Ballot.{Ballot}
-use Rattle.sc_base.specs.declared.names.Draw.{Draw}
-use Rattle.sc_base.specs.Among.{Among}
-use Rattle.sc_base.specs.Same.{same_draw}
-use Rattle.sc_cmd.specs.declared.commands.Command.{Command}
-use Rattle.sc_cmd.specs.declared.cores.Base.{Base}
-use Rattle.sc_mail.specs.declared.bodies.Mail.{Mail}
-use Rattle.sc_mail.specs.declared.bodies.MailBody.{MailBody}
-use Rattle.sc_mail.specs.declared.bodies.MailBody.TheVariants.{Prepare, Accept}
-use Rattle.sc_paxos_words.proofs.ListLemmas.{Each-among, Each-weaker}
-use Rattle.sc_paxos_law.specs.Steps.{Prepared, Offered, Accepted}
-use Rattle.sc_paxos_law.specs.Chosen.{Rule, IsLog}
-use Rattle.sc_paxos_law.proofs.Among.{Among-either}
-use Rattle.sc_node_table.specs.Replica.{ReplicaState, Place}
-use Rattle.sc_sound.specs.Players.{Ahead}
-use Rattle.sc_group_law.specs.Steps.{proposer_steps, asked_in}
+use Rattle.sc_node_table.specs.Values.{Ballot, Draw, Command, Base, Mail, MailBody, Prepare, Accept}
+use Rattle.sc_base.specs.Definitions.{Among, same_draw}
+use Rattle.sc_paxos_words.proofs.Lemmas.{Each-among, Each-weaker}
+use Rattle.sc_paxos_law.specs.Definitions.{Prepared, Offered, Accepted, Rule, IsLog}
+use Rattle.sc_paxos_law.proofs.Lemmas.{Among-either}
+use Rattle.sc_node_table.specs.Definitions.{ReplicaState, Place}
+use Rattle.sc_sound.specs.Definitions.{Ahead}
+use Rattle.sc_group_law.specs.Definitions.{proposer_steps, asked_in}
 use Rattle.sc_group_law.proofs.Invariant.{Steps, rule}
 use Rattle.sc_group_law.proofs.Midway.{Fine}
 use Rattle.sc_group_law.proofs.Speech.{AreSaid, said_own, said_true, said_asked}

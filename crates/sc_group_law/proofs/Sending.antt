@@ -1,37 +1,22 @@
 -- Mails that a row sends, and elections.
 use Rattle.std.proofs.Common.{◌≡◌, ℕ, ◌+◌, ◌≤◌, ◌-◌, ◌^◌, ◌&&◌, true, false, cond, eqb, nat_lt, List, [], ◌∷◌, ◌++◌, Option, Some, inl, refl, ◌∙◌, ap, subst, arith}
 use Rattle.std.proofs.lemmas.Bool.{cond-true, cond_both}
-use Rattle.sc_base.specs.Limits.{client_actor}
-use Rattle.sc_base.specs.declared.names.Ballot.{Ballot}
-use Rattle.sc_base.specs.declared.names.Draw.{Draw}
-use Rattle.sc_base.specs.Same.{same_draw}
-use Rattle.sc_cmd.specs.declared.commands.Command.{Command}
-use Rattle.sc_cmd.specs.declared.commands.Command.TheVariants.{Call}
-use Rattle.sc_cmd.specs.declared.cores.Base.{Base}
-use Rattle.sc_cmd.specs.declared.orders.ToldResult.{ToldResult}
-use Rattle.sc_cmd.specs.declared.orders.ToldResult.TheVariants.{Refused}
+use Rattle.sc_base.specs.Definitions.{client_actor, same_draw, Among}
+use Rattle.sc_node_table.specs.Values.{Ballot, Draw, Command, Call, Base, ToldResult, Refused, AnswerBody, Mail, MailBody, Answer, Prepare, Accept, Learn, Told}
 use Rattle.sc_cmd.specs.declared.orders.OrderRefusal.TheVariants.{NotLeader}
-use Rattle.sc_mail.specs.declared.bodies.AnswerBody.{AnswerBody}
 use Rattle.sc_mail.specs.declared.bodies.AnswerBody.TheVariants as Says
-use Rattle.sc_mail.specs.declared.bodies.Mail.{Mail}
-use Rattle.sc_mail.specs.declared.bodies.MailBody.{MailBody}
-use Rattle.sc_mail.specs.declared.bodies.MailBody.TheVariants.{Answer, Prepare, Accept, Learn, Told}
-use Rattle.sc_machine_table.specs.Group.{Group}
-use Rattle.sc_base.specs.Among.{Among}
-use Rattle.sc_paxos_words.specs.Ballots.{below}
-use Rattle.sc_paxos_words.specs.Leaders.{new_leader}
-use Rattle.sc_law_lemmas.proofs.Ballots.{below_round}
-use Rattle.sc_paxos_law.specs.Steps.{Step, Prepared, Offered}
-use Rattle.sc_node_table.specs.Election.{elected, ended, stopped, saw, open_nodes}
-use Rattle.sc_node_table.specs.Mails.{sent, sent_all, sent_others, answered, answered_all, order_number, told_order, dismissed, dismissed_all}
-use Rattle.sc_node_table.specs.Replica.{ReplicaState, Place, name_of, next, under_way}
-use Rattle.sc_sound.specs.Players.{Ahead}
-use Rattle.sc_hist_law.proofs.Logs.{state_same}
-use Rattle.sc_group_law.specs.Steps.{proposer_steps}
+use Rattle.sc_machine_table.specs.Definitions.{Group}
+use Rattle.sc_paxos_words.specs.Definitions.{below, new_leader}
+use Rattle.sc_law_lemmas.proofs.Lemmas.{below_round}
+use Rattle.sc_paxos_law.specs.Definitions.{Step, Prepared, Offered}
+use Rattle.sc_node_table.specs.Definitions.{elected, ended, stopped, saw, open_nodes, sent, sent_all, sent_others, answered, answered_all, order_number, told_order, dismissed, dismissed_all, ReplicaState, Place, name_of, next, under_way}
+use Rattle.sc_sound.specs.Definitions.{Ahead}
+use Rattle.sc_hist_law.proofs.Lemmas.{state_same}
+use Rattle.sc_group_law.specs.Definitions.{proposer_steps}
 use Rattle.sc_group_law.proofs.Growth.{IsLearnt, offer_again}
 use Rattle.sc_group_law.proofs.Invariant.{Steps, rule, first, birth, IsReplica, next_after, IsTrueAnswer, more_steps}
 use Rattle.sc_group_law.proofs.Midway.{Fine, turn, says, steps}
-use Rattle.sc_base.proofs.NameLemmas.{same_name}
+use Rattle.sc_base.proofs.Lemmas.{same_name}
 
 pub asked_prepare : (group other : Draw) (b : Ballot) (from : ℕ) → group ≡ other → proposer_steps other (Prepare group b from) ≡ Prepared b from ∷ []
 asked_prepare group other b from e = cond-true (same_draw group other) (Prepared b from ∷ []) [] (same_name group other e)

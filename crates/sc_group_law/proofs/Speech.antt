@@ -1,28 +1,12 @@
 -- What is asked of what a group's replicas say of transactions, and queue: what they say is heard, and what they hear they may queue.
 use Rattle.std.proofs.Common.{◌≡◌, ℕ, List, [], ◌∷◌, ◌++◌, Option, Some, refl, ◌∙◌, ap}
-use Rattle.sc_base.specs.Among.{Each}
-use Rattle.sc_base.specs.declared.names.Draw.{Draw}
-use Rattle.sc_cmd.specs.declared.bodies.Body.{Body}
-use Rattle.sc_cmd.specs.declared.commands.Command.{Command}
-use Rattle.sc_cmd.specs.declared.commands.Command.TheVariants.{Noop, Prepared, RecordVote, GiveUp, Finish, Watched, RecordWatch}
-use Rattle.sc_cmd.specs.declared.cores.Base.{Base}
-use Rattle.sc_cmd.specs.declared.cores.Lock.TheVariants.{Coordinating}
-use Rattle.sc_cmd.specs.declared.votes.Heard.{Heard}
-use Rattle.sc_cmd.specs.declared.votes.Outcome.{Outcome}
-use Rattle.sc_cmd.specs.declared.votes.Past.{Past}
-use Rattle.sc_mail.specs.declared.bodies.Mail.{Mail}
-use Rattle.sc_mail.specs.declared.bodies.MailBody.{MailBody}
-use Rattle.sc_mail.specs.declared.bodies.MailBody.TheVariants.{Request, Answer, Prepare, Promise, Accept, Accepted as AcceptedMail, Nack, Learn, Ask, Install, TxPrepare, TxVote, TxOutcome, TxElsewhere, TxWatch, TxWatched, Told}
-use Rattle.sc_machine_table.specs.Group.{Group}
-use Rattle.sc_machine_table.specs.Logs.{state_after}
-use Rattle.sc_machine_table.specs.Machine.{applied}
-use Rattle.sc_node_table.specs.Node.{group_of_mail}
-use Rattle.sc_node_table.specs.Reminders.{reminders}
-use Rattle.sc_node_table.specs.Spoken.{before_of, went_on}
-use Rattle.sc_node_table.specs.Transactions.{standing_vote, noted_outcome, voted_to, watched_to, asked_next}
-use Rattle.sc_paxos_law.specs.Chosen.{IsLog}
-use Rattle.sc_sound.specs.Players.{Ahead}
-use Rattle.sc_group_law.specs.Steps.{proposer_steps, asked_in}
+use Rattle.sc_base.specs.Definitions.{Each}
+use Rattle.sc_node_table.specs.Values.{Draw, Body, Command, Noop, Prepared, RecordVote, GiveUp, Finish, Watched, RecordWatch, Base, Coordinating, Heard, Outcome, Past, Mail, MailBody, Request, Answer, Prepare, Promise, Accept, Accepted as AcceptedMail, Nack, Learn, Ask, Install, TxPrepare, TxVote, TxOutcome, TxElsewhere, TxWatch, TxWatched, Told}
+use Rattle.sc_machine_table.specs.Definitions.{Group, state_after, applied}
+use Rattle.sc_node_table.specs.Definitions.{group_of_mail, reminders, before_of, went_on, standing_vote, noted_outcome, voted_to, watched_to, asked_next}
+use Rattle.sc_paxos_law.specs.Definitions.{IsLog}
+use Rattle.sc_sound.specs.Definitions.{Ahead}
+use Rattle.sc_group_law.specs.Definitions.{proposer_steps, asked_in}
 use Rattle.sc_group_law.proofs.Invariant.{Steps, rule, birth, name, IsOwn, IsTrue}
 
 -- a mail of a transaction that is heard

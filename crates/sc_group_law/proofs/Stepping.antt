@@ -3,48 +3,23 @@ use Rattle.std.proofs.Common.{◌≡◌, ℕ, ◌≤◌, ◌&&◌, Bool, true, f
 use Rattle.std.specs.Option.{option_map}
 use Rattle.std.specs.List.{list_any}
 use Rattle.std.proofs.lemmas.Bool.{cases_Bool, eqb-true, eqb-false, eq-eqb, ne_eqb, and_from, or_left, cond-true, cond-false}
-use Rattle.sc_base.specs.declared.names.Draw.{Draw}
-use Rattle.sc_base.specs.declared.ops.Op.{Op}
-use Rattle.sc_cmd.specs.declared.commands.Command.{Command}
-use Rattle.sc_cmd.specs.declared.commands.Command.TheVariants.{Call}
-use Rattle.sc_cmd.specs.declared.cores.Base.{Base}
-use Rattle.sc_cmd.specs.declared.orders.OrderLine.{OrderLine}
-use Rattle.sc_mail.specs.declared.bodies.Mail.{Mail}
-use Rattle.sc_mail.specs.declared.bodies.MailBody.{MailBody}
-use Rattle.sc_actor.specs.declared.rows.Row.{Row}
-use Rattle.sc_actor.specs.declared.rows.Event.{Event}
-use Rattle.sc_actor.specs.declared.rows.Event.TheVariants.{Deliver, Tick, Go, Told, Crash, Drop, Again}
-use Rattle.sc_actor.specs.declared.rows.Input.{Input}
-use Rattle.sc_actor.specs.declared.rows.Input.TheVariants.{Got, Tick as TickInput, Go as GoInput, Told as ToldInput}
-use Rattle.sc_actor.specs.declared.actors.Seat.{Seat}
-use Rattle.sc_actor.specs.Mail.{mails}
-use Rattle.sc_actor.specs.Replay.{value, acted, input_of}
-use Rattle.sc_actor.specs.System.{row_of, network, has_gone, is_go}
-use Rattle.sc_actor.specs.Steps.{IsOpen, ActorStep, IsStep}
-use Rattle.sc_actor.proofs.ReplayLemmas.{value-snoc}
-use Rattle.sc_client_table.specs.Client.{Client}
-use Rattle.sc_client_table.specs.Table.{table, request_of}
-use Rattle.sc_client_table.specs.Turns.{InTurn}
+use Rattle.sc_node_table.specs.Values.{Draw, Op, Command, Call, Base, OrderLine, Mail, MailBody, Row, Event, Deliver, Tick, Go, Crash, Drop, Again, Input, Got, Seat, Ballot, Route, Node as ANode, Client as AClient}
+use Rattle.sc_actor.specs.declared.rows.Event.TheVariants.{Told}
+use Rattle.sc_actor.specs.declared.rows.Input.TheVariants.{Tick as TickInput, Go as GoInput, Told as ToldInput}
+use Rattle.sc_actor.specs.Definitions.{mails, value, acted, input_of, row_of, network, has_gone, is_go, IsOpen, ActorStep, IsStep}
+use Rattle.sc_actor.proofs.Lemmas.{value-snoc}
+use Rattle.sc_client_table.specs.Definitions.{Client, table, request_of, InTurn}
 use Rattle.sc_client_table.proofs.TurnLemmas.{sends_in_turn}
-use Rattle.sc_node_table.specs.Node.{NodeState, group_of_order, replica_of, on_mail, on_tick, on_order}
-use Rattle.sc_node_table.specs.Replica.{ReplicaState}
-use Rattle.sc_node_table.specs.Ordering.{ordered_command, untaken}
-use Rattle.sc_node_table.specs.Slots.{numbers_from}
-use Rattle.sc_base.specs.Drawing.{next_name}
-use Rattle.sc_base.specs.Among.{Among, Each}
-use Rattle.sc_paxos_words.proofs.ListLemmas.{Each-among, find_found}
-use Rattle.sc_paxos_law.proofs.Among.{Among-either, from_map}
-use Rattle.sc_paxos_law.specs.Steps.{Offered}
-use Rattle.sc_paxos_law.specs.Lawful.{IsLawfulHistory}
-use Rattle.sc_base.specs.declared.names.Ballot.{Ballot}
+use Rattle.sc_node_table.specs.Definitions.{NodeState, group_of_order, replica_of, on_mail, on_tick, on_order, ReplicaState, ordered_command, untaken, numbers_from}
+use Rattle.sc_base.specs.Definitions.{next_name, Among, Each, client_actor, most_nodes}
+use Rattle.sc_paxos_words.proofs.Lemmas.{Each-among, find_found}
+use Rattle.sc_paxos_law.proofs.Lemmas.{Among-either, from_map}
+use Rattle.sc_paxos_law.specs.Definitions.{Offered, IsLawfulHistory}
 use Rattle.sc_scenario.specs.declared.scenarios.Asks.{Asks}
 use Rattle.sc_scenario.specs.declared.scenarios.Scenario.{Scenario}
-use Rattle.sc_sound.specs.Players.{Ahead, node_seat, births, system_of, player_table, client_seat, Player, replies_of}
-use Rattle.sc_cmd.specs.declared.links.Route.{Route}
-use Rattle.sc_sound.specs.Requests.{issues, asks_for}
-use Rattle.sc_sound.proofs.Rows.{any_push}
-use Rattle.sc_group_law.specs.Steps.{steps_at}
-use Rattle.sc_mail.specs.declared.roles.Role.TheVariants.{Node as ANode, Client as AClient}
+use Rattle.sc_sound.specs.Definitions.{Ahead, node_seat, births, system_of, player_table, client_seat, Player, replies_of, issues, asks_for}
+use Rattle.sc_sound.proofs.Lemmas.{any_push}
+use Rattle.sc_group_law.specs.Definitions.{steps_at}
 use Rattle.sc_group_law.proofs.Invariant.{Steps, rule, first, IsTrue, grown_true}
 use Rattle.sc_group_law.proofs.RowSteps.{number_among, among_numbers, steps_deliver, steps_plain}
 use Rattle.sc_group_law.proofs.Frames.{node_row, steps_of}
@@ -59,7 +34,6 @@ use Rattle.sc_group_law.proofs.Places.{Journal}
 use Rattle.sc_group_law.proofs.Clients.{IsIssued, issued_now, SendsAsked, HaveGrown, IsClient, Grew, later_client, client_after, client_sends}
 use Rattle.sc_group_law.proofs.Families.{h_of, IsNodeAt, IsClientAt, replies_in, Kept, Stepped, IsLater, PartMoved, ClientMoved, Moved}
 use Rattle.sc_group_law.proofs.Speech.{AnyoneHears, Speaks}
-use Rattle.sc_base.specs.Limits.{client_actor, most_nodes}
 
 -- what a family of groups rests on: how the players begin, whatever the rows; what clients issue may be queued, and each group has members
 pub record HasPlayers (ahead : Ahead) (scenario : Scenario) (firsts bases : List Base) (route : Route) (made : Journal → Base → Command → Type 0) : Type 0 where

@@ -1,23 +1,14 @@
 -- A tick of a node: each of its replicas has its part of the row.
 use Rattle.std.proofs.Common.{◌≡◌, ℕ, false, Bool, List, [], ◌∷◌, ◌++◌, inl, inr, refl, sym, ◌∙◌, ap, subst, append-nil, append_assoc}
 use Rattle.std.proofs.lemmas.Bool.{cases_Bool}
-use Rattle.sc_base.specs.Drawing.{Drawer}
-use Rattle.sc_base.specs.declared.names.Draw.{Draw}
-use Rattle.sc_base.specs.Same.{same_draw}
-use Rattle.sc_cmd.specs.declared.commands.Command.{Command}
-use Rattle.sc_cmd.specs.declared.cores.Base.{Base}
-use Rattle.sc_mail.specs.declared.bodies.Mail.{Mail}
-use Rattle.sc_mail.specs.declared.bodies.MailBody.{MailBody}
-use Rattle.sc_base.specs.Among.{Among, Each}
-use Rattle.sc_paxos_words.proofs.ListLemmas.{Each-among, Each-from}
-use Rattle.sc_paxos_law.specs.Lawful.{IsLawfulHistory}
-use Rattle.sc_paxos_law.proofs.Among.{Among-either}
-use Rattle.sc_node_table.specs.Node.{NodeState, ticked, on_tick}
-use Rattle.sc_node_table.specs.Policy.{names_after_tick}
-use Rattle.sc_node_table.specs.Replica.{ReplicaState, Place, name_of}
-use Rattle.sc_node_table.specs.Rows.{tick_row}
-use Rattle.sc_sound.specs.Players.{Ahead}
-use Rattle.sc_group_law.specs.Steps.{asked_in}
+use Rattle.sc_base.specs.Definitions.{Drawer, same_draw, Among, Each}
+use Rattle.sc_node_table.specs.Values.{Draw, Command, Base, Mail, MailBody}
+use Rattle.sc_paxos_words.proofs.Lemmas.{Each-among, Each-from}
+use Rattle.sc_paxos_law.specs.Definitions.{IsLawfulHistory}
+use Rattle.sc_paxos_law.proofs.Lemmas.{Among-either}
+use Rattle.sc_node_table.specs.Definitions.{NodeState, ticked, on_tick, names_after_tick, ReplicaState, Place, name_of, tick_row}
+use Rattle.sc_sound.specs.Definitions.{Ahead}
+use Rattle.sc_group_law.specs.Definitions.{asked_in}
 use Rattle.sc_group_law.proofs.Growth.{By}
 use Rattle.sc_group_law.proofs.Invariant.{Steps, rule, first, IsReplica, IsTrue, OffersMade}
 use Rattle.sc_group_law.proofs.Speech.{AnyoneHears, Speaks}
@@ -28,7 +19,7 @@ use Rattle.sc_group_law.proofs.Names.{IsOneOf, IsNamedIn, own_named}
 use Rattle.sc_group_law.proofs.Nodes.{start, IsNode, NodeEnded}
 use Rattle.sc_group_law.proofs.Frames.{AreFar, own_far, far_true, far_all, asked_append}
 use Rattle.sc_group_law.proofs.Holding.{IsOther, Holds, held}
-use Rattle.sc_base.proofs.NameLemmas.{draw_is}
+use Rattle.sc_base.proofs.Lemmas.{draw_is}
 
 -- what policies order at a tick of these replicas may be queued at their groups, each with the names that those before it left
 abbrev pub MayTick : List Base → (Base → Command → Type 0) → Bool → Drawer → List ReplicaState → Type 0

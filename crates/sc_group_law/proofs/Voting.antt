@@ -2,37 +2,16 @@
 use Rattle.std.proofs.Common.{◌≡◌, ℕ, ◌&&◌, ◌||◌, not, nat_le, nat_lt, true, false, cond, eqb, List, [], ◌∷◌, ◌++◌, Option, Some, inl, inr, refl, sym, ◌∙◌, ap, subst, append-nil, arith}
 use Rattle.std.specs.List.{flat_map, list_any}
 use Rattle.std.proofs.lemmas.Bool.{eq-eqb, leb-false, and_parts, and_from, cond-true, cond_both}
-use Rattle.sc_base.specs.declared.names.Ballot.{Ballot}
-use Rattle.sc_base.specs.declared.names.Draw.{Draw}
-use Rattle.sc_base.specs.Same.{same_draw, same_ballot}
-use Rattle.sc_cmd.specs.declared.commands.Command.{Command}
-use Rattle.sc_cmd.specs.declared.commands.Command.TheVariants.{Call}
-use Rattle.sc_cmd.specs.declared.cores.Base.{Base}
-use Rattle.sc_mail.specs.declared.bodies.AnswerBody.{AnswerBody}
-use Rattle.sc_mail.specs.declared.bodies.Mail.{Mail}
-use Rattle.sc_mail.specs.declared.bodies.MailBody.{MailBody}
-use Rattle.sc_mail.specs.declared.bodies.MailBody.TheVariants.{Request, Answer, Promise, Accepted as AcceptedMail, Nack, Ask, Install, Told, TxElsewhere}
-use Rattle.sc_cmd.specs.declared.orders.ToldResult.{ToldResult}
-use Rattle.sc_cmd.specs.declared.orders.ToldResult.TheVariants.{Refused}
+use Rattle.sc_node_table.specs.Values.{Ballot, Draw, Command, Call, Base, AnswerBody, Mail, MailBody, Request, Answer, Promise, Accepted as AcceptedMail, Nack, Ask, Install, Told, TxElsewhere, ToldResult, Refused, Report, PrepareAnswer, AcceptAnswer}
+use Rattle.sc_base.specs.Definitions.{same_draw, same_ballot, Among, Each}
 use Rattle.sc_cmd.specs.declared.orders.OrderRefusal.TheVariants.{NotLeader}
-use Rattle.sc_paxos_words.specs.declared.reports.Report.{Report}
-use Rattle.sc_paxos_words.specs.declared.answers.PrepareAnswer.{PrepareAnswer}
-use Rattle.sc_paxos_words.specs.declared.answers.AcceptAnswer.{AcceptAnswer}
-use Rattle.sc_base.specs.Among.{Among, Each}
-use Rattle.sc_paxos_words.specs.Acceptors.{AcceptorState, may_promise, may_accept, after_promise, after_accept, reports_from}
-use Rattle.sc_paxos_words.specs.Ballots.{below}
-use Rattle.sc_paxos_words.proofs.ListLemmas.{Each-weaker, Each-append}
-use Rattle.sc_paxos_law.specs.Steps.{Step, Prepared, Promised, Offered, Accepted, state_of}
-use Rattle.sc_paxos_law.specs.Lawful.{IsLawfulStep, IsLawfulHistory}
-use Rattle.sc_paxos_law.proofs.Among.{Among-right, Among-either}
-use Rattle.sc_node_table.specs.Mails.{sent, answered, answered_all, order_number, told_order, dismissed, dismissed_all}
-use Rattle.sc_node_table.specs.Install.{install_to}
-use Rattle.sc_node_table.specs.Election.{ended, saw}
-use Rattle.sc_node_table.specs.Replica.{ReplicaState, Place, name_of}
-use Rattle.sc_node_table.specs.Voting.{hinted, promise_to, promised, prepare_row, accepted_to, took, accept_row}
-use Rattle.sc_sound.specs.Accepts.{is_accepted}
-use Rattle.sc_sound.specs.Players.{Ahead}
-use Rattle.sc_group_law.specs.Steps.{asked_in, promised_by}
+use Rattle.sc_paxos_words.specs.Definitions.{AcceptorState, may_promise, may_accept, after_promise, after_accept, reports_from, below}
+use Rattle.sc_paxos_words.proofs.Lemmas.{Each-weaker, Each-append}
+use Rattle.sc_paxos_law.specs.Definitions.{Step, Prepared, Promised, Offered, Accepted, state_of, IsLawfulStep, IsLawfulHistory}
+use Rattle.sc_paxos_law.proofs.Lemmas.{Among-right, Among-either}
+use Rattle.sc_node_table.specs.Definitions.{sent, answered, answered_all, order_number, told_order, dismissed, dismissed_all, install_to, ended, saw, ReplicaState, Place, name_of, hinted, promise_to, promised, prepare_row, accepted_to, took, accept_row}
+use Rattle.sc_sound.specs.Definitions.{is_accepted, Ahead}
+use Rattle.sc_group_law.specs.Definitions.{asked_in, promised_by}
 use Rattle.sc_group_law.proofs.Growth.{By, later_learnt}
 use Rattle.sc_group_law.proofs.Held.{Mirrors, promise_mirrors, accept_mirrors}
 use Rattle.sc_group_law.proofs.Invariant.{Steps, rule, first, later_has, IsReplica, IsOwn, IsTrue, later_flying, grown_true, OffersMade}
@@ -41,7 +20,7 @@ use Rattle.sc_group_law.proofs.Midway.{Fine, asked_push, says}
 use Rattle.sc_group_law.proofs.Sending.{name_is, fine_saw}
 use Rattle.sc_group_law.proofs.Executing.{hint_replica}
 use Rattle.sc_group_law.proofs.Welcoming.{installed_place}
-use Rattle.sc_base.proofs.NameLemmas.{same_name, ballot_itself}
+use Rattle.sc_base.proofs.Lemmas.{same_name, ballot_itself}
 
 -- ---- mails that are no step
 

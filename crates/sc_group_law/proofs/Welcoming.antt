@@ -1,19 +1,12 @@
 -- The executed state is sent, and who was added is welcomed.
 use Rattle.std.proofs.Common.{◌≡◌, ℕ, ◌+◌, ◌-◌, not, Bool, true, false, List, [], ◌∷◌, ◌++◌, length, filter, refl, ◌∙◌, ap, subst, arith}
 use Rattle.std.proofs.lemmas.Bool.{cond_both}
-use Rattle.sc_cmd.specs.declared.commands.Command.{Command}
-use Rattle.sc_cmd.specs.declared.cores.Base.{Base}
-use Rattle.sc_mail.specs.declared.bodies.Mail.{Mail}
-use Rattle.sc_mail.specs.declared.bodies.MailBody.{MailBody}
-use Rattle.sc_mail.specs.declared.bodies.MailBody.TheVariants.{Prepare, Install}
-use Rattle.sc_base.specs.Roster.{is_member}
-use Rattle.sc_machine_table.specs.Group.{base_of}
-use Rattle.sc_node_table.specs.Replica.{ReplicaState, Place, name_of, next, members}
-use Rattle.sc_node_table.specs.Mails.{sent, sent_all}
-use Rattle.sc_node_table.specs.Install.{install_to, asked_to_promise, welcomed_all}
-use Rattle.sc_node_table.specs.Execute.{welcomed}
-use Rattle.sc_sound.specs.Players.{Ahead}
-use Rattle.sc_machine_table.proofs.Parts.{group_again}
+use Rattle.sc_node_table.specs.Values.{Command, Base, Mail, MailBody, Prepare, Install}
+use Rattle.sc_base.specs.Definitions.{is_member}
+use Rattle.sc_machine_table.specs.Definitions.{base_of}
+use Rattle.sc_node_table.specs.Definitions.{ReplicaState, Place, name_of, next, members, sent, sent_all, install_to, asked_to_promise, welcomed_all, welcomed}
+use Rattle.sc_sound.specs.Definitions.{Ahead}
+use Rattle.sc_machine_table.proofs.Lemmas.{group_again}
 use Rattle.sc_group_law.proofs.Invariant.{Steps, AreSets, next_after}
 use Rattle.sc_group_law.proofs.Midway.{Fine, says}
 use Rattle.sc_group_law.proofs.Sending.{name_is, prepared_all}

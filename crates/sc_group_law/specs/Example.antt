@@ -1,19 +1,11 @@
 -- A journal of three nodes and one client: a value is accepted by two nodes, another node is elected, and it offers that value again.
 use Rattle.std.specs.Prelude.{ℕ, false, List, [], ◌∷◌}
-use Rattle.sc_cmd.specs.declared.commands.Command.{Command}
-use Rattle.sc_cmd.specs.declared.commands.Command.TheVariants.{Call}
-use Rattle.sc_cmd.specs.declared.cores.Base.{Base}
-use Rattle.sc_cmd.specs.declared.orders.OrderLine.{OrderLine}
-use Rattle.sc_mail.specs.declared.bodies.Mail.{Mail}
-use Rattle.sc_mail.specs.declared.bodies.MailBody.{MailBody}
-use Rattle.sc_mail.specs.declared.bodies.MailBody.TheVariants.{Request, Prepare, Promise, Accept, Accepted}
-use Rattle.sc_actor.specs.declared.rows.Row.{Row}
-use Rattle.sc_actor.specs.declared.rows.Event.TheVariants.{Deliver, Tick, Go}
-use Rattle.sc_scenario.specs.Groups.{lone_name, lone_group}
+use Rattle.sc_node_table.specs.Values.{Command, Call, Base, OrderLine, Mail, MailBody, Request, Prepare, Promise, Accept, Accepted, Row, Deliver, Tick, Go}
+use Rattle.sc_scenario.specs.Definitions.{lone_name, lone_group}
 use Rattle.sc_scenario.specs.declared.scenarios.SchedLine.TheVariants as line
 use Rattle.sc_scenario.specs.declared.scenarios.Scenario.{Scenario}
-use Rattle.sc_paxos_law.specs.Example.{first, second}
-use Rattle.sc_sound.specs.Example.{put_it, mail, row}
+use Rattle.sc_paxos_law.specs.Definitions.{first, second}
+use Rattle.sc_sound.specs.Definitions.{put_it, mail, row}
 
 -- one group of the nodes 1 to 3, which holds all positions
 abbrev pub three_nodes : Base

@@ -1,21 +1,14 @@
 -- A journal of two nodes: the one member of a group is told that the other joins, decides it, and sends the state.
 use Rattle.std.specs.Prelude.{false, List, [], ◌∷◌}
-use Rattle.sc_base.specs.declared.names.Ballot.{Ballot}
-use Rattle.sc_cmd.specs.declared.commands.Command.{Command}
-use Rattle.sc_cmd.specs.declared.commands.Command.TheVariants.{Join}
-use Rattle.sc_cmd.specs.declared.orders.OrderLine.{OrderLine}
+use Rattle.sc_node_table.specs.Values.{Ballot, Command, Join, OrderLine, Mail, Accept, Accepted, Install, Told as ToldMail, Row, Deliver}
 use Rattle.sc_cmd.specs.declared.orders.Order.TheVariants as An
 use Rattle.sc_cmd.specs.declared.orders.ToldResult.TheVariants as Tells
-use Rattle.sc_mail.specs.declared.bodies.Mail.{Mail}
-use Rattle.sc_mail.specs.declared.bodies.MailBody.TheVariants.{Accept, Accepted, Install, Told as ToldMail}
-use Rattle.sc_machine_table.specs.Group.{Group, group_of, base_of}
-use Rattle.sc_machine_table.specs.Orders.{with_node}
-use Rattle.sc_actor.specs.declared.rows.Row.{Row}
-use Rattle.sc_actor.specs.declared.rows.Event.TheVariants.{Deliver, Told}
-use Rattle.sc_scenario.specs.Groups.{lone_name}
+use Rattle.sc_machine_table.specs.Definitions.{Group, group_of, base_of, with_node}
+use Rattle.sc_actor.specs.declared.rows.Event.TheVariants.{Told}
+use Rattle.sc_scenario.specs.Definitions.{lone_name}
 use Rattle.sc_scenario.specs.declared.scenarios.SchedLine.TheVariants as line
 use Rattle.sc_scenario.specs.declared.scenarios.Scenario.{Scenario}
-use Rattle.sc_sound.specs.Example.{alone, mail, row}
+use Rattle.sc_sound.specs.Definitions.{alone, mail, row}
 
 -- node 2 joins the group
 abbrev pub join_order : OrderLine

@@ -1,3 +1,4 @@
 pub mod Example
 pub mod JoinExample
 pub mod Steps
+pub mod Definitions

@@ -1,20 +1,11 @@
 -- The steps of proposers and acceptors that the rows of a journal are: read from the mail that they deliver and send, never from what an actor holds.
 use Rattle.std.specs.Prelude.{ℕ, ◌&&◌, List, [], ◌∷◌, ◌++◌, if◌then◌else◌, Option, Some, None}
 use Rattle.std.specs.List.{flat_map}
-use Rattle.sc_base.specs.declared.names.Draw.{Draw}
-use Rattle.sc_base.specs.declared.names.Ballot.{Ballot}
-use Rattle.sc_base.specs.Same.{same_draw, same_ballot}
-use Rattle.sc_cmd.specs.declared.commands.Command.{Command}
-use Rattle.sc_cmd.specs.declared.orders.OrderLine.{OrderLine}
-use Rattle.sc_mail.specs.declared.bodies.Mail.{Mail}
-use Rattle.sc_mail.specs.declared.bodies.MailBody.{MailBody}
-use Rattle.sc_mail.specs.declared.bodies.MailBody.TheVariants.{Prepare, Promise, Accept}
-use Rattle.sc_actor.specs.declared.rows.Row.{Row}
-use Rattle.sc_actor.specs.declared.rows.Event.{Event}
-use Rattle.sc_actor.specs.declared.rows.Event.TheVariants.{Deliver}
-use Rattle.sc_actor.specs.Mail.{numbered}
-use Rattle.sc_paxos_law.specs.Steps.{Step, Prepared, Promised, Offered}
-use Rattle.sc_sound.specs.Accepts.{accepts_at}
+use Rattle.sc_node_table.specs.Values.{Draw, Ballot, Command, OrderLine, Mail, MailBody, Prepare, Promise, Accept, Row, Event, Deliver}
+use Rattle.sc_base.specs.Definitions.{same_draw, same_ballot}
+use Rattle.sc_actor.specs.Definitions.{numbered}
+use Rattle.sc_paxos_law.specs.Definitions.{Step, Prepared, Promised, Offered}
+use Rattle.sc_sound.specs.Definitions.{accepts_at}
 
 -- a proposer's steps: a Prepare of the group that is sent asks for promises, and an Accept offers its command
 abbrev pub proposer_steps : Draw → MailBody → List (Step Command)

@@ -3,7 +3,7 @@ use Rattle.std.specs.Prelude.{is_some}
 use Rattle.std.proofs.Common.{◌≡◌, ℕ, ◌<◌, ◌^◌, true, not, List, [], ◌++◌, Option, Some, None, inl, inr, refl, sym, ap, ◌∙◌}
 use Rattle.std.specs.List.{filter}
 use Rattle.std.specs.Option.{option_map}
-use Rattle.sc_base.specs.Arc.{Arc, CanCut, CanJoin, before, from, joined}
+use Rattle.sc_base.specs.Definitions.{Arc, CanCut, CanJoin, before, from, joined}
 use Rattle.sc_base.specs.declared.names.Draw.{Draw}
 use Rattle.sc_cmd.specs.declared.commands.Command.{Command}
 use Rattle.sc_cmd.specs.declared.effects.Effect.{Effect}
@@ -13,25 +13,17 @@ use Rattle.sc_cmd.specs.declared.votes.Frozen.{Frozen}
 use Rattle.sc_cmd.specs.declared.votes.Gift.{Gift}
 use Rattle.sc_cmd.specs.declared.votes.Outcome.{Outcome}
 use Rattle.sc_cmd.specs.declared.votes.Outcome.TheVariants.{Merged, Moved, Migrated}
-use Rattle.sc_machine_table.specs.Group.{Group}
-use Rattle.sc_machine_table.specs.Logs.{entry_of}
-use Rattle.sc_machine_table.specs.Transactions.{decided}
-use Rattle.sc_log_entries.specs.Births.{birth_of}
+use Rattle.sc_machine_table.specs.Definitions.{Group, entry_of, decided}
+use Rattle.sc_log_entries.specs.Definitions.{birth_of, concluded, after_outcome, arc_in, both_arcs, is_cut_of, recut, ring_decided, ring_merged, ring_moved, StoreWorld, named_group, with_result}
 use Rattle.sc_log_entries.specs.declared.Cut.{Cut}
-use Rattle.sc_log_entries.specs.Decisions.{concluded}
-use Rattle.sc_log_entries.specs.Effective.{after_outcome}
-use Rattle.sc_log_entries.specs.Rings.{arc_in, both_arcs, is_cut_of, recut, ring_decided, ring_merged, ring_moved}
-use Rattle.sc_log_entries.specs.Worlds.{StoreWorld, named_group, with_result}
-use Rattle.sc_hist_law.specs.Moves.{GivenFrom, JoinedTo, RequestOf, TakenUpTo, Unmoved, both_holdings, holding_of, part_before, part_from, with_next, with_previous}
-use Rattle.sc_hist_law.specs.Telling.{IsItsOwn, IsParty}
-use Rattle.sc_hist_law.specs.Worlds.{HasKnownTable, holdings_in}
+use Rattle.sc_hist_law.specs.Definitions.{GivenFrom, JoinedTo, RequestOf, TakenUpTo, Unmoved, both_holdings, holding_of, part_before, part_from, with_next, with_previous, IsItsOwn, IsParty, HasKnownTable, holdings_in}
 use Rattle.sc_hist_law.proofs.Disjoint.{first_here, neither_here, second_here}
 use Rattle.sc_hist_law.proofs.Elsewhere.{elsewhere, held_by, held_none, held_some, here, own_group, tables_from, there, holds_own}
 use Rattle.sc_hist_law.proofs.Parties.{next_after, next_before, others_after}
 use Rattle.sc_hist_law.proofs.Recuts.{arc_of, gone_cut, has_arc, has_recut, is_none_of, taken_out}
 use Rattle.sc_hist_law.proofs.Shares.{both_are}
 use Rattle.sc_hist_law.proofs.Staying.{Goes}
-use Rattle.sc_log_entries.proofs.Names.{draw_cases}
+use Rattle.sc_log_entries.proofs.Lemmas.{draw_cases}
 
 has_some : (name : Draw) (ring : List Cut) (arc : Arc) → arc_in name ring ≡ Some arc → has_arc name ring ≡ true
 has_some name ring arc e = ap is_some e

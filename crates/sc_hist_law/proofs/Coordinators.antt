@@ -4,10 +4,9 @@ use Rattle.std.proofs.Common.{◌≡◌, ℕ, ◌<◌, ◌^◌, Bool, true, fals
 use Rattle.std.specs.Option.{option_map}
 use Rattle.std.specs.FinMap.{empty}
 use Rattle.std.proofs.lemmas.Bool.{and_parts, cases_Bool, cond-true, cond-false, cond_both, eqb-false}
-use Rattle.sc_base.specs.Arc.{CanCut, before, from, holds}
-use Rattle.sc_base.specs.Same.{same_draw}
+use Rattle.sc_base.specs.Definitions.{CanCut, before, from, holds, same_draw}
 use Rattle.sc_base.specs.declared.names.Draw.{Draw}
-use Rattle.sc_base.proofs.NameLemmas.{draw_is}
+use Rattle.sc_base.proofs.Lemmas.{draw_is}
 use Rattle.sc_cmd.specs.declared.bodies.Body.{Body}
 use Rattle.sc_cmd.specs.declared.bodies.Body.TheVariants as At
 use Rattle.sc_cmd.specs.declared.commands.Command.TheVariants.{RecordVote, RecordWatch, Split}
@@ -26,22 +25,12 @@ use Rattle.sc_cmd.specs.declared.votes.Past.{Past}
 use Rattle.sc_cmd.specs.declared.votes.Past.TheVariants as Cast
 use Rattle.sc_cmd.specs.declared.votes.Vote.{Vote}
 use Rattle.sc_cmd.specs.declared.votes.Vote.TheVariants as Says
-use Rattle.sc_cmd.specs.Cores.{is_alone}
-use Rattle.sc_ideal.specs.History.{contents_after}
-use Rattle.sc_machine_table.specs.Group.{Group}
-use Rattle.sc_machine_table.specs.Machine.{applied, split_group}
-use Rattle.sc_machine_table.specs.Orders.{locked_in, refusal_of, refused_in}
-use Rattle.sc_machine_table.specs.Plans.{can_cut, can_join, can_migrate, can_repart, can_split, closing_group, giving_group, giving_plan, has_key_of, may_merge, merge_plan, merged_group, merged_route, migrate_plan, migrated_group, part_gift, repart_plan, split_plan, taken, taking_group, taking_plan}
-use Rattle.sc_machine_table.specs.Splits.{child_of, has_named, left_group}
-use Rattle.sc_machine_table.specs.Transactions.{aborted, asks_watcher, begun_group, committed, decided, granted, heard_group, is_coordinating, participant_answered, released, vote_recorded, watch_answered, watch_recorded}
-use Rattle.sc_log_entries.specs.Births.{division_in}
-use Rattle.sc_log_entries.specs.Decisions.{begun_split, decision, named_watcher}
+use Rattle.sc_cmd.specs.Definitions.{is_alone}
+use Rattle.sc_ideal.specs.Definitions.{contents_after}
+use Rattle.sc_machine_table.specs.Definitions.{Group, applied, split_group, locked_in, refusal_of, refused_in, can_cut, can_join, can_migrate, can_repart, can_split, closing_group, giving_group, giving_plan, has_key_of, may_merge, merge_plan, merged_group, merged_route, migrate_plan, migrated_group, part_gift, repart_plan, split_plan, taken, taking_group, taking_plan, child_of, has_named, left_group, aborted, asks_watcher, begun_group, committed, decided, granted, heard_group, is_coordinating, participant_answered, released, vote_recorded, watch_answered, watch_recorded}
+use Rattle.sc_log_entries.specs.Definitions.{division_in, begun_split, decision, named_watcher, arc_in, ring_divided, StoreWorld, named_group}
 use Rattle.sc_log_entries.specs.declared.Division.{Division}
-use Rattle.sc_log_entries.specs.Rings.{arc_in, ring_divided}
-use Rattle.sc_log_entries.specs.Worlds.{StoreWorld, named_group}
-use Rattle.sc_hist_law.specs.Moves.{RequestOf, TellsHoldings, holding_of}
-use Rattle.sc_hist_law.specs.Telling.{IsItsOwn, IsParty, MayHear, MayHearWatcher, MaySplit}
-use Rattle.sc_hist_law.specs.Worlds.{holdings_in}
+use Rattle.sc_hist_law.specs.Definitions.{RequestOf, TellsHoldings, holding_of, IsItsOwn, IsParty, MayHear, MayHearWatcher, MaySplit, holdings_in}
 use Rattle.sc_hist_law.proofs.Commits.{give_goes, merge_goes, migrate_goes, take_goes}
 use Rattle.sc_hist_law.proofs.Divisions.{division_goes}
 use Rattle.sc_hist_law.proofs.Elsewhere.{held_by, own_group, holds_own}

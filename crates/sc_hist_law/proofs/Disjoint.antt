@@ -1,14 +1,13 @@
 -- Two groups' holdings that are replaced: what is shared out between the two touches no other group.
 use Rattle.std.proofs.Common.{◌≡◌, ℕ, true, List, Option, Some, ◌⊎◌, inl, inr, sym, ◌∙◌}
 use Rattle.std.proofs.lemmas.Bool.{cases_Bool, cond-true, cond-false}
-use Rattle.sc_base.specs.Arc.{holds}
-use Rattle.sc_base.specs.Same.{same_draw}
+use Rattle.sc_base.specs.Definitions.{holds, same_draw}
 use Rattle.sc_base.specs.declared.names.Draw.{Draw}
-use Rattle.sc_base.proofs.NameLemmas.{draw_is, same_name}
+use Rattle.sc_base.proofs.Lemmas.{draw_is, same_name}
 use Rattle.sc_ideal.specs.declared.Entry.{Entry}
-use Rattle.sc_hist_law.specs.Moves.{Holding, Holdings, with_holding, AreDisjoint, IsToldOf}
+use Rattle.sc_hist_law.specs.Definitions.{Holding, Holdings, with_holding, AreDisjoint, IsToldOf}
 use Rattle.sc_hist_law.proofs.Holdings.{IsOnRing}
-use Rattle.sc_log_entries.proofs.Names.{draw_cases}
+use Rattle.sc_log_entries.proofs.Lemmas.{draw_cases}
 
 pub holding_here : (group : Draw) (holding : Option Holding) (holdings : Holdings) (other : Draw) → other ≡ group → with_holding group holding holdings other ≡ holding
 holding_here group holding holdings other e = cond-true (same_draw other group) holding (holdings other) (same_name other group e)

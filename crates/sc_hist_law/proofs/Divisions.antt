@@ -4,25 +4,19 @@ use Rattle.std.proofs.Common.{◌≡◌, ℕ, ◌<◌, ◌^◌, true, List, [], 
 use Rattle.std.specs.List.{flat_map}
 use Rattle.std.specs.Option.{option_map}
 use Rattle.std.proofs.lemmas.Bool.{cases_Bool, cond-true, cond-false}
-use Rattle.sc_base.specs.Arc.{CanCut}
+use Rattle.sc_base.specs.Definitions.{CanCut}
 use Rattle.sc_base.specs.declared.names.Draw.{Draw}
-use Rattle.sc_base.proofs.NameLemmas.{draw_is, same_name}
+use Rattle.sc_base.proofs.Lemmas.{draw_is, same_name}
 use Rattle.sc_cmd.specs.declared.commands.Command.{Command}
 use Rattle.sc_cmd.specs.declared.effects.Effect.{Effect}
-use Rattle.sc_machine_table.specs.Group.{Group, group_of}
-use Rattle.sc_machine_table.specs.Logs.{entry_of}
-use Rattle.sc_machine_table.specs.Splits.{child_of}
-use Rattle.sc_paxos_words.proofs.ListLemmas.{find_within}
-use Rattle.sc_log_entries.specs.Births.{birth_of}
+use Rattle.sc_machine_table.specs.Definitions.{Group, group_of, entry_of, child_of}
+use Rattle.sc_paxos_words.proofs.Lemmas.{find_within}
+use Rattle.sc_log_entries.specs.Definitions.{birth_of, parts_of, StoreWorld, groups_after, is_named, named_group, with_group, with_result}
 use Rattle.sc_log_entries.specs.declared.Division.{Division}
-use Rattle.sc_log_entries.specs.Rings.{parts_of}
-use Rattle.sc_log_entries.specs.Worlds.{StoreWorld, groups_after, is_named, named_group, with_group, with_result}
-use Rattle.sc_hist_law.specs.Moves.{DividedAt, Holding, RequestOf, holding_of, part_before, part_from}
-use Rattle.sc_hist_law.specs.Telling.{IsNewChild}
-use Rattle.sc_hist_law.specs.Worlds.{HasKnownTable, holdings_in}
+use Rattle.sc_hist_law.specs.Definitions.{DividedAt, Holding, RequestOf, holding_of, part_before, part_from, IsNewChild, HasKnownTable, holdings_in}
 use Rattle.sc_hist_law.proofs.Disjoint.{first_here, neither_here, second_here}
 use Rattle.sc_hist_law.proofs.Elsewhere.{held_by, held_none, held_some, same_at, same_found, holds_own}
-use Rattle.sc_log_entries.proofs.Names.{found_name, draw_cases}
+use Rattle.sc_log_entries.proofs.Lemmas.{found_name, draw_cases}
 use Rattle.sc_hist_law.proofs.Found.{found_now, found_still}
 use Rattle.sc_hist_law.proofs.PlanHoldings.{plans_move}
 use Rattle.sc_hist_law.proofs.Recuts.{arc_of, child_has, has_arc, has_divided}

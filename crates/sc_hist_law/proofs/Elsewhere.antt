@@ -3,19 +3,15 @@ use Rattle.std.proofs.Common.{◌≡◌, true, false, List, Option, Some, None, 
 use Rattle.std.specs.Prelude.{is_some}
 use Rattle.std.specs.Option.{option_map, option_and_then}
 use Rattle.std.proofs.lemmas.Option.{same_Some}
-use Rattle.sc_base.specs.Arc.{Arc}
+use Rattle.sc_base.specs.Definitions.{Arc}
 use Rattle.sc_base.specs.declared.names.Draw.{Draw}
 use Rattle.sc_cmd.specs.declared.commands.Command.{Command}
 use Rattle.sc_cmd.specs.declared.effects.Effect.{Effect}
-use Rattle.sc_machine_table.specs.Group.{Group}
-use Rattle.sc_log_entries.specs.Births.{birth_of}
+use Rattle.sc_machine_table.specs.Definitions.{Group}
+use Rattle.sc_log_entries.specs.Definitions.{birth_of, effective_by, arc_in, StoreWorld, groups_after, named_group, with_group, with_result}
 use Rattle.sc_log_entries.specs.declared.Transaction.{Transaction}
-use Rattle.sc_log_entries.specs.Effective.{effective_by}
-use Rattle.sc_log_entries.specs.Rings.{arc_in}
-use Rattle.sc_log_entries.specs.Worlds.{StoreWorld, groups_after, named_group, with_group, with_result}
-use Rattle.sc_hist_law.specs.Moves.{Holding, holding_of}
-use Rattle.sc_hist_law.specs.Worlds.{HasKnownTable, holdings_in}
-use Rattle.sc_log_entries.proofs.Names.{found_name, draw_cases}
+use Rattle.sc_hist_law.specs.Definitions.{Holding, holding_of, HasKnownTable, holdings_in}
+use Rattle.sc_log_entries.proofs.Lemmas.{found_name, draw_cases}
 use Rattle.sc_hist_law.proofs.Found.{found_now, found_still}
 
 -- what a group holds by the decisions of these transactions

@@ -3,10 +3,9 @@ use Rattle.std.specs.Prelude.{nat_le, length}
 use Rattle.std.proofs.Common.{◌≡◌, ℕ, Bool, true, false, cond, ◌&&◌, not, [], ◌∷◌, Some, None, ◌⊎◌, inl, inr, refl, sym, ap, ◌∙◌}
 use Rattle.std.specs.FinMap.{empty}
 use Rattle.std.proofs.lemmas.Bool.{cond_both}
-use Rattle.sc_base.specs.Same.{same_draw}
+use Rattle.sc_base.specs.Definitions.{same_draw, united}
 use Rattle.sc_base.specs.declared.names.Draw.{Draw}
-use Rattle.sc_base.proofs.NameLemmas.{draw_is}
-use Rattle.sc_base.specs.Union.{united}
+use Rattle.sc_base.proofs.Lemmas.{draw_is}
 use Rattle.sc_cmd.specs.declared.bodies.Offer.{Offer}
 use Rattle.sc_cmd.specs.declared.commands.Command.TheVariants.{Finish}
 use Rattle.sc_cmd.specs.declared.cores.Lock.{Lock}
@@ -16,17 +15,9 @@ use Rattle.sc_cmd.specs.declared.effects.Effect.TheVariants.{NoEffect}
 use Rattle.sc_cmd.specs.declared.votes.Gift.{Gift}
 use Rattle.sc_cmd.specs.declared.votes.Outcome.{Outcome}
 use Rattle.sc_cmd.specs.declared.votes.Outcome.TheVariants.{Abort, Merged, Moved, Migrated, Divided}
-use Rattle.sc_machine_table.specs.Group.{Group}
-use Rattle.sc_machine_table.specs.Finishes.{can_gain, finished, gained_group, lost_group, participant_after, settled_in, watch_ended, welcomed_group}
-use Rattle.sc_machine_table.specs.Machine.{applied}
-use Rattle.sc_machine_table.specs.Orders.{locked_in}
-use Rattle.sc_machine_table.specs.Plans.{can_cut, has_key_of}
-use Rattle.sc_log_entries.specs.Decisions.{decision}
-use Rattle.sc_log_entries.specs.Effective.{after_outcome, effective_by, is_commit}
-use Rattle.sc_log_entries.specs.Worlds.{StoreWorld, named_group, with_result}
-use Rattle.sc_hist_law.specs.Moves.{RequestOf, holding_of}
-use Rattle.sc_hist_law.specs.Telling.{MayFinish}
-use Rattle.sc_hist_law.specs.Worlds.{HasKnownTable}
+use Rattle.sc_machine_table.specs.Definitions.{Group, can_gain, finished, gained_group, lost_group, participant_after, settled_in, watch_ended, welcomed_group, applied, locked_in, can_cut, has_key_of}
+use Rattle.sc_log_entries.specs.Definitions.{decision, after_outcome, effective_by, is_commit, StoreWorld, named_group, with_result}
+use Rattle.sc_hist_law.specs.Definitions.{RequestOf, holding_of, MayFinish, HasKnownTable}
 use Rattle.sc_hist_law.proofs.Elsewhere.{held_by, held_some, here, same_table}
 use Rattle.sc_hist_law.proofs.Finishing.{free_held, watching_held}
 use Rattle.sc_hist_law.proofs.Logs.{applied_same}

@@ -3,13 +3,10 @@ use Rattle.std.proofs.Common.{◌≡◌, List, [], ◌∷◌, Option, Some, None
 use Rattle.sc_base.specs.declared.names.Draw.{Draw}
 use Rattle.sc_cmd.specs.declared.commands.Command.{Command}
 use Rattle.sc_cmd.specs.declared.commands.Command.TheVariants.{Noop, Call, Join, Leave, Split, Begin, Prepared, RecordVote, GiveUp, Finish, Watched, RecordWatch}
-use Rattle.sc_machine_table.specs.Group.{Group}
-use Rattle.sc_machine_table.specs.Machine.{applied}
+use Rattle.sc_machine_table.specs.Definitions.{Group, applied}
 use Rattle.sc_log_entries.specs.declared.LogEntry.{LogEntry}
-use Rattle.sc_log_entries.specs.Worlds.{StoreWorld, after_command, first_world, named_group, told}
-use Rattle.sc_hist_law.specs.Moves.{RequestOf, TellsHoldings, Unmoved}
-use Rattle.sc_hist_law.specs.Telling.{EntriesMakeMoves, EntriesThatMayBeToldTell, MayAllBeTold, MayExecute}
-use Rattle.sc_hist_law.specs.Worlds.{AllMakeMoves, IsMoveTo, holdings_in}
+use Rattle.sc_log_entries.specs.Definitions.{StoreWorld, after_command, first_world, named_group, told}
+use Rattle.sc_hist_law.specs.Definitions.{RequestOf, TellsHoldings, Unmoved, EntriesMakeMoves, EntriesThatMayBeToldTell, MayAllBeTold, MayExecute, AllMakeMoves, IsMoveTo, holdings_in}
 use Rattle.sc_hist_law.proofs.Coordinators.{split_goes, vote_goes, watch_goes}
 use Rattle.sc_hist_law.proofs.Ending.{finish_goes}
 use Rattle.sc_hist_law.proofs.MoveLaw.{move_told, moves_tell_worlds}

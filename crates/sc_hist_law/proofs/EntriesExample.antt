@@ -7,23 +7,18 @@ use Rattle.std.specs.FinMap.{empty, get, get-empty, get-insert}
 use Rattle.std.specs.Ordering.{nat_cmp}
 use Rattle.std.proofs.lemmas.Bool.{lt-ltb}
 use Rattle.std.proofs.lemmas.Option.{same_Some}
-use Rattle.sc_base.specs.Arc.{IsArc, holds, offset}
+use Rattle.sc_base.specs.Definitions.{IsArc, holds, offset}
 use Rattle.sc_base.specs.declared.ops.Noted.{Noted}
 use Rattle.sc_base.specs.declared.ops.Reply.{Reply}
 use Rattle.sc_cmd.specs.declared.commands.Command.TheVariants.{Call, Split}
 use Rattle.sc_cmd.specs.declared.effects.Effect.{Effect}
 use Rattle.sc_cmd.specs.declared.effects.Effect.TheVariants.{Changed}
-use Rattle.sc_ideal.specs.History.{Legal}
-use Rattle.sc_machine_table.specs.Group.{Group, group_of}
-use Rattle.sc_machine_table.specs.Machine.{applied, done, served_by_note}
-use Rattle.sc_machine_table.specs.Splits.{child_of, left_group}
-use Rattle.sc_machine_table.proofs.Parts.{clients_again}
+use Rattle.sc_ideal.specs.Definitions.{Legal}
+use Rattle.sc_machine_table.specs.Definitions.{Group, group_of, applied, done, served_by_note, child_of, left_group}
+use Rattle.sc_machine_table.proofs.Lemmas.{clients_again}
 use Rattle.sc_log_entries.specs.declared.Cut.{Cut}
-use Rattle.sc_log_entries.specs.Rings.{Covers, first_cut}
-use Rattle.sc_log_entries.specs.Worlds.{StoreWorld, first_world, told, with_result, world_after, world_of}
-use Rattle.sc_hist_law.specs.Example.{ExampleOfEntries, answers_with, example_log, get_a, get_entry, lone_base, offspring, put_a, put_entry, split_entry, two_requests}
-use Rattle.sc_hist_law.specs.Telling.{MayAllBeTold, MayBeTold, MayCall, MaySplit}
-use Rattle.sc_hist_law.specs.Worlds.{BeginBare, BeginsBare}
+use Rattle.sc_log_entries.specs.Definitions.{Covers, first_cut, StoreWorld, first_world, told, with_result, world_after, world_of}
+use Rattle.sc_hist_law.specs.Definitions.{ExampleOfEntries, answers_with, example_log, get_a, get_entry, lone_base, offspring, put_a, put_entry, split_entry, two_requests, MayAllBeTold, MayBeTold, MayCall, MaySplit, BeginBare, BeginsBare}
 use Rattle.sc_hist_law.proofs.Entries.{entries_tell}
 
 -- ---- the start

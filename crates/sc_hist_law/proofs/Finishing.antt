@@ -1,9 +1,8 @@
 -- What a party holds by the outcome of its transaction, whatever else its record remembers.
 use Rattle.std.specs.Prelude.{nat_le, length}
 use Rattle.std.proofs.Common.{◌≡◌, Bool, true, false, cond, ◌&&◌, not, List, ◌∷◌, [], Option, Some, None, refl, ap, ◌∙◌}
-use Rattle.sc_base.specs.Same.{same_draw}
+use Rattle.sc_base.specs.Definitions.{same_draw, united}
 use Rattle.sc_base.specs.declared.names.Draw.{Draw}
-use Rattle.sc_base.specs.Union.{united}
 use Rattle.sc_cmd.specs.declared.bodies.Offer.{Offer}
 use Rattle.sc_cmd.specs.declared.bodies.Watch.{Watch}
 use Rattle.sc_cmd.specs.declared.cores.Lock.{Lock}
@@ -14,15 +13,10 @@ use Rattle.sc_cmd.specs.declared.effects.Effect.TheVariants.{NoEffect}
 use Rattle.sc_cmd.specs.declared.votes.Outcome.{Outcome}
 use Rattle.sc_cmd.specs.declared.votes.Outcome.TheVariants.{Abort, Merged, Moved, Migrated, Divided}
 use Rattle.sc_cmd.specs.declared.votes.Past.{Past}
-use Rattle.sc_machine_table.specs.Group.{Group}
-use Rattle.sc_machine_table.specs.Finishes.{can_gain, finished, gained_group, lost_group, participant_after, settled_in, watch_ended, welcomed_group}
-use Rattle.sc_machine_table.specs.Machine.{applied}
-use Rattle.sc_machine_table.specs.Plans.{can_cut, has_key_of}
-use Rattle.sc_machine_table.specs.Transactions.{is_coordinating}
+use Rattle.sc_machine_table.specs.Definitions.{Group, can_gain, finished, gained_group, lost_group, participant_after, settled_in, watch_ended, welcomed_group, applied, can_cut, has_key_of, is_coordinating}
 use Rattle.sc_log_entries.specs.declared.Transaction.{Transaction}
-use Rattle.sc_log_entries.specs.Decisions.{decision}
-use Rattle.sc_log_entries.specs.Effective.{after_outcome, effective_by, is_commit}
-use Rattle.sc_hist_law.specs.Moves.{Holding, holding_of}
+use Rattle.sc_log_entries.specs.Definitions.{decision, after_outcome, effective_by, is_commit}
+use Rattle.sc_hist_law.specs.Definitions.{Holding, holding_of}
 use Rattle.sc_hist_law.proofs.Elsewhere.{held_by}
 use Rattle.sc_hist_law.proofs.Outcomes.{commit_in, no_commit}
 

@@ -3,20 +3,16 @@ use Rattle.std.proofs.Common.{◌≡◌, List, [], ◌∷◌, ◌++◌, map, Opt
 use Rattle.std.specs.List.{filter}
 use Rattle.std.specs.Option.{option_to_list}
 use Rattle.std.proofs.lemmas.Bool.{cond-true, cond-false}
-use Rattle.sc_base.specs.Same.{same_draw}
+use Rattle.sc_base.specs.Definitions.{same_draw}
 use Rattle.sc_base.specs.declared.names.Draw.{Draw}
-use Rattle.sc_base.proofs.NameLemmas.{same_name}
+use Rattle.sc_base.proofs.Lemmas.{same_name}
 use Rattle.sc_cmd.specs.declared.commands.Command.{Command}
-use Rattle.sc_machine_table.specs.Group.{Group, group_of}
-use Rattle.sc_machine_table.specs.Logs.{state_after}
-use Rattle.sc_machine_table.specs.Machine.{applied}
-use Rattle.sc_log_entries.specs.Births.{birth_of}
+use Rattle.sc_machine_table.specs.Definitions.{Group, group_of, state_after, applied}
+use Rattle.sc_log_entries.specs.Definitions.{birth_of, StoreWorld, after_command, first_world, named_group, told, with_group, world_of}
 use Rattle.sc_log_entries.specs.declared.LogEntry.{LogEntry}
-use Rattle.sc_log_entries.specs.Worlds.{StoreWorld, after_command, first_world, named_group, told, with_group, world_of}
-use Rattle.sc_log_entries.proofs.Pushes.{world_append}
-use Rattle.sc_hist_law.specs.Fronts.{FrontsAnswerByHistory, LogsMakeStates, log_in}
+use Rattle.sc_log_entries.proofs.Lemmas.{world_append, found_name, other_name, draw_cases}
+use Rattle.sc_hist_law.specs.Definitions.{FrontsAnswerByHistory, LogsMakeStates, log_in}
 use Rattle.sc_hist_law.proofs.Divisions.{found_left}
-use Rattle.sc_log_entries.proofs.Names.{found_name, other_name, draw_cases}
 use Rattle.sc_hist_law.proofs.Found.{found_now, found_still}
 use Rattle.sc_hist_law.proofs.Logs.{applied_same}
 

@@ -2,15 +2,13 @@
 use Rattle.std.proofs.Common.{◌≡◌, ℕ, ◌<◌, ◌^◌, true, ◌&&◌, List, ◌⊎◌, inl, inr, sym, ap, ◌∙◌}
 use Rattle.std.proofs.lemmas.Bool.{and_from, both_ways, or_cases}
 use Rattle.std.specs.FinMap.{empty, entries}
-use Rattle.sc_base.specs.Arc.{Arc, IsArc, CanCut, CanJoin, holds, before, from, joined}
-use Rattle.sc_base.specs.Text.{pos_of}
-use Rattle.sc_base.proofs.ArcLemmas.{cuts_join, joins_hold}
-use Rattle.sc_ideal.specs.History.{contents_after}
-use Rattle.sc_ideal.specs.IdealStore.{key_of, part_of, with_pairs}
+use Rattle.sc_base.specs.Definitions.{Arc, IsArc, CanCut, CanJoin, holds, before, from, joined, pos_of}
+use Rattle.sc_base.proofs.Lemmas.{cuts_join, joins_hold}
+use Rattle.sc_ideal.specs.Definitions.{contents_after, key_of, part_of, with_pairs}
 use Rattle.sc_ideal.specs.declared.Entry.{Entry}
-use Rattle.sc_ideal.proofs.Joins.{parts_join}
-use Rattle.sc_machine_table.proofs.Parts.{part_within, first_inside, second_inside, parts_turned}
-use Rattle.sc_hist_law.specs.Moves.{Holding, IsToldOf, part_before, part_from, with_next, with_previous}
+use Rattle.sc_ideal.proofs.Lemmas.{parts_join}
+use Rattle.sc_machine_table.proofs.Lemmas.{part_within, first_inside, second_inside, parts_turned}
+use Rattle.sc_hist_law.specs.Definitions.{Holding, IsToldOf, part_before, part_from, with_next, with_previous}
 use Rattle.sc_hist_law.proofs.Tables.{noted_left, noted_right, notes_joined}
 
 -- an arc of the ring

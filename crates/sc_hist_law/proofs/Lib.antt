@@ -32,3 +32,4 @@ pub mod Shares
 pub mod Staying
 pub mod Tables
 pub mod Told
+pub mod Lemmas

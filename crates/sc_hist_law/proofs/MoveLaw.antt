@@ -3,23 +3,17 @@ use Rattle.std.proofs.Common.{◌≡◌, List, [], ◌∷◌, ◌++◌, Option, 
 use Rattle.std.specs.FinMap.{empty, get, get-empty}
 use Rattle.std.specs.Option.{option_map, option_and_then}
 use Rattle.std.specs.Ordering.{nat_cmp}
-use Rattle.sc_base.specs.Among.{Among}
-use Rattle.sc_base.specs.Arc.{Arc}
+use Rattle.sc_base.specs.Definitions.{Among, Arc}
 use Rattle.sc_base.specs.declared.names.Draw.{Draw}
 use Rattle.sc_cmd.specs.declared.cores.Base.{Base}
-use Rattle.sc_ideal.specs.Clients.{ClientTable}
-use Rattle.sc_ideal.specs.History.{contents_after}
-use Rattle.sc_ideal.specs.IdealStore.{part_of}
+use Rattle.sc_ideal.specs.Definitions.{ClientTable, contents_after, part_of}
 use Rattle.sc_ideal.specs.declared.Entry.{Entry}
-use Rattle.sc_machine_table.specs.Group.{Group}
+use Rattle.sc_machine_table.specs.Definitions.{Group}
 use Rattle.sc_log_entries.specs.declared.Cut.{Cut}
 use Rattle.sc_log_entries.specs.declared.LogEntry.{LogEntry}
-use Rattle.sc_log_entries.specs.Effective.{effective}
-use Rattle.sc_log_entries.specs.Rings.{arc_in}
-use Rattle.sc_log_entries.specs.Worlds.{StoreWorld, first_world, named_group, told, world_after, world_of}
-use Rattle.sc_log_entries.proofs.Pushes.{world_append}
-use Rattle.sc_hist_law.specs.Moves.{RequestOf, HasNotes, TellsHoldings, entries_by, holding_of, holdings_after}
-use Rattle.sc_hist_law.specs.Worlds.{AllMakeMoves, BeginBare, EntriesThatMoveTell, HasKnownTable, IsMoveTo, MakesMove, holdings_in}
+use Rattle.sc_log_entries.specs.Definitions.{effective, arc_in, StoreWorld, first_world, named_group, told, world_after, world_of}
+use Rattle.sc_log_entries.proofs.Lemmas.{world_append}
+use Rattle.sc_hist_law.specs.Definitions.{RequestOf, HasNotes, TellsHoldings, entries_by, holding_of, holdings_after, AllMakeMoves, BeginBare, EntriesThatMoveTell, HasKnownTable, IsMoveTo, MakesMove, holdings_in}
 use Rattle.sc_hist_law.proofs.Cuts.{has_cut}
 use Rattle.sc_hist_law.proofs.MovesKept.{move_kept, same_told}
 use Rattle.sc_hist_law.proofs.QuietLaw.{first_notes, first_told}

@@ -4,16 +4,15 @@ use Rattle.std.specs.Cmp.{nat_cmp_total}
 use Rattle.std.specs.Cmp.Lexicographic.{slice_cmp, nat_list_cmp_total}
 use Rattle.std.specs.FinMap.{empty, get, get-empty, get-insert}
 use Rattle.std.specs.Ordering.{nat_cmp}
-use Rattle.sc_base.specs.Arc.{IsArc}
+use Rattle.sc_base.specs.Definitions.{IsArc}
 use Rattle.sc_base.specs.declared.names.Draw.{Draw}
 use Rattle.sc_base.specs.declared.ops.Reply.{Reply}
-use Rattle.sc_ideal.specs.Clients.{later}
-use Rattle.sc_ideal.proofs.Tables.{joined_by_number}
-use Rattle.sc_hist_law.specs.Moves.{Holding, AreBare, MayMakeAll, history_by, part_before, part_from, with_previous, with_request}
-use Rattle.sc_hist_law.specs.Example.{ExampleOfMoves, answers_with, bare_ring, example_moves, lone_holdings, offspring, parent, put_a, two_requests}
+use Rattle.sc_ideal.specs.Definitions.{later}
+use Rattle.sc_ideal.proofs.Lemmas.{joined_by_number}
+use Rattle.sc_hist_law.specs.Definitions.{Holding, AreBare, MayMakeAll, history_by, part_before, part_from, with_previous, with_request, ExampleOfMoves, answers_with, bare_ring, example_moves, lone_holdings, offspring, parent, put_a, two_requests}
 use Rattle.sc_hist_law.proofs.Disjoint.{holding_here, holding_there}
 use Rattle.sc_hist_law.proofs.MovesKept.{moves_tell}
-use Rattle.sc_log_entries.proofs.Names.{draw_cases}
+use Rattle.sc_log_entries.proofs.Lemmas.{draw_cases}
 use Rattle.std.proofs.lemmas.Option.{none-some, same_Some}
 
 -- only the group holds something

@@ -1,21 +1,17 @@
 -- Each move keeps what the history tells of what all groups hold, and so do all moves one after another.
-use Rattle.std.proofs.Common.{◌≡◌, cond, List, [], ◌∷◌, ◌++◌, Option, None, refl, sym, ap, ◌∙◌, subst, append-nil, append_assoc, arith}
+use Rattle.std.proofs.Common.{◌≡◌, List, [], ◌∷◌, ◌++◌, Option, refl, sym, ap, ◌∙◌, subst, append-nil, append_assoc, arith}
 use Rattle.std.specs.FinMap.{empty, get, get-empty}
 use Rattle.std.specs.Ordering.{nat_cmp}
-use Rattle.std.specs.Cmp.Lexicographic.{slice_cmp}
-use Rattle.sc_base.specs.Arc.{Arc}
 use Rattle.sc_base.specs.declared.names.Draw.{Draw}
-use Rattle.sc_base.proofs.CommonLemmas.{cond-same}
-use Rattle.sc_ideal.specs.History.{HasEntry}
-use Rattle.sc_ideal.specs.IdealStore.{holds_key, part_of}
+use Rattle.sc_ideal.specs.Definitions.{HasEntry}
 use Rattle.sc_ideal.specs.declared.Entry.{Entry}
-use Rattle.sc_ideal.proofs.Apart.{same_contents, get-part}
-use Rattle.sc_hist_law.specs.Moves.{Holding, Holdings, RequestOf, Move, Unmoved, ServedBy, DividedAt, JoinedTo, GivenFrom, TakenUpTo, MayMakeAll, MovesKeepHistories, MovesTellHistories, AreBare, TellsHoldings, with_holding, holdings_after, holdings_after_all, history_by, entries_by}
+use Rattle.sc_hist_law.specs.Definitions.{Holding, Holdings, RequestOf, Move, Unmoved, ServedBy, DividedAt, JoinedTo, GivenFrom, TakenUpTo, MayMakeAll, MovesKeepHistories, MovesTellHistories, AreBare, TellsHoldings, with_holding, holdings_after, holdings_after_all, history_by, entries_by}
 use Rattle.sc_hist_law.proofs.Disjoint.{IsGood, SharesOut, shared_disjoint, shared_told}
 use Rattle.sc_hist_law.proofs.Shares.{divided, joined_up, given, taken}
 use Rattle.sc_hist_law.proofs.Serving.{served_kept}
 use Rattle.sc_hist_law.proofs.Told.{entry_later}
 use Rattle.std.proofs.lemmas.Option.{none-some}
+use Rattle.sc_log_entries.proofs.Lemmas.{part_of_nothing as empty_part}
 
 -- ---- one move
 
@@ -82,13 +78,6 @@ history_front holdings (move ∷ front) more =
     ∙ sym (append_assoc (entries_by move holdings) (history_by (holdings_after move holdings) front) (history_by (holdings_after_all holdings (move ∷ front)) more))
 
 -- ---- from a bare start
-
-empty_part : (arc : Arc) → part_of arc empty ≡ empty
-empty_part arc = same_contents _ _ (λ key.
-    get-part empty (holds_key arc) key
-    ∙ ap (λ o. cond (holds_key arc key) o None) (get-empty (slice_cmp nat_cmp) key)
-    ∙ cond-same (holds_key arc key) None
-    ∙ sym (get-empty (slice_cmp nat_cmp) key))
 
 -- a bare start tells nothing
 pub bare_told : (request : RequestOf) (holdings : Holdings) → AreBare holdings → TellsHoldings request [] holdings

@@ -8,24 +8,19 @@ use Rattle.std.specs.FinMap.{entries, get, get-entries}
 use Rattle.std.specs.FinMap.Entries.{is_some-find}
 use Rattle.std.specs.Ordering.{nat_cmp, eq_by_cmp}
 use Rattle.std.proofs.lemmas.Bool.{and_parts, eq-eqb, eqb-false, eqb-true, le-leb, leb-true, ltb-true, not-true, or_right}
-use Rattle.sc_base.specs.Arc.{Arc, CanCut, CanJoin, IsArc, before, end_of, from, holds, offset}
-use Rattle.sc_base.specs.Text.{pos_of}
+use Rattle.sc_base.specs.Definitions.{Arc, CanCut, CanJoin, IsArc, before, end_of, from, holds, offset, pos_of, united}
 use Rattle.sc_base.specs.declared.names.Draw.{Draw}
-use Rattle.sc_base.proofs.ArcLemmas.{cuts_join, joins_hold}
-use Rattle.sc_base.proofs.NameLemmas.{same_name}
-use Rattle.sc_base.specs.Union.{united}
+use Rattle.sc_base.proofs.Lemmas.{cuts_join, joins_hold, same_name}
 use Rattle.sc_cmd.specs.declared.bodies.Offer.{Offer}
 use Rattle.sc_cmd.specs.declared.cores.Lock.TheVariants.{Promised}
 use Rattle.sc_cmd.specs.declared.effects.Effect.TheVariants.{NoEffect}
 use Rattle.sc_cmd.specs.declared.votes.Outcome.{Outcome}
 use Rattle.sc_cmd.specs.declared.votes.Outcome.TheVariants.{Moved, Migrated}
-use Rattle.sc_ideal.specs.IdealStore.{Contents, holds_key, part_of}
-use Rattle.sc_ideal.proofs.Apart.{get-part}
-use Rattle.sc_machine_table.specs.Finishes.{can_gain, finished, gained_group, lost_group, participant_after, settled_in, welcomed_group}
-use Rattle.sc_machine_table.specs.Group.{Group}
-use Rattle.sc_machine_table.specs.Plans.{can_cut, can_join, has_key_of, part_gift}
-use Rattle.sc_log_entries.specs.Effective.{after_outcome}
-use Rattle.sc_hist_law.specs.Moves.{holding_of, part_from, with_previous}
+use Rattle.sc_ideal.specs.Definitions.{Contents, holds_key, part_of}
+use Rattle.sc_ideal.proofs.Lemmas.{get-part}
+use Rattle.sc_machine_table.specs.Definitions.{can_gain, finished, gained_group, lost_group, participant_after, settled_in, welcomed_group, Group, can_cut, can_join, has_key_of, part_gift}
+use Rattle.sc_log_entries.specs.Definitions.{after_outcome}
+use Rattle.sc_hist_law.specs.Definitions.{holding_of, part_from, with_previous}
 use Rattle.sc_hist_law.proofs.PlanHoldings.{plans_move}
 
 -- ---- tests of arcs

@@ -7,20 +7,15 @@ use Rattle.sc_cmd.specs.declared.cores.Lock.{Lock}
 use Rattle.sc_cmd.specs.declared.cores.Lock.TheVariants.{Free, Coordinating, Promised, Watching}
 use Rattle.sc_cmd.specs.declared.votes.Frozen.{Frozen}
 use Rattle.sc_cmd.specs.declared.votes.Outcome.{Outcome}
-use Rattle.sc_machine_table.specs.Group.{Group}
-use Rattle.sc_machine_table.specs.Orders.{locked_in}
+use Rattle.sc_machine_table.specs.Definitions.{Group, locked_in}
 use Rattle.sc_log_entries.specs.declared.Transaction.{Transaction}
-use Rattle.sc_log_entries.specs.Decisions.{concluded}
-use Rattle.sc_log_entries.specs.Effective.{after_outcome, effective_by}
-use Rattle.sc_log_entries.specs.Worlds.{StoreWorld, named_group}
-use Rattle.sc_hist_law.specs.Moves.{holding_of}
-use Rattle.sc_hist_law.specs.Telling.{IsItsOwn, IsParty}
-use Rattle.sc_hist_law.specs.Worlds.{holdings_in}
+use Rattle.sc_log_entries.specs.Definitions.{concluded, after_outcome, effective_by, StoreWorld, named_group}
+use Rattle.sc_hist_law.specs.Definitions.{holding_of, IsItsOwn, IsParty, holdings_in}
 use Rattle.sc_hist_law.proofs.Elsewhere.{held_by, holds_own}
 use Rattle.sc_hist_law.proofs.Finishing.{coordinating_held, free_held, promised_held, watching_held}
 use Rattle.sc_hist_law.proofs.Outcomes.{commit_in, other_concluded, own_concluded, same_party}
 use Rattle.sc_hist_law.proofs.Staying.{none_committed}
-use Rattle.sc_log_entries.proofs.Names.{draw_cases}
+use Rattle.sc_log_entries.proofs.Lemmas.{draw_cases}
 
 -- who has not promised in a transaction holds the same whatever it comes to
 pub others_held : (transactions : List Transaction) (tx coordinator : Draw) (outcome : Outcome) (group : Group) (lock : Lock) → group.core.lock ≡ lock → ((offer : Offer) → lock ≡ Promised tx offer → ⊥)

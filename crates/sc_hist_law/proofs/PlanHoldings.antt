@@ -2,15 +2,13 @@
 use Rattle.std.proofs.Common.{◌≡◌, ℕ, true, false, refl, ap, ◌∙◌}
 use Rattle.std.proofs.lemmas.Bool.{cond-true, cond-false}
 use Rattle.std.specs.FinMap.{empty, entries}
-use Rattle.sc_base.specs.Arc.{Arc, before, from, holds, joined}
+use Rattle.sc_base.specs.Definitions.{Arc, before, from, holds, joined}
 use Rattle.sc_base.specs.declared.names.Draw.{Draw}
 use Rattle.sc_cmd.specs.declared.bodies.Offer.{Offer}
-use Rattle.sc_ideal.specs.Clients.{ClientTable, joined_with}
-use Rattle.sc_ideal.specs.IdealStore.{Contents, part_of, with_pairs}
-use Rattle.sc_machine_table.specs.Group.{Group}
-use Rattle.sc_machine_table.proofs.Parts.{clients_again, pairs_again}
-use Rattle.sc_hist_law.specs.Moves.{Holding}
-use Rattle.sc_hist_law.specs.PlanMoves.{DividesHolding, GivesHolding, PlansAreMoves, TakesHolding}
+use Rattle.sc_ideal.specs.Definitions.{ClientTable, joined_with, Contents, part_of, with_pairs}
+use Rattle.sc_machine_table.specs.Definitions.{Group}
+use Rattle.sc_machine_table.proofs.Lemmas.{clients_again, pairs_again}
+use Rattle.sc_hist_law.specs.Definitions.{Holding, DividesHolding, GivesHolding, PlansAreMoves, TakesHolding}
 
 abbrev held : Arc → Contents → ClientTable → Holding
 held arc pairs clients = record { arc = arc; pairs = pairs; clients = clients }

@@ -1,6 +1,6 @@
 -- Positions round the ring.
 use Rattle.std.proofs.Common.{◌≡◌, ℕ, ◌+◌, ◌-◌, ◌%◌, ◌^◌, ◌<◌, nat_lt, ap, arith}
-use Rattle.sc_base.specs.Arc.{Arc, holds}
+use Rattle.sc_base.specs.Definitions.{Arc, holds}
 
 same_offset : (lo p : ℕ) → lo < 2 ^ 32 → ((p % 2 ^ 32 + 2 ^ 32) - lo) % 2 ^ 32 ≡ ((p + 2 ^ 32) - lo) % 2 ^ 32
 same_offset lo p fits = omega arith

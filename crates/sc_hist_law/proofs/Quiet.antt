@@ -4,13 +4,11 @@ use Rattle.sc_cmd.specs.declared.commands.Command.{Command}
 use Rattle.sc_cmd.specs.declared.commands.Command.TheVariants.{Noop, Call, Join, Leave, Split, Begin, Prepared, RecordVote, GiveUp, Finish, Watched, RecordWatch}
 use Rattle.sc_cmd.specs.declared.cores.Core.{Core}
 use Rattle.sc_cmd.specs.declared.effects.Effect.{Effect}
-use Rattle.sc_machine_table.specs.Group.{Group}
-use Rattle.sc_log_entries.specs.Births.{birth_of}
+use Rattle.sc_machine_table.specs.Definitions.{Group}
+use Rattle.sc_log_entries.specs.Definitions.{birth_of, transactions_after, ring_after}
 use Rattle.sc_log_entries.specs.declared.Cut.{Cut}
 use Rattle.sc_log_entries.specs.declared.Transaction.{Transaction}
-use Rattle.sc_log_entries.specs.Decisions.{transactions_after}
-use Rattle.sc_log_entries.specs.Rings.{ring_after}
-use Rattle.sc_hist_law.specs.Laws.{LeavesWhole}
+use Rattle.sc_hist_law.specs.Definitions.{LeavesWhole}
 
 -- no group is born
 pub no_birth : (group : Group) (c : Command) (effect : Effect) → LeavesWhole c → birth_of group c effect ≡ None

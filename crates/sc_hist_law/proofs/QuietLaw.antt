@@ -4,25 +4,19 @@ use Rattle.std.specs.FinMap.{empty}
 use Rattle.std.specs.Option.{option_map}
 use Rattle.std.specs.List.{find}
 use Rattle.std.proofs.lemmas.Bool.{cases_Bool, cond-true, cond-false}
-use Rattle.sc_base.specs.Among.{Among, Each}
-use Rattle.sc_base.specs.Arc.{Arc, holds}
+use Rattle.sc_base.specs.Definitions.{Among, Each, Arc, holds}
 use Rattle.sc_base.specs.declared.names.Draw.{Draw}
-use Rattle.sc_base.proofs.CommonLemmas.{map-some}
-use Rattle.sc_base.proofs.NameLemmas.{draw_is}
+use Rattle.sc_base.proofs.Lemmas.{map-some, draw_is}
 use Rattle.sc_cmd.specs.declared.cores.Base.{Base}
-use Rattle.sc_ideal.specs.History.{contents_after}
-use Rattle.sc_ideal.specs.IdealStore.{part_of, with_pairs}
-use Rattle.sc_ideal.specs.Clients.{joined_with}
-use Rattle.sc_machine_table.specs.Group.{Group, group_of}
+use Rattle.sc_ideal.specs.Definitions.{contents_after, part_of, with_pairs, joined_with}
+use Rattle.sc_machine_table.specs.Definitions.{Group, group_of}
 use Rattle.sc_log_entries.specs.declared.Cut.{Cut}
 use Rattle.sc_log_entries.specs.declared.LogEntry.{LogEntry}
-use Rattle.sc_log_entries.specs.Rings.{Covers, arc_in, first_cut, is_cut_of}
-use Rattle.sc_log_entries.specs.Worlds.{StoreWorld, first_world, is_named, named_group, world_of}
-use Rattle.sc_log_entries.proofs.Pushes.{world_append}
-use Rattle.sc_paxos_words.proofs.ListLemmas.{find_found, Each-split, one_of_name}
-use Rattle.sc_paxos_law.proofs.Among.{from_map}
-use Rattle.sc_hist_law.specs.Moves.{Holding, RequestOf, AreBare, HasNotes, TellsHoldings, holding_of}
-use Rattle.sc_hist_law.specs.Worlds.{BeginBare, IsQuiet, IsToldWorld, QuietEntriesTell, holdings_in}
+use Rattle.sc_log_entries.specs.Definitions.{Covers, arc_in, first_cut, is_cut_of, StoreWorld, first_world, is_named, named_group, world_of}
+use Rattle.sc_log_entries.proofs.Lemmas.{world_append}
+use Rattle.sc_paxos_words.proofs.Lemmas.{find_found, Each-split, one_of_name}
+use Rattle.sc_paxos_law.proofs.Lemmas.{from_map}
+use Rattle.sc_hist_law.specs.Definitions.{Holding, RequestOf, AreBare, HasNotes, TellsHoldings, holding_of, BeginBare, IsQuiet, IsToldWorld, QuietEntriesTell, holdings_in}
 use Rattle.sc_hist_law.proofs.MovesKept.{bare_told}
 use Rattle.sc_hist_law.proofs.Cuts.{cut_of}
 use Rattle.sc_hist_law.proofs.Holdings.{IsOnRing}

@@ -1,7 +1,7 @@
 -- The world of several groups, where no entry divides a group or is of a transaction.
 use Rattle.std.proofs.Common.{◌≡◌, ℕ, List, [], ◌∷◌, ◌++◌, map, Option, Some, None, inl, inr, refl, sym, ap, ◌∙◌, subst, append-nil, append_assoc}
 use Rattle.std.specs.Option.{option_map, option_and_then}
-use Rattle.sc_base.specs.Among.{Each}
+use Rattle.sc_base.specs.Definitions.{Each, Arc}
 use Rattle.sc_base.specs.declared.names.Draw.{Draw}
 use Rattle.sc_base.specs.declared.ops.Op.{Op}
 use Rattle.sc_cmd.specs.declared.commands.Command.{Command}
@@ -11,30 +11,20 @@ use Rattle.sc_cmd.specs.declared.cores.Core.{Core}
 use Rattle.sc_cmd.specs.declared.cores.Lock.{Lock}
 use Rattle.sc_cmd.specs.declared.cores.Lock.TheVariants.{Free, Coordinating, Promised, Watching}
 use Rattle.sc_cmd.specs.declared.effects.Effect.{Effect}
-use Rattle.sc_ideal.specs.Clients.{ClientTable}
-use Rattle.sc_ideal.specs.History.{HasEntry}
+use Rattle.sc_ideal.specs.Definitions.{ClientTable, HasEntry}
 use Rattle.sc_ideal.specs.declared.Entry.{Entry}
-use Rattle.sc_machine_table.specs.Group.{Group}
-use Rattle.sc_machine_table.specs.Logs.{entry_of}
-use Rattle.sc_machine_table.specs.Machine.{applied, done}
-use Rattle.sc_machine_table.specs.Orders.{ordered, refusal_of, with_node, without_node}
-use Rattle.sc_base.specs.Arc.{Arc}
+use Rattle.sc_machine_table.specs.Definitions.{Group, entry_of, applied, done, ordered, refusal_of, with_node, without_node}
 use Rattle.sc_log_entries.specs.declared.LogEntry.{LogEntry}
-use Rattle.sc_log_entries.specs.Effective.{effective, effective_by}
-use Rattle.sc_log_entries.specs.Rings.{arc_in, first_cut}
-use Rattle.sc_log_entries.specs.Births.{birth_of}
-use Rattle.sc_log_entries.specs.Worlds.{StoreWorld, after_command, named_group, told, with_result, world_after}
+use Rattle.sc_log_entries.specs.Definitions.{effective, effective_by, arc_in, first_cut, birth_of, StoreWorld, after_command, named_group, told, with_result, world_after}
 use Rattle.sc_hist_law.proofs.Elsewhere.{own_group, here, there}
-use Rattle.sc_hist_law.specs.Laws.{LeavesWhole}
-use Rattle.sc_hist_law.specs.Moves.{Holding, RequestOf, MayServe, TellsHoldings, HasNotes, ServedBy, entries_by, holding_of, holdings_after, request_entry, with_request}
-use Rattle.sc_hist_law.specs.Worlds.{holdings_in, IsAskedCall, IsQuiet}
+use Rattle.sc_hist_law.specs.Definitions.{LeavesWhole, Holding, RequestOf, MayServe, TellsHoldings, HasNotes, ServedBy, entries_by, holding_of, holdings_after, request_entry, with_request, holdings_in, IsAskedCall, IsQuiet}
 use Rattle.sc_hist_law.proofs.Disjoint.{holding_here, holding_there}
 use Rattle.sc_hist_law.proofs.Logs.{OnlyMembers, ordered_either}
 use Rattle.sc_hist_law.proofs.MovesKept.{move_kept, same_told}
 use Rattle.sc_hist_law.proofs.Quiet.{no_birth, same_transactions, same_ring}
 use Rattle.sc_hist_law.proofs.Requests.{TakesEffect, request_cases}
 use Rattle.sc_hist_law.proofs.Told.{entry_later}
-use Rattle.sc_log_entries.proofs.Names.{draw_cases}
+use Rattle.sc_log_entries.proofs.Lemmas.{draw_cases}
 
 -- ---- without transactions the effective record is the group's own
 

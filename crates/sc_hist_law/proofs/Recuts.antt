@@ -4,15 +4,14 @@ use Rattle.std.proofs.Common.{◌≡◌, Bool, true, false, cond, List, [], ◌�
 use Rattle.std.specs.List.{filter, find, flat_map}
 use Rattle.std.specs.Option.{option_map}
 use Rattle.std.proofs.lemmas.Bool.{cases_Bool, cond-true, cond-false, not-true}
-use Rattle.sc_base.specs.Arc.{Arc, before, from}
-use Rattle.sc_base.specs.Same.{same_draw}
+use Rattle.sc_base.specs.Definitions.{Arc, before, from, same_draw}
 use Rattle.sc_base.specs.declared.names.Draw.{Draw}
-use Rattle.sc_base.proofs.NameLemmas.{draw_is, same_name}
-use Rattle.sc_paxos_words.proofs.ListLemmas.{find_filter, find_nothing, Each-passes, Each-weaker}
+use Rattle.sc_base.proofs.Lemmas.{draw_is, same_name}
+use Rattle.sc_paxos_words.proofs.Lemmas.{find_filter, find_nothing, Each-passes, Each-weaker}
 use Rattle.sc_log_entries.specs.declared.Cut.{Cut}
 use Rattle.sc_log_entries.specs.declared.Division.{Division}
-use Rattle.sc_log_entries.specs.Rings.{arc_in, is_cut_of, parts_of, recut}
-use Rattle.sc_log_entries.proofs.Names.{other_name}
+use Rattle.sc_log_entries.specs.Definitions.{arc_in, is_cut_of, parts_of, recut}
+use Rattle.sc_log_entries.proofs.Lemmas.{other_name}
 
 -- whether a group has a cut
 abbrev pub has_arc : Draw → List Cut → Bool

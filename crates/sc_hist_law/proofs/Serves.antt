@@ -9,21 +9,17 @@ use Rattle.sc_cmd.specs.declared.commands.Command.TheVariants.{Call}
 use Rattle.sc_cmd.specs.declared.cores.Lock.{Lock}
 use Rattle.sc_cmd.specs.declared.cores.Lock.TheVariants.{Free, Coordinating, Promised, Watching}
 use Rattle.sc_cmd.specs.declared.effects.Effect.{Effect}
-use Rattle.sc_ideal.specs.IdealStore.{key_of, holds_key}
-use Rattle.sc_machine_table.specs.Group.{Group}
-use Rattle.sc_machine_table.specs.Machine.{applied, done}
+use Rattle.sc_ideal.specs.Definitions.{key_of, holds_key}
+use Rattle.sc_machine_table.specs.Definitions.{Group, applied, done}
 use Rattle.sc_log_entries.specs.declared.Transaction.{Transaction}
-use Rattle.sc_log_entries.specs.Effective.{is_open}
-use Rattle.sc_log_entries.specs.Worlds.{StoreWorld, named_group, with_result}
-use Rattle.sc_hist_law.specs.Moves.{RequestOf, ServedBy, holding_of, request_entry, with_request}
-use Rattle.sc_hist_law.specs.Telling.{MayCall}
-use Rattle.sc_hist_law.specs.Worlds.{holdings_in}
+use Rattle.sc_log_entries.specs.Definitions.{is_open, StoreWorld, named_group, with_result}
+use Rattle.sc_hist_law.specs.Definitions.{RequestOf, ServedBy, holding_of, request_entry, with_request, MayCall, holdings_in}
 use Rattle.sc_hist_law.proofs.Disjoint.{holding_here, holding_there}
 use Rattle.sc_hist_law.proofs.Elsewhere.{elsewhere, held_by, held_some, here, own_group, tables_from, holds_own}
 use Rattle.sc_hist_law.proofs.Finishing.{free_held, watching_held}
 use Rattle.sc_hist_law.proofs.Requests.{TakesEffect, request_cases}
 use Rattle.sc_hist_law.proofs.Staying.{Goes, idles}
-use Rattle.sc_log_entries.proofs.Names.{draw_cases}
+use Rattle.sc_log_entries.proofs.Lemmas.{draw_cases}
 
 -- an open group holds what its own log says
 open_held : (lock : Lock) (transactions : List Transaction) (group : Group) → group.core.lock ≡ lock → is_open lock ≡ true → held_by transactions group ≡ holding_of group

@@ -5,26 +5,23 @@ use Rattle.std.specs.FinMap.{empty, get, get-insert}
 use Rattle.std.specs.Option.{option_map}
 use Rattle.std.proofs.lemmas.Bool.{cases_Bool, eqb-true, eq-eqb, cond-true, cond-false}
 use Rattle.std.proofs.lemmas.Option.{same_Some}
-use Rattle.sc_base.specs.Among.{Among}
-use Rattle.sc_base.specs.Arc.{holds}
-use Rattle.sc_base.specs.Text.{pos_of}
+use Rattle.sc_base.specs.Definitions.{Among, holds, pos_of}
 use Rattle.sc_base.specs.declared.names.Draw.{Draw}
 use Rattle.sc_base.specs.declared.ops.Noted.{Noted}
 use Rattle.sc_base.specs.declared.ops.Op.{Op}
 use Rattle.sc_base.specs.declared.ops.Reply.{Reply}
-use Rattle.sc_ideal.specs.History.{AreApart, HasEntry, contents_after}
-use Rattle.sc_ideal.specs.IdealStore.{Contents, key_of, reply_of, after, holds_key, part_of}
+use Rattle.sc_ideal.specs.Definitions.{AreApart, HasEntry, contents_after, Contents, key_of, reply_of, after, holds_key, part_of}
 use Rattle.sc_ideal.specs.declared.Entry.{Entry}
-use Rattle.sc_ideal.proofs.Apart.{apart, get-part}
-use Rattle.sc_paxos_law.proofs.Among.{Among-right, Among-either}
-use Rattle.sc_hist_law.specs.Moves.{Holding, Holdings, RequestOf, MayServe, TellsHoldings, IsToldOf, IsNotedIn, with_request, with_holding, holdings_after, entries_by, AreDisjoint, ServedBy, request_entry}
+use Rattle.sc_ideal.proofs.Lemmas.{apart, get-part}
+use Rattle.sc_paxos_law.proofs.Lemmas.{Among-right, Among-either}
+use Rattle.sc_hist_law.specs.Definitions.{Holding, Holdings, RequestOf, MayServe, TellsHoldings, IsToldOf, IsNotedIn, with_request, with_holding, holdings_after, entries_by, AreDisjoint, ServedBy, request_entry}
 use Rattle.sc_hist_law.proofs.Disjoint.{holding_here, holding_there}
 use Rattle.sc_hist_law.proofs.Holdings.{IsOnRing}
 use Rattle.sc_hist_law.proofs.Kept.{IsApart, all_pairs, apart_push}
 use Rattle.sc_hist_law.proofs.Told.{replay_push, after_push, entry_later}
-use Rattle.sc_log_entries.proofs.Names.{draw_cases}
-use Rattle.sc_paxos_words.proofs.ListLemmas.{Each-from_All}
-use Rattle.sc_base.proofs.Pairs.{AllPairs-head, AllPairs-tail}
+use Rattle.sc_log_entries.proofs.Lemmas.{draw_cases}
+use Rattle.sc_paxos_words.proofs.Lemmas.{Each-from_All}
+use Rattle.sc_base.proofs.Lemmas.{AllPairs-head, AllPairs-tail}
 
 -- entries that are apart, one by one
 one_by_one : (es : List Entry) → AllPairs AreApart es → IsApart es

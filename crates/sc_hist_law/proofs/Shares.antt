@@ -1,10 +1,10 @@
 -- Each move but a request shares out between two groups what the two held.
 use Rattle.std.proofs.Common.{◌≡◌, ℕ, true, List, Option, Some, None, ◌⊎◌, inl, inr, sym, ap, ◌∙◌, subst}
 use Rattle.std.specs.Option.{option_map}
-use Rattle.sc_base.specs.Arc.{before, from, holds}
+use Rattle.sc_base.specs.Definitions.{before, from, holds}
 use Rattle.sc_base.specs.declared.names.Draw.{Draw}
 use Rattle.sc_ideal.specs.declared.Entry.{Entry}
-use Rattle.sc_hist_law.specs.Moves.{Holding, Holdings, AreDisjoint, IsToldOf, IsBetween, MayDivide, CanFollow, CanGive, CanTake, part_before, part_from, with_next, with_previous, both_holdings}
+use Rattle.sc_hist_law.specs.Definitions.{Holding, Holdings, AreDisjoint, IsToldOf, IsBetween, MayDivide, CanFollow, CanGive, CanTake, part_before, part_from, with_next, with_previous, both_holdings}
 use Rattle.sc_hist_law.proofs.Holdings.{IsOnRing, before_arc, from_arc, parts_apart, before_told, from_told, joined_from, joined_arc, next_told, previous_told}
 use Rattle.sc_hist_law.proofs.Disjoint.{HoldsAt, IsGood, SharesOut, owner}
 use Rattle.std.proofs.lemmas.Option.{none-some, same_Some}

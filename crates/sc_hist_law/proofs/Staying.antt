@@ -18,26 +18,14 @@ use Rattle.sc_cmd.specs.declared.orders.OrderRefusal.{OrderRefusal}
 use Rattle.sc_cmd.specs.declared.orders.OrderRefusal.TheVariants.{NotLeader}
 use Rattle.sc_cmd.specs.declared.votes.No.{No}
 use Rattle.sc_cmd.specs.declared.votes.Outcome.{Outcome}
-use Rattle.sc_machine_table.specs.Group.{Group}
-use Rattle.sc_machine_table.specs.Logs.{entry_of}
-use Rattle.sc_machine_table.specs.Machine.{applied}
-use Rattle.sc_machine_table.specs.Orders.{locked_in, ordered, refusal_of, refused_in, with_node, without_node}
-use Rattle.sc_machine_table.specs.Splits.{has_named}
-use Rattle.sc_machine_table.specs.Transactions.{aborted, begun_group, is_coordinating}
-use Rattle.sc_machine_table.specs.Votes.{bound_by, has_voted, no_of, offer_no, past_of, vote_of, voted_on, watch_no, watch_vote_of}
-use Rattle.sc_log_entries.specs.Births.{birth_of}
+use Rattle.sc_machine_table.specs.Definitions.{Group, entry_of, applied, locked_in, ordered, refusal_of, refused_in, with_node, without_node, has_named, aborted, begun_group, is_coordinating, bound_by, has_voted, no_of, offer_no, past_of, vote_of, voted_on, watch_no, watch_vote_of}
+use Rattle.sc_log_entries.specs.Definitions.{birth_of, begun_transaction, decision, is_commit, arc_in, ring_after, StoreWorld, named_group, with_result}
 use Rattle.sc_log_entries.specs.declared.Transaction.{Transaction}
-use Rattle.sc_log_entries.specs.Decisions.{begun_transaction, decision}
-use Rattle.sc_log_entries.specs.Effective.{is_commit}
-use Rattle.sc_log_entries.specs.Rings.{arc_in, ring_after}
-use Rattle.sc_log_entries.specs.Worlds.{StoreWorld, named_group, with_result}
-use Rattle.sc_hist_law.specs.Moves.{RequestOf, Unmoved, holding_of}
-use Rattle.sc_hist_law.specs.Worlds.{HasKnownTable, IsMoveTo}
-use Rattle.sc_hist_law.specs.Telling.{IsUncommitted}
+use Rattle.sc_hist_law.specs.Definitions.{RequestOf, Unmoved, holding_of, HasKnownTable, IsMoveTo, IsUncommitted}
 use Rattle.sc_hist_law.proofs.Elsewhere.{elsewhere, held_by, itself, same_table, tables_from}
 use Rattle.sc_hist_law.proofs.Finishing.{coordinator_held, free_held, promised_held, votes_held, watching_held, with_votes}
 use Rattle.sc_hist_law.proofs.Outcomes.{abort_concluded, commit_in, one_begun, same_party}
-use Rattle.sc_log_entries.proofs.Names.{draw_cases}
+use Rattle.sc_log_entries.proofs.Lemmas.{draw_cases}
 
 -- ---- what is decided, by commits
 

@@ -8,8 +8,7 @@ use Rattle.sc_base.specs.declared.names.Draw.{Draw}
 use Rattle.sc_base.specs.declared.ops.Op.{Op}
 use Rattle.sc_base.specs.declared.ops.Reply.{Reply}
 use Rattle.sc_base.specs.declared.ops.Noted.{Noted}
-use Rattle.sc_ideal.specs.IdealStore.{Contents, key_of, reply_of, after, holds_key}
-use Rattle.sc_ideal.specs.History.{HasEntry, HasStoreReplies, contents_after}
+use Rattle.sc_ideal.specs.Definitions.{Contents, key_of, reply_of, after, holds_key, HasEntry, HasStoreReplies, contents_after}
 use Rattle.sc_ideal.specs.declared.Entry.{Entry}
 use Rattle.sc_cmd.specs.declared.links.Route.{Route}
 use Rattle.sc_cmd.specs.declared.cores.Lock.{Lock}
@@ -18,15 +17,12 @@ use Rattle.sc_cmd.specs.declared.commands.Command.{Command}
 use Rattle.sc_cmd.specs.declared.commands.Command.TheVariants.{Noop, Call, Join, Leave, Split, Begin, Prepared, RecordVote, GiveUp, Finish, Watched, RecordWatch}
 use Rattle.sc_cmd.specs.declared.effects.Effect.{Effect}
 use Rattle.sc_cmd.specs.declared.effects.Effect.TheVariants.{Done, Again, Stale, NotMine, Gone, NoEffect}
-use Rattle.sc_machine_table.specs.Group.{Group}
-use Rattle.sc_machine_table.specs.Machine.{applied, done, served_by_note, served, called}
-use Rattle.sc_machine_table.specs.Orders.{refusal_of, with_node, without_node}
-use Rattle.sc_base.specs.Among.{Among, Each}
-use Rattle.sc_paxos_words.proofs.ListLemmas.{Each-among}
-use Rattle.sc_paxos_law.proofs.Among.{Among-left, Among-right, Among-either}
-use Rattle.sc_hist_law.specs.Laws.{HoldsNothing, IsNoted, IsReplied, IsDone, LeavesWhole, LogsTellHistories}
-use Rattle.sc_machine_table.specs.Logs.{state_after, entry_by, entry_of, done_by}
-use Rattle.sc_machine_table.proofs.LogLemmas.{done_push}
+use Rattle.sc_machine_table.specs.Definitions.{Group, applied, done, served_by_note, served, called, refusal_of, with_node, without_node, state_after, entry_by, entry_of, done_by}
+use Rattle.sc_base.specs.Definitions.{Among, Each}
+use Rattle.sc_paxos_words.proofs.Lemmas.{Each-among}
+use Rattle.sc_paxos_law.proofs.Lemmas.{Among-left, Among-right, Among-either}
+use Rattle.sc_hist_law.specs.Definitions.{HoldsNothing, IsNoted, IsReplied, IsDone, LeavesWhole, LogsTellHistories}
+use Rattle.sc_machine_table.proofs.Lemmas.{done_push}
 use Rattle.sc_hist_law.proofs.Logs.{ordered_either}
 use Rattle.sc_hist_law.proofs.Kept.{IsApart, all_pairs, apart_push, apart_right}
 

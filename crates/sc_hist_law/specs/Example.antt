@@ -9,7 +9,7 @@ use Rattle.sc_cmd.specs.declared.commands.Command.TheVariants.{Call, Split}
 use Rattle.sc_cmd.specs.declared.cores.Base.{Base}
 use Rattle.sc_cmd.specs.declared.cores.Lock.TheVariants.{Free}
 use Rattle.sc_log_entries.specs.declared.LogEntry.{LogEntry}
-use Rattle.sc_log_entries.specs.Worlds.{first_world, world_of}
+use Rattle.sc_log_entries.specs.Definitions.{first_world, world_of}
 use Rattle.sc_hist_law.specs.Telling.{MayAllBeTold}
 use Rattle.sc_hist_law.specs.Worlds.{BeginBare}
 use Rattle.sc_hist_law.specs.Moves.{Holding, Holdings, Move, DividedAt, GivenFrom, ServedBy, RequestOf, AreBare, MayMakeAll, history_by, with_holding}

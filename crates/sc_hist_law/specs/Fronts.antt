@@ -1,14 +1,13 @@
 -- What the notes of a group's log, after each front of it, say of the history of all entries.
 use Rattle.std.specs.Prelude.{◌≡◌, List, ◌++◌, map, Some}
 use Rattle.std.specs.List.{filter}
-use Rattle.sc_base.specs.Same.{same_draw}
+use Rattle.sc_base.specs.Definitions.{same_draw}
 use Rattle.sc_base.specs.declared.names.Draw.{Draw}
 use Rattle.sc_cmd.specs.declared.commands.Command.{Command}
 use Rattle.sc_cmd.specs.declared.cores.Base.{Base}
-use Rattle.sc_machine_table.specs.Group.{Group}
-use Rattle.sc_machine_table.specs.Logs.{state_after}
+use Rattle.sc_machine_table.specs.Definitions.{Group, state_after}
 use Rattle.sc_log_entries.specs.declared.LogEntry.{LogEntry}
-use Rattle.sc_log_entries.specs.Worlds.{StoreWorld, named_group, world_after, world_of}
+use Rattle.sc_log_entries.specs.Definitions.{StoreWorld, named_group, world_after, world_of}
 use Rattle.sc_hist_law.specs.Moves.{HasNotes}
 use Rattle.sc_hist_law.specs.Worlds.{LogNotesStay}
 

@@ -8,12 +8,10 @@ use Rattle.sc_cmd.specs.declared.commands.Command.{Command}
 use Rattle.sc_cmd.specs.declared.commands.Command.TheVariants.{Noop, Call, Join, Leave, Split, Begin, Prepared, RecordVote, GiveUp, Finish, Watched, RecordWatch}
 use Rattle.sc_cmd.specs.declared.effects.Effect.{Effect}
 use Rattle.sc_cmd.specs.declared.effects.Effect.TheVariants.{Done, Again}
-use Rattle.sc_ideal.specs.History.{Legal, HasEntry, contents_after}
+use Rattle.sc_ideal.specs.Definitions.{Legal, HasEntry, contents_after}
 use Rattle.sc_ideal.specs.declared.Entry.{Entry}
-use Rattle.sc_machine_table.specs.Group.{Group}
-use Rattle.sc_machine_table.specs.Machine.{applied}
-use Rattle.sc_base.specs.Among.{Among, Each}
-use Rattle.sc_machine_table.specs.Logs.{state_after, effects_of, done_by}
+use Rattle.sc_machine_table.specs.Definitions.{Group, applied, state_after, effects_of, done_by}
+use Rattle.sc_base.specs.Definitions.{Among, Each}
 
 -- a group that holds nothing and has noted nothing
 pub record HoldsNothing (group : Group) : Type 0 where

@@ -5,3 +5,4 @@ pub mod Moves
 pub mod PlanMoves
 pub mod Telling
 pub mod Worlds
+pub mod Definitions

@@ -2,17 +2,13 @@
 use Rattle.std.specs.Prelude.{◌≡◌, ◌≢◌, ℕ, ◌<◌, ◌≤◌, ◌^◌, IsTrue, List, [], ◌∷◌, ◌++◌, if◌then◌else◌, Option, Some, None}
 use Rattle.std.specs.FinMap.{empty, get, insert, entries}
 use Rattle.std.specs.Option.{option_map}
-use Rattle.sc_base.specs.Among.{Among}
-use Rattle.sc_base.specs.Arc.{Arc, IsArc, CanCut, CanJoin, holds, before, from, joined}
-use Rattle.sc_base.specs.Same.{same_draw}
+use Rattle.sc_base.specs.Definitions.{Among, Arc, IsArc, CanCut, CanJoin, holds, before, from, joined, same_draw}
 use Rattle.sc_base.specs.declared.names.Draw.{Draw}
 use Rattle.sc_base.specs.declared.ops.Noted.{Noted}
 use Rattle.sc_base.specs.declared.ops.Op.{Op}
-use Rattle.sc_ideal.specs.Clients.{ClientTable, joined_with}
-use Rattle.sc_ideal.specs.History.{Legal, HasEntry, contents_after}
-use Rattle.sc_ideal.specs.IdealStore.{Contents, key_of, reply_of, after, holds_key, part_of, with_pairs}
+use Rattle.sc_ideal.specs.Definitions.{ClientTable, joined_with, Legal, HasEntry, contents_after, Contents, key_of, reply_of, after, holds_key, part_of, with_pairs}
 use Rattle.sc_ideal.specs.declared.Entry.{Entry}
-use Rattle.sc_machine_table.specs.Group.{Group}
+use Rattle.sc_machine_table.specs.Definitions.{Group}
 
 -- ---- what groups hold
 

@@ -1,19 +1,13 @@
 -- How the plans of the group machine move what groups hold: each is a move of two holdings.
 use Rattle.std.specs.Prelude.{◌≡◌, ℕ, true, false}
-use Rattle.sc_base.specs.Arc.{holds}
+use Rattle.sc_base.specs.Definitions.{holds}
 use Rattle.sc_base.specs.declared.names.Draw.{Draw}
 use Rattle.sc_base.specs.declared.ops.Op.{Op}
 use Rattle.sc_cmd.specs.declared.bodies.Offer.{Offer}
 use Rattle.sc_cmd.specs.declared.bodies.Watch.{Watch}
 use Rattle.sc_cmd.specs.declared.votes.Frozen.{Frozen}
 use Rattle.sc_cmd.specs.declared.votes.Outcome.{Outcome}
-use Rattle.sc_machine_table.specs.Finishes.{gained_group, lost_group, party_freed, watcher_after, welcomed_group}
-use Rattle.sc_machine_table.specs.Group.{Group, group_of}
-use Rattle.sc_machine_table.specs.Machine.{done}
-use Rattle.sc_machine_table.specs.Orders.{with_node, without_node}
-use Rattle.sc_machine_table.specs.Plans.{closing_group, frozen_of, giving_group, merged_group, migrated_group, part_gift, taking_group}
-use Rattle.sc_machine_table.specs.Splits.{child_of, left_group}
-use Rattle.sc_machine_table.specs.Transactions.{decided_group}
+use Rattle.sc_machine_table.specs.Definitions.{gained_group, lost_group, party_freed, watcher_after, welcomed_group, Group, group_of, done, with_node, without_node, closing_group, frozen_of, giving_group, merged_group, migrated_group, part_gift, taking_group, child_of, left_group, decided_group}
 use Rattle.sc_hist_law.specs.Moves.{holding_of, part_before, part_from, with_next, with_previous, with_request}
 
 -- a split: the group keeps the part before the boundary, and its child has the rest

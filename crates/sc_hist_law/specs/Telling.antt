@@ -1,6 +1,6 @@
 -- What has to hold of a world for an entry to move what groups hold as a move says: facts of its group, of its transaction and of the other party.
 use Rattle.std.specs.Prelude.{◌≡◌, ◌≢◌, ℕ, ◌<◌, ◌^◌, true, false, IsTrue, List, [], ◌∷◌, Option, Some, None}
-use Rattle.sc_base.specs.Arc.{Arc, CanJoin}
+use Rattle.sc_base.specs.Definitions.{Arc, CanJoin}
 use Rattle.sc_base.specs.declared.names.Draw.{Draw}
 use Rattle.sc_cmd.specs.declared.bodies.Offer.{Offer}
 use Rattle.sc_cmd.specs.declared.commands.Command.{Command}
@@ -17,21 +17,13 @@ use Rattle.sc_cmd.specs.declared.votes.Past.{Past}
 use Rattle.sc_cmd.specs.declared.votes.Past.TheVariants as Cast
 use Rattle.sc_cmd.specs.declared.votes.Vote.{Vote}
 use Rattle.sc_cmd.specs.declared.votes.Vote.TheVariants as Says
-use Rattle.sc_cmd.specs.Cores.{is_alone}
-use Rattle.sc_ideal.specs.IdealStore.{key_of}
-use Rattle.sc_machine_table.specs.Group.{Group}
-use Rattle.sc_machine_table.specs.Orders.{locked_in}
-use Rattle.sc_machine_table.specs.Plans.{frozen_of}
-use Rattle.sc_machine_table.specs.Splits.{has_named}
-use Rattle.sc_machine_table.specs.Transactions.{is_coordinating}
-use Rattle.sc_machine_table.specs.Votes.{has_voted}
+use Rattle.sc_cmd.specs.Definitions.{is_alone}
+use Rattle.sc_ideal.specs.Definitions.{key_of}
+use Rattle.sc_machine_table.specs.Definitions.{Group, locked_in, frozen_of, has_named, is_coordinating, has_voted}
 use Rattle.sc_base.specs.declared.ops.Op.{Op}
 use Rattle.sc_log_entries.specs.declared.LogEntry.{LogEntry}
 use Rattle.sc_log_entries.specs.declared.Transaction.{Transaction}
-use Rattle.sc_log_entries.specs.Decisions.{decision, transaction_in}
-use Rattle.sc_log_entries.specs.Effective.{is_commit, serves}
-use Rattle.sc_log_entries.specs.Rings.{arc_in}
-use Rattle.sc_log_entries.specs.Worlds.{StoreWorld, first_world, named_group, told}
+use Rattle.sc_log_entries.specs.Definitions.{decision, transaction_in, is_commit, serves, arc_in, StoreWorld, first_world, named_group, told}
 use Rattle.sc_hist_law.specs.Moves.{RequestOf, TellsHoldings}
 use Rattle.sc_hist_law.specs.Worlds.{BeginBare, MakesMove, TellByMoves, holdings_in}
 

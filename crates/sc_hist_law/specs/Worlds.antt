@@ -2,19 +2,16 @@
 use Rattle.std.specs.Prelude.{◌≡◌, ◌⊎◌, List, [], ◌∷◌, ◌++◌, map, Some}
 use Rattle.std.specs.FinMap.{empty}
 use Rattle.std.specs.Option.{option_map, option_and_then}
-use Rattle.sc_base.specs.Among.{Among, Each}
+use Rattle.sc_base.specs.Definitions.{Among, Each}
 use Rattle.sc_base.specs.declared.names.Draw.{Draw}
 use Rattle.sc_cmd.specs.declared.commands.Command.{Command}
 use Rattle.sc_cmd.specs.declared.commands.Command.TheVariants.{Noop, Call, Join, Leave, Split, Begin, Prepared, RecordVote, GiveUp, Finish, Watched, RecordWatch}
 use Rattle.sc_cmd.specs.declared.cores.Base.{Base}
-use Rattle.sc_ideal.specs.History.{Legal}
-use Rattle.sc_machine_table.specs.Group.{Group}
+use Rattle.sc_ideal.specs.Definitions.{Legal}
+use Rattle.sc_machine_table.specs.Definitions.{Group}
 use Rattle.sc_log_entries.specs.declared.Cut.{Cut}
 use Rattle.sc_log_entries.specs.declared.LogEntry.{LogEntry}
-use Rattle.sc_log_entries.specs.Effective.{effective}
-use Rattle.sc_log_entries.specs.Parts.{HoldsItsPart}
-use Rattle.sc_log_entries.specs.Rings.{Covers, arc_in, first_cut}
-use Rattle.sc_log_entries.specs.Worlds.{StoreWorld, first_world, named_group, told, world_of}
+use Rattle.sc_log_entries.specs.Definitions.{effective, HoldsItsPart, Covers, arc_in, first_cut, StoreWorld, first_world, named_group, told, world_of}
 use Rattle.sc_hist_law.specs.Laws.{LeavesWhole}
 use Rattle.sc_hist_law.specs.Moves.{Holding, Holdings, Move, RequestOf, HasNotes, MayMake, TellsHoldings, entries_by, holding_of, holdings_after}
 

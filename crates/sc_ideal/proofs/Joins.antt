@@ -7,11 +7,9 @@ use Rattle.std.specs.Cmp.{IsTotalOrder}
 use Rattle.std.specs.Cmp.Lexicographic.{slice_cmp, nat_list_cmp_total}
 use Rattle.std.specs.FinMap.{find, is_sorted, get, insert, entries, get-insert, get-entries, entries_sorted}
 use Rattle.std.specs.FinMap.Entries.{below_all}
-use Rattle.sc_base.specs.Arc.{joined}
-use Rattle.sc_base.specs.Text.{pos_of}
-use Rattle.sc_base.proofs.ArcLemmas.{joins_hold}
-use Rattle.sc_ideal.specs.IdealStore.{Contents, holds_key, part_of, with_pairs}
-use Rattle.sc_ideal.specs.Laws.{MapPartsJoin}
+use Rattle.sc_base.specs.Definitions.{joined, pos_of}
+use Rattle.sc_base.proofs.Lemmas.{joins_hold}
+use Rattle.sc_ideal.specs.Definitions.{Contents, holds_key, part_of, with_pairs, MapPartsJoin}
 use Rattle.sc_ideal.proofs.Apart.{same_contents, get-part}
 use lib.Dec.{T}
 

@@ -7,9 +7,8 @@ use Rattle.std.proofs.lemmas.Map.Lookups.{exact_unsigned}
 use Rattle.std.proofs.lemmas.Bool.Decides.{nat_tests}
 use Rattle.std.proofs.lemmas.Bool.{lt-ltb, le-ltb, cases_lt}
 use Rattle.sc_base.specs.declared.ops.Noted.{Noted}
-use Rattle.sc_base.proofs.CommonLemmas.{cond-same}
-use Rattle.sc_ideal.specs.Clients.{ClientTable, is_later, with_later, joined_with, later}
-use Rattle.sc_ideal.specs.Laws.{JoinedByNumber, JoinedInAnyOrder, Agree, noted_number}
+use Rattle.sc_base.proofs.Lemmas.{cond-same}
+use Rattle.sc_ideal.specs.Definitions.{ClientTable, is_later, with_later, joined_with, later, JoinedByNumber, JoinedInAnyOrder, Agree, noted_number}
 use Rattle.sc_ideal.proofs.Joins.{ties, none_past, sorted_rest}
 use lib.Dec.{T}
 

@@ -1,7 +1,7 @@
 -- Histories of requests and replies, and which are legal on the ideal store.
 -- The ideal store is the sequential object of linearizability (Herlihy and Wing, 1990).
 use Rattle.std.specs.Prelude.{◌≡◌, ℕ, List, [], ◌∷◌, Some, None, AllPairs}
-use Rattle.sc_base.specs.Among.{Among}
+use Rattle.sc_base.specs.Definitions.{Among}
 use Rattle.sc_base.specs.declared.ops.Reply.{Reply}
 use Rattle.sc_base.specs.declared.ops.Op.TheVariants.{Get, Put, Add, Cas}
 use Rattle.std.specs.FinMap.{empty}

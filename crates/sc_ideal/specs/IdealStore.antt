@@ -3,8 +3,7 @@ use Rattle.std.specs.Prelude.{ℕ, Bool, false, List, Option, Some, None, fold, 
 use Rattle.std.specs.Ordering.{nat_cmp}
 use Rattle.std.specs.Cmp.Lexicographic.{slice_cmp, pointwise}
 use Rattle.std.specs.FinMap.{FinMap, get, insert, remove, retain_keys}
-use Rattle.sc_base.specs.Arc.{Arc, holds}
-use Rattle.sc_base.specs.Text.{pos_of}
+use Rattle.sc_base.specs.Definitions.{Arc, holds, pos_of}
 pub use Rattle.sc_base.specs.Operation.{key_of}
 use Rattle.sc_base.specs.declared.ops.Op.{Op}
 use Rattle.sc_base.specs.declared.ops.Op.TheVariants.{Get, Put, Del, Add, Cas}

@@ -2,7 +2,7 @@
 use Rattle.std.specs.Prelude.{◌≡◌, ℕ, ◌<◌, ◌^◌, Bool, List, Option, Some, None, if◌then◌else◌}
 use Rattle.std.specs.Option.{option_map}
 use Rattle.std.specs.FinMap.{retain_keys, get, entries}
-use Rattle.sc_base.specs.Arc.{Arc, IsArc, CanJoin, joined}
+use Rattle.sc_base.specs.Definitions.{Arc, IsArc, CanJoin, joined}
 use Rattle.sc_base.specs.declared.ops.Op.{Op}
 use Rattle.sc_base.specs.declared.ops.Noted.{Noted}
 use Rattle.sc_ideal.specs.IdealStore.{Contents, key_of, after, part_of, with_pairs}

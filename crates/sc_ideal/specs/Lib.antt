@@ -2,3 +2,4 @@ pub mod Clients
 pub mod History
 pub mod IdealStore
 pub mod Laws
+pub mod Definitions

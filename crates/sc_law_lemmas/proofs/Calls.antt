@@ -1,12 +1,8 @@
 -- What a walk through the queue of calls finds, and what it leaves of them.
 use Rattle.std.proofs.Common.{◌≡◌, ℕ, Bool, false, List, [], ◌∷◌, Option, Some, None, refl}
 use Rattle.std.proofs.lemmas.Bool.{cond_both}
-use Rattle.sc_cmd.specs.declared.commands.Command.{Command}
-use Rattle.sc_cmd.specs.declared.cores.Core.{Core}
-use Rattle.sc_mail.specs.declared.bodies.AnswerBody.{AnswerBody}
-use Rattle.sc_mail.specs.declared.bodies.Mail.{Mail}
-use Rattle.sc_node_table.specs.Mails.{answered}
-use Rattle.sc_node_table.specs.Pump.{waits, turned_down, next_call}
+use Rattle.sc_node_table.specs.Values.{Command, Core, AnswerBody, Mail}
+use Rattle.sc_node_table.specs.Definitions.{answered, waits, turned_down, next_call}
 
 -- Q holds of the calls that are left with the mails so far, and N of what is found: it does where nothing is taken and where a call is,
 -- and Q goes on where one is turned down

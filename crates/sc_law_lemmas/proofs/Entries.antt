@@ -3,13 +3,9 @@ use Rattle.std.proofs.Common.{◌≡◌, ℕ, ◌+◌, ◌-◌, ◌≤◌, ◌&&
 use Rattle.std.specs.Prelude.{nat_le}
 use Rattle.std.proofs.lemmas.Bool.{cond-true, eq-eqb}
 use Rattle.std.proofs.lemmas.List.{length_push}
-use Rattle.sc_cmd.specs.declared.commands.Command.{Command}
-use Rattle.sc_paxos_words.specs.declared.answers.Learnt.{Learnt}
-use Rattle.sc_paxos_words.specs.Logs.{LogState, next_of, log_cut}
-use Rattle.sc_node_table.specs.Execute.{with_entry, entered, executed_one, next_child, has_room, ending, executed_ready}
-use Rattle.sc_node_table.specs.Pump.{pumped, pumped_from}
-use Rattle.sc_node_table.specs.Replica.{ReplicaState, Place, childless, next, first_set, may_offer, floor_of, forgotten, last_slot}
-use Rattle.sc_node_table.specs.Slots.{at_slot}
+use Rattle.sc_node_table.specs.Values.{Command, Learnt}
+use Rattle.sc_paxos_words.specs.Definitions.{LogState, next_of, log_cut}
+use Rattle.sc_node_table.specs.Definitions.{with_entry, entered, executed_one, next_child, has_room, ending, executed_ready, pumped, pumped_from, ReplicaState, Place, childless, next, first_set, may_offer, floor_of, forgotten, last_slot, at_slot}
 
 -- an entry is put behind the others
 pub entry_is : (command : Command) (log : LogState Command) → with_entry command log ≡ record log { entries = log.entries ++ command ∷ [] }

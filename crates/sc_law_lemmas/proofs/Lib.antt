@@ -3,3 +3,13 @@ pub mod Calls
 pub mod Entries
 pub mod Places
 pub mod Ways
+pub mod Lemmas
+pub mod Counts
+pub mod Queues
+pub mod Walks
+pub mod WalkMails
+pub mod WalkParts
+pub mod WalkRows
+pub mod WalkTicks
+pub mod WalkNodes
+pub mod StateWalks

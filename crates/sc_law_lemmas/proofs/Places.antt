@@ -1,20 +1,9 @@
 -- What holds of a replica with its mails, and is kept by the parts of a row, is kept by the row.
 use Rattle.std.proofs.Common.{ℕ, ◌||◌, not, nat_le, nat_lt, Bool, true, List, [], ◌∷◌, filter, Option, Some, None}
-use Rattle.sc_base.specs.declared.names.Ballot.{Ballot}
-use Rattle.sc_cmd.specs.declared.commands.Command.{Command}
-use Rattle.sc_base.specs.Roster.{is_member}
-use Rattle.sc_paxos_words.specs.Leaders.{without_flight_at}
-use Rattle.sc_paxos_words.specs.Logs.{entry_at}
-use Rattle.sc_paxos_words.specs.Preparing.{prepared}
-use Rattle.sc_node_table.specs.Execute.{welcomed, slot_lost, landed, executed_one, next_child, next_ready, ending, executed_ready, all_ready, executed}
-use Rattle.sc_node_table.specs.Install.{install_to, welcomed_all}
-use Rattle.sc_node_table.specs.Pump.{pumped}
-use Rattle.sc_node_table.specs.Queues.{put_back}
-use Rattle.sc_node_table.specs.Replica.{ReplicaState, Place, Executed, childless, members, next, flying}
-use Rattle.sc_node_table.specs.Rows.{taught, most_taught, ask_answered, ask_row}
-use Rattle.sc_node_table.specs.Sameness.{same_command}
-use Rattle.sc_node_table.specs.Slots.{without_slot}
-use Rattle.sc_node_table.specs.Voting.{promise_to, promised}
+use Rattle.sc_node_table.specs.Values.{Ballot, Command}
+use Rattle.sc_base.specs.Definitions.{is_member}
+use Rattle.sc_paxos_words.specs.Definitions.{without_flight_at, entry_at, prepared}
+use Rattle.sc_node_table.specs.Definitions.{welcomed, slot_lost, landed, executed_one, next_child, next_ready, ending, executed_ready, all_ready, executed, install_to, welcomed_all, pumped, put_back, ReplicaState, Place, Executed, childless, members, next, flying, taught, most_taught, ask_answered, ask_row, same_command, without_slot, promise_to, promised}
 use Rattle.sc_law_lemmas.proofs.Ways.{either_way}
 
 -- a place with nothing in flight or ready at a slot

@@ -1,7 +1,7 @@
 -- One of two values, and the first of two that is there.
 use Rattle.std.proofs.Common.{◌≡◌, Bool, cond, Option, Some, None, refl}
 use Rattle.std.proofs.lemmas.Bool.{cond_both}
-use Rattle.sc_node_table.specs.Replica.{either}
+use Rattle.sc_node_table.specs.Definitions.{either}
 
 -- whichever it is
 pub either_way : {A : Type 0} (P : A → Type 0) (b : Bool) (x y : A) → P x → P y → P (cond b x y)

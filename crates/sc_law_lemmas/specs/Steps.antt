@@ -1,9 +1,8 @@
 -- What several laws say of a replica's step.
 use Rattle.std.specs.Prelude.{◌≡◌, ◌&&◌, false, Option, Some, None}
-use Rattle.sc_base.specs.declared.names.Ballot.{Ballot}
-use Rattle.sc_cmd.specs.declared.commands.Command.{Command}
-use Rattle.sc_paxos_words.specs.Ballots.{below}
-use Rattle.sc_node_table.specs.Replica.{ReplicaState}
+use Rattle.sc_node_table.specs.Values.{Ballot, Command}
+use Rattle.sc_paxos_words.specs.Definitions.{below}
+use Rattle.sc_node_table.specs.Definitions.{ReplicaState}
 
 -- no leader stops for this ballot
 abbrev pub GoesOn : Ballot → ReplicaState → Type 0

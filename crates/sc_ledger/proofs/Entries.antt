@@ -4,10 +4,10 @@ use Rattle.std.proofs.lemmas.List.{append-nil}
 use Rattle.std.proofs.lemmas.Bool.{lt-ltb, le-ltb}
 use Rattle.std.specs.Map.{remove_entry}
 use Rattle.indexmap.specs.IndexMap.{insert_entry}
-use Rattle.sc_actor.specs.Mail.{numbers}
-use Rattle.sc_ledger.specs.Queues.{open_entries, copies_in, lower, recounted}
+use Rattle.sc_actor.specs.Definitions.{numbers}
+use Rattle.sc_ledger.specs.Definitions.{open_entries, copies_in, lower, recounted}
 
-and_false : (b : Bool) → (b && false) ≡ false
+pub and_false : (b : Bool) → (b && false) ≡ false
 and_false true = refl
 and_false false = refl
 

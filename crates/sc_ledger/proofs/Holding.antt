@@ -4,15 +4,12 @@ use mathlib.Core.Logic.{dite}
 use native.Mathlib.Decide.{ℕ_discrete}
 use Rattle.std.proofs.lemmas.List.{length-set}
 use Rattle.std.proofs.lemmas.Bool.{ltb-true, and_parts, eqb-true, eqb-false}
-use Rattle.sc_actor.specs.Mail.{one_less, one_more}
+use Rattle.sc_actor.specs.Definitions.{one_less, one_more, numbers, kth}
 use Rattle.std.specs.List.{list_any}
 use Rattle.std.proofs.lemmas.List.Folds.{list_any-append}
 use Rattle.sc_ledger.specs.declared.queues.Queues.{Queues}
-use Rattle.sc_ledger.specs.Kept.{runs, counts_for}
+use Rattle.sc_ledger.specs.Definitions.{runs, counts_for, open_entries, copies_in, queue_of, recounted, kept, Holds}
 use Rattle.std.specs.Prelude.{IfSome}
-use Rattle.sc_actor.specs.Mail.{numbers}
-use Rattle.sc_actor.specs.System.{kth}
-use Rattle.sc_ledger.specs.Queues.{open_entries, copies_in, queue_of, recounted, kept, Holds}
 use Rattle.sc_ledger.proofs.Entries.{recounted_at, set_other, push_here, push_other, open_same, open_none, expand}
 
 or_true : (b : Bool) → (true || b) ≡ true

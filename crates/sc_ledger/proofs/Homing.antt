@@ -5,9 +5,9 @@ use Rattle.std.proofs.lemmas.Bool.Decides.{leb_tells}
 use Rattle.std.proofs.lemmas.List.{append-nil, length-replicate}
 use Rattle.sc_actor.specs.declared.rows.Row.{Row}
 use Rattle.std.proofs.lemmas.Option.{slice_get_past}
-use Rattle.sc_actor.specs.Mail.{mails, numbered}
-use Rattle.sc_ledger.specs.Homes.{homes_from, firsts_from}
-use Rattle.sc_actor.proofs.Numbers.{get_at}
+use Rattle.sc_actor.specs.Definitions.{mails, numbered}
+use Rattle.sc_ledger.specs.Definitions.{homes_from, firsts_from}
+use Rattle.sc_actor.proofs.Lemmas.{get_at}
 use Rattle.sc_ledger.proofs.Rows.{get_first, get_second}
 
 get_same : (c n i : ℕ) (xs : List ℕ) → i < c → get_or (replicate c n ++ xs) i 0 ≡ n

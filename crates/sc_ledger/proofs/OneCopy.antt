@@ -1,5 +1,5 @@
 -- The copies entry by entry, and the one at a place.
-use Rattle.std.proofs.Common.{◌≡◌, ℕ, zero, suc, ◌+◌, ◌-◌, ◌*◌, ◌<◌, ◌≤◌, ◌%◌, eqb, eq-eqb, List, [], ◌∷◌, ◌++◌, length, map, filter, fold, Bool, true, false, cond, replicate, get_or, take, drop, refl, sym, ap, ◌∙◌, subst, arith, append_assoc, append-nil, length-append, Option, Some, None, Result, Ok, Err, IfOk}
+use Rattle.std.proofs.Common.{◌≡◌, ℕ, zero, suc, ◌+◌, ◌-◌, ◌*◌, ◌<◌, ◌≤◌, ◌%◌, eqb, eq-eqb, List, [], ◌∷◌, ◌++◌, length, filter, fold, Bool, true, false, cond, replicate, get_or, take, drop, refl, sym, ap, ◌∙◌, arith, append_assoc, append-nil, length-append, Option, Some, None, Result, Ok, Err, IfOk}
 use Rattle.std.specs.Prelude.{slice_get}
 use Rattle.std.proofs.lemmas.List.{take_more, take_all, drop_more}
 use Rattle.std.proofs.lemmas.List.Elements.{filter-append}
@@ -7,8 +7,7 @@ use Rattle.std.proofs.lemmas.List.Sums.{fold-append}
 use Rattle.std.proofs.lemmas.Option.{none-some, slice_get_past}
 use Rattle.sc_base.specs.declared.dups.OutOfMemory.{OutOfMemory}
 use Rattle.sc_ledger.specs.declared.spots.Spot.{Spot}
-use Rattle.sc_ledger.specs.Queues.{copies_in}
-use Rattle.sc_ledger.specs.Spots.{is_one_of, copies_for, picked_spot, spot_after, spot_behind, spots_from}
+use Rattle.sc_ledger.specs.Definitions.{copies_in, copies_for, picked_spot, spot_after, spot_behind, spots_from}
 
 -- ---- lists
 

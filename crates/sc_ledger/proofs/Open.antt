@@ -9,13 +9,11 @@ use Rattle.std.specs.List.{list_any}
 use Rattle.std.specs.Option.{option_map}
 use Rattle.std.specs.Prelude.{slice_get, IsSome, IfSome}
 use Rattle.sc_actor.specs.declared.rows.Row.{Row}
-use Rattle.sc_actor.specs.Mail.{mails, copies, numbers, numbered, may_get, is_for}
-use Rattle.sc_actor.specs.System.{kth}
-use Rattle.sc_ledger.specs.Kept.{crashed_in, runs, counts_for}
-use Rattle.sc_ledger.specs.Pending.{upto, whose, pending_of, kth_pending, is_pending, may_have, may_repeat}
-use Rattle.sc_actor.proofs.CountLemmas.{counted}
-use Rattle.sc_actor.proofs.PendingLemmas.{pending_sound}
+use Rattle.sc_actor.specs.Definitions.{mails, copies, numbers, numbered, may_get, is_for, kth}
+use Rattle.sc_ledger.specs.Definitions.{crashed_in, runs, counts_for, upto, whose, pending_of, kth_pending, is_pending, may_have, may_repeat}
+use Rattle.sc_actor.proofs.Lemmas.{counted, pending_sound}
 use Rattle.sc_ledger.proofs.Kept.{crashed_any}
+use Rattle.sc_ledger.proofs.Entries.{and_false}
 
 one_more_number : (n r : ℕ) → ((nat_lt 0 r && nat_lt r (n + 1)) || (eqb (suc n) r || false)) ≡ (nat_lt 0 r && nat_lt r (suc n + 1))
 one_more_number n r = grind (arith, nat_tests)
@@ -60,10 +58,6 @@ module _ {M O : Type 0} (receiver : M → ℕ) (actors : ℕ) (rows : List (Row 
 
 some_copies : (c : ℕ) → nat_lt 0 (suc c) ≡ true
 some_copies c = grind (arith, nat_tests)
-
-and_false : (b : Bool) → (b && false) ≡ false
-and_false true = refl
-and_false false = refl
 
 any_replicate : (c n number : ℕ) → list_any (λ x. eqb x number) (replicate c n) ≡ (nat_lt 0 c && eqb n number)
 any_replicate zero n number = refl

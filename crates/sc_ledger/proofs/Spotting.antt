@@ -6,12 +6,9 @@ use Rattle.std.specs.List.{AllByRecursion, list_any}
 use Rattle.std.proofs.lemmas.Bool.{ltb-true, and_parts}
 use Rattle.std.proofs.Math.Nat.{add-zero}
 use Rattle.sc_actor.specs.declared.rows.Row.{Row}
-use Rattle.sc_actor.specs.Mail.{mails, copies, numbers}
-use Rattle.sc_actor.specs.System.{kth}
+use Rattle.sc_actor.specs.Definitions.{mails, copies, numbers, kth}
 use Rattle.sc_ledger.specs.declared.spots.Spot.{Spot}
-use Rattle.sc_ledger.specs.Kept.{crashed_in, runs, counts_for}
-use Rattle.sc_ledger.specs.Pending.{kth_pending}
-use Rattle.sc_ledger.specs.Spots.{spot_after, spots_from, spots_of}
+use Rattle.sc_ledger.specs.Definitions.{crashed_in, runs, counts_for, kth_pending, spot_after, spots_from, spots_of}
 use Rattle.sc_ledger.proofs.Open.{open_is}
 
 get_seam : (xs ys : List ℕ) (y : ℕ) → slice_get (xs ++ y ∷ ys) (length xs) ≡ Some y
@@ -54,7 +51,7 @@ module _ (to : ℕ → ℕ) where
   abbrev Fine : List ℕ → Spot → Type 0
   Fine numbers s = Stands numbers s × (0 < s.who)
 
-next_place : (first j : ℕ) → suc first + j ≡ first + suc j
+pub next_place : (first j : ℕ) → suc first + j ≡ first + suc j
 next_place first j = omega arith
 
 module _ (receivers : List ℕ) where

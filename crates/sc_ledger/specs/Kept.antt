@@ -2,7 +2,7 @@
 use Rattle.std.specs.Prelude.{ℕ, ◌+◌, ◌==◌, nat_lt, List, [], ◌∷◌, ◌++◌, Bool, ◌&&◌, ◌||◌, not, if◌then◌else◌}
 use Rattle.std.specs.List.{list_any}
 use Rattle.sc_actor.specs.declared.rows.Row.{Row}
-use Rattle.sc_actor.specs.Mail.{is_crash}
+use Rattle.sc_actor.specs.Definitions.{is_crash}
 
 -- the actors that crashed, in the order of their rows
 abbrev pub crashed_in : {M O : Type 0} → List (Row M O) → List ℕ

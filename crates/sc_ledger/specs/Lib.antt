@@ -4,3 +4,4 @@ pub mod Homes
 pub mod Fault
 pub mod Spots
 pub mod Queues
+pub mod Definitions

@@ -2,8 +2,7 @@
 use Rattle.std.specs.Prelude.{ℕ, zero, suc, ◌==◌, List, [], ◌∷◌, ◌++◌, Bool, false, Option, None, Some}
 use Rattle.std.specs.List.{list_any}
 use Rattle.sc_actor.specs.declared.rows.Row.{Row}
-use Rattle.sc_actor.specs.Mail.{mails, numbered, may_get, pending}
-use Rattle.sc_actor.specs.System.{kth}
+use Rattle.sc_actor.specs.Definitions.{mails, numbered, may_get, pending, kth}
 
 -- the numbers from 1 to n
 abbrev pub upto : ℕ → List ℕ

@@ -2,7 +2,7 @@
 use Rattle.std.specs.Prelude.{◌≡◌, ℕ, ◌<◌, ◌+◌, ◌-◌, ◌%◌, ◌==◌, List, [], ◌∷◌, ◌++◌, map, length, filter, fold, slice_get, slice_index, Bool, Option}
 use Rattle.std.specs.List.{list_any}
 use Rattle.sc_actor.specs.declared.rows.Row.{Row}
-use Rattle.sc_actor.specs.Mail.{mails}
+use Rattle.sc_actor.specs.Definitions.{mails}
 use Rattle.sc_ledger.specs.declared.spots.Spot.{Spot}
 use Rattle.sc_ledger.specs.Pending.{pending_of}
 

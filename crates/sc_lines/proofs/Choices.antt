@@ -1,9 +1,9 @@
 -- What options that are made of options gave.
 use Rattle.std.proofs.Common.{◌≡◌, ◌≤◌, ◌&&◌, ℕ, List, Some, None, Option, Bool, true, false, if◌then◌else◌, nat_le, refl, rules, arith}
 use Rattle.std.proofs.lemmas.Option.{same_Some}
-use Rattle.sc_base.proofs.CommonLemmas.{and_then-some}
-use Rattle.sc_base.specs.Number.{number_of, is_numeral, value_from}
-use Rattle.sc_lines.specs.Words.{count_in}
+use Rattle.sc_base.proofs.Lemmas.{and_then-some}
+use Rattle.sc_base.specs.Definitions.{number_of, is_numeral, value_from}
+use Rattle.sc_lines.specs.Definitions.{count_in}
 
 -- what a choice gives against nothing was given, and the test holds
 pub chosen : {X : Type 0} (b : Bool) (o : Option X) (x : X) → (if b then o else None) ≡ Some x → (b ≡ true) × (o ≡ Some x)

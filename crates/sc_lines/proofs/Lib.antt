@@ -1,3 +1,4 @@
 pub mod Choices
 pub mod Cuts
 mod Lists
+pub mod Lemmas

@@ -2,9 +2,7 @@
 use Rattle.std.specs.Prelude.{ℕ, ◌==◌, ◌||◌, not, nat_le, nat_eq, Bool, get_or, List, [], length, Option, Some, None, is_none, if◌then◌else◌, option_and_then}
 use Rattle.std.specs.List.{slice_split, filter}
 use Rattle.std.specs.Cmp.Lexicographic.{pointwise}
-use Rattle.sc_base.specs.Number.{number_of}
-use Rattle.sc_base.specs.Limits.{longest_key, longest_value}
-use Rattle.sc_base.specs.TextFault.{text_fault}
+use Rattle.sc_base.specs.Definitions.{number_of, longest_key, longest_value, text_fault}
 
 -- whether two texts are the same
 abbrev pub same : List ℕ → List ℕ → Bool

@@ -1,7 +1,7 @@
 -- The child that a command makes by the machine's table is the group that its entry gives birth to.
 use Rattle.std.proofs.Common.{◌≡◌, ℕ, Bool, true, false, ◌&&◌, if◌then◌else◌, Option, Some, None, refl}
 use Rattle.std.specs.Option.{option_map}
-use Rattle.sc_base.specs.Same.{same_draw}
+use Rattle.sc_base.specs.Definitions.{same_draw}
 use Rattle.sc_base.specs.declared.names.Draw.{Draw}
 use Rattle.sc_cmd.specs.declared.bodies.Body.{Body}
 use Rattle.sc_cmd.specs.declared.bodies.Body.TheVariants as At
@@ -17,18 +17,10 @@ use Rattle.sc_cmd.specs.declared.votes.Heard.{Heard}
 use Rattle.sc_cmd.specs.declared.votes.Outcome.TheVariants.{Merged, Divided}
 use Rattle.sc_cmd.specs.declared.votes.Past.{Past}
 use Rattle.sc_cmd.specs.declared.votes.Past.TheVariants as Cast
-use Rattle.sc_cmd.specs.Effects.{is_changed, is_divided}
-use Rattle.sc_cmd.specs.Cores.{is_alone}
-use Rattle.sc_machine_table.specs.Children.{ordered_child, released_child, answered_child, watched_child}
-use Rattle.sc_machine_table.specs.Group.{Group}
-use Rattle.sc_machine_table.specs.Machine.{split_group}
-use Rattle.sc_machine_table.specs.Orders.{refusal_of, ordered}
-use Rattle.sc_machine_table.specs.Plans.{can_split, may_merge, merged_group, merged_route}
-use Rattle.sc_machine_table.specs.Splits.{child_of, has_named, left_group}
-use Rattle.sc_machine_table.specs.Transactions.{asks_watcher, committed, released, watch_answered, watch_recorded}
+use Rattle.sc_cmd.specs.Definitions.{is_changed, is_divided, is_alone}
+use Rattle.sc_machine_table.specs.Definitions.{ordered_child, released_child, answered_child, watched_child, Group, split_group, refusal_of, ordered, can_split, may_merge, merged_group, merged_route, child_of, has_named, left_group, asks_watcher, committed, released, watch_answered, watch_recorded}
 use Rattle.sc_log_entries.specs.declared.Division.{Division}
-use Rattle.sc_log_entries.specs.Births.{division_in, division_by}
-use Rattle.sc_log_entries.specs.Laws.{BirthsAreChildren}
+use Rattle.sc_log_entries.specs.Definitions.{division_in, division_by, BirthsAreChildren}
 
 -- the child of a division
 abbrev child_at : Group → Option Division → Option Base

@@ -10,3 +10,4 @@ mod WorkedMoves
 mod WorkedPairs
 mod WorkedSplits
 pub mod Worked
+pub mod Lemmas

@@ -2,11 +2,11 @@
 use Rattle.std.proofs.Common.{◌≡◌, false, ◌⊎◌, List, [], ◌∷◌, Some, None, inl, inr, sym, ap, ◌∙◌}
 use Rattle.std.proofs.lemmas.Bool.{cases_Bool, cond-true, cond-false, false_from_ne_true, both_ways}
 use Rattle.std.proofs.lemmas.Option.{same_Some}
-use Rattle.sc_base.specs.Same.{same_draw}
+use Rattle.sc_base.specs.Definitions.{same_draw}
 use Rattle.sc_base.specs.declared.names.Draw.{Draw}
-use Rattle.sc_base.proofs.NameLemmas.{draw_is, same_name}
-use Rattle.sc_machine_table.specs.Group.{Group}
-use Rattle.sc_log_entries.specs.Worlds.{is_named, named_group}
+use Rattle.sc_base.proofs.Lemmas.{draw_is, same_name}
+use Rattle.sc_machine_table.specs.Definitions.{Group}
+use Rattle.sc_log_entries.specs.Definitions.{is_named, named_group}
 
 -- two names are one, or differ
 pub draw_cases : (a b : Draw) → (a ≡ b) ⊎ (a ≡ b → ⊥)

@@ -4,9 +4,9 @@ use Rattle.std.specs.FinMap.{empty, entries, len-empty, len-entries, get-empty}
 use Rattle.std.specs.Ordering.{nat_cmp}
 use Rattle.std.specs.declared.cmp.Ordering.{Ordering}
 use Rattle.std.specs.Cmp.Lexicographic.{slice_cmp}
-use Rattle.sc_base.specs.Arc.{Arc}
-use Rattle.sc_ideal.specs.IdealStore.{part_of, holds_key}
-use Rattle.sc_ideal.proofs.Apart.{same_contents, get-part}
+use Rattle.sc_base.specs.Definitions.{Arc}
+use Rattle.sc_ideal.specs.Definitions.{part_of, holds_key}
+use Rattle.sc_ideal.proofs.Lemmas.{same_contents, get-part}
 
 none_of : {X : Type 0} (xs : List X) → length xs ≡ 0 → xs ≡ []
 none_of [] e = refl
@@ -20,7 +20,7 @@ still_none : (b : Bool) → (let none : Option (List ℕ) = None in cond b none 
 still_none true = refl
 still_none false = refl
 
-part_of_nothing : (arc : Arc) → part_of arc empty ≡ empty
+pub part_of_nothing : (arc : Arc) → part_of arc empty ≡ empty
 part_of_nothing arc = same_contents _ _ (λ key.
     get-part empty (holds_key arc) key
     ∙ ap (λ o. cond (holds_key arc key) o None) (get-empty (slice_cmp nat_cmp) key)

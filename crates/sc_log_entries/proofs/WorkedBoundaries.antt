@@ -1,7 +1,7 @@
 -- Worked entries of boundaries that move: what they make of the ring and of the effective records, entry by entry, as a second implementation tells it. What is given away is a part of an empty store, which has no pairs.
 use Rattle.std.proofs.Common.{◌≡◌, Bool, false, not, if◌then◌else◌, List, [], ◌∷◌, Some, None, ◌∙◌, ap}
 use Rattle.std.specs.Ordering.{nat_cmp}
-use Rattle.sc_base.specs.Arc.{before, from}
+use Rattle.sc_base.specs.Definitions.{before, from}
 use Rattle.sc_base.specs.declared.ops.Noted.{Noted}
 use Rattle.sc_cmd.specs.declared.bodies.Body.TheVariants.{Repart}
 use Rattle.sc_cmd.specs.declared.commands.Command.{Command}
@@ -12,14 +12,10 @@ use Rattle.sc_cmd.specs.declared.votes.Frozen.{Frozen}
 use Rattle.sc_cmd.specs.declared.votes.Gift.{Gift}
 use Rattle.sc_cmd.specs.declared.votes.Outcome.TheVariants.{Moved}
 use Rattle.sc_cmd.specs.declared.votes.Vote.TheVariants.{Yes}
-use Rattle.sc_machine_table.specs.Group.{Group, group_of}
-use Rattle.sc_machine_table.specs.Machine.{applied}
-use Rattle.sc_machine_table.specs.Plans.{part_gift, has_key_of, taking_group}
-use Rattle.sc_machine_table.specs.Transactions.{committed}
+use Rattle.sc_machine_table.specs.Definitions.{Group, group_of, applied, part_gift, has_key_of, taking_group, committed}
 use Rattle.sc_log_entries.specs.declared.Transaction.{Transaction}
-use Rattle.sc_log_entries.specs.Effective.{after_outcome}
+use Rattle.sc_log_entries.specs.Definitions.{after_outcome, StoreWorld, first_world, world_of, world_after, with_result}
 use Rattle.sc_log_entries.specs.declared.LogEntry.{LogEntry}
-use Rattle.sc_log_entries.specs.Worlds.{StoreWorld, first_world, world_of, world_after, with_result}
 use Rattle.sc_log_entries.proofs.Nothing.{nothing_in, nothing_on}
 use Rattle.sc_log_entries.proofs.Worked.{draw, born, entry, cut, shown, seen, Shape, shape, shapes}
 

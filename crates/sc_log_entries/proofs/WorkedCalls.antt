@@ -11,10 +11,9 @@ use Rattle.sc_cmd.specs.declared.commands.Command.TheVariants.{Call}
 use Rattle.sc_cmd.specs.declared.cores.Base.{Base}
 use Rattle.sc_cmd.specs.declared.effects.Effect.{Effect}
 use Rattle.sc_ideal.specs.declared.Entry.{Entry}
-use Rattle.sc_machine_table.specs.Group.{Group, group_of}
-use Rattle.sc_machine_table.specs.Machine.{applied, done, served_by_note}
+use Rattle.sc_machine_table.specs.Definitions.{Group, group_of, applied, done, served_by_note}
 use Rattle.sc_log_entries.specs.declared.LogEntry.{LogEntry}
-use Rattle.sc_log_entries.specs.Worlds.{StoreWorld, first_world, world_of, world_after, with_result}
+use Rattle.sc_log_entries.specs.Definitions.{StoreWorld, first_world, world_of, world_after, with_result}
 use Rattle.sc_log_entries.proofs.Worked.{draw, born, entry}
 
 -- the first group has the key a, and the second the key m

@@ -2,11 +2,11 @@
 use Rattle.std.proofs.Common.{◌≡◌, ◌≢◌, ℕ, zero, suc, ◌+◌, ◌^◌, ◌<◌, Bool, true, false, ◌||◌, ◌&&◌, ◌⊎◌, [], ◌∷◌, refl, sym, ◌∙◌, ap, subst, inl, inr, eqb, arith}
 use Rattle.std.specs.Prelude.{AllPairs, IsTrue}
 use Rattle.std.proofs.lemmas.Bool.{eq-eqb, lt-ltb}
-use Rattle.sc_base.specs.Arc.{Arc, IsArc, CanJoin, holds, offset, joined}
+use Rattle.sc_base.specs.Definitions.{Arc, IsArc, CanJoin, holds, offset, joined}
 use Rattle.sc_base.specs.declared.names.Draw.{Draw}
-use Rattle.sc_base.proofs.ArcLemmas.{joins_hold}
+use Rattle.sc_base.proofs.Lemmas.{joins_hold}
 use Rattle.sc_log_entries.specs.declared.Cut.{Cut}
-use Rattle.sc_log_entries.specs.Rings.{Covers}
+use Rattle.sc_log_entries.specs.Definitions.{Covers}
 use Rattle.sc_log_entries.proofs.Worked.{draw, cut}
 
 -- an arc of the whole ring holds each position
@@ -14,7 +14,7 @@ all_held : (arc : Arc) → arc.lo < 2 ^ 32 → arc.len ≡ 2 ^ 32 → (p : ℕ) 
 all_held arc lo_fits whole p fits = lt-ltb (offset arc p) arc.len (omega arith)
 
 -- one of two tests
-one_of : (a b : Bool) → (a || b) ≡ true → (a ≡ true) ⊎ (b ≡ true)
+pub one_of : (a b : Bool) → (a || b) ≡ true → (a ≡ true) ⊎ (b ≡ true)
 one_of true b t = inl refl
 one_of false b t = inr t
 

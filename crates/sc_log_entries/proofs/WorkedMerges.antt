@@ -8,7 +8,7 @@ use Rattle.sc_cmd.specs.declared.votes.Outcome.TheVariants.{Abort, Merged}
 use Rattle.sc_cmd.specs.declared.votes.Past.TheVariants as Cast
 use Rattle.sc_cmd.specs.declared.votes.Vote.TheVariants.{Yes, No}
 use Rattle.sc_log_entries.specs.declared.LogEntry.{LogEntry}
-use Rattle.sc_log_entries.specs.Worlds.{first_world, world_of}
+use Rattle.sc_log_entries.specs.Definitions.{first_world, world_of}
 use Rattle.sc_log_entries.proofs.Worked.{draw, born, entry, cut, shown, Shape, shape, shapes}
 
 -- Of two groups that make the ring, one takes over the other.

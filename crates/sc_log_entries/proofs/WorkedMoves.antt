@@ -6,7 +6,7 @@ use Rattle.sc_cmd.specs.declared.cores.Base.{Base}
 use Rattle.sc_cmd.specs.declared.votes.Outcome.TheVariants.{Migrated}
 use Rattle.sc_cmd.specs.declared.votes.Vote.TheVariants.{Yes}
 use Rattle.sc_log_entries.specs.declared.LogEntry.{LogEntry}
-use Rattle.sc_log_entries.specs.Worlds.{first_world, world_of}
+use Rattle.sc_log_entries.specs.Definitions.{first_world, world_of}
 use Rattle.sc_log_entries.proofs.Worked.{draw, born, entry, cut, shown, Shape, shape, shapes}
 
 -- A member moves on to the next group.

@@ -5,7 +5,7 @@ use Rattle.std.specs.Cmp.Lexicographic.{nat_list_cmp_total}
 use Rattle.std.specs.FinMap.{get, get-empty, get-insert}
 use Rattle.std.specs.Option.{option_and_then}
 use Rattle.std.specs.Ordering.{nat_cmp}
-use Rattle.sc_base.specs.Arc.{Arc, before, from}
+use Rattle.sc_base.specs.Definitions.{Arc, before, from}
 use Rattle.sc_base.specs.declared.names.Draw.{Draw}
 use Rattle.sc_base.specs.declared.ops.Noted.{Noted}
 use Rattle.sc_base.specs.declared.ops.Op.{Op}
@@ -13,14 +13,12 @@ use Rattle.sc_base.specs.declared.ops.Op.TheVariants.{Put}
 use Rattle.sc_cmd.specs.declared.commands.Command.TheVariants.{Call, Split}
 use Rattle.sc_cmd.specs.declared.cores.Base.{Base}
 use Rattle.sc_cmd.specs.declared.effects.Effect.{Effect}
-use Rattle.sc_ideal.specs.IdealStore.{Contents, holds_key, part_of}
-use Rattle.sc_ideal.proofs.Apart.{get-part}
-use Rattle.sc_machine_table.specs.Group.{Group, group_of}
-use Rattle.sc_machine_table.specs.Machine.{applied, done, served_by_note}
-use Rattle.sc_machine_table.proofs.Parts.{pairs_again}
+use Rattle.sc_ideal.specs.Definitions.{Contents, holds_key, part_of}
+use Rattle.sc_ideal.proofs.Lemmas.{get-part}
+use Rattle.sc_machine_table.specs.Definitions.{Group, group_of, applied, done, served_by_note}
+use Rattle.sc_machine_table.proofs.Lemmas.{pairs_again}
 use Rattle.sc_log_entries.specs.declared.LogEntry.{LogEntry}
-use Rattle.sc_log_entries.specs.Effective.{effective}
-use Rattle.sc_log_entries.specs.Worlds.{StoreWorld, first_world, world_of, world_after, with_result, told}
+use Rattle.sc_log_entries.specs.Definitions.{effective, StoreWorld, first_world, world_of, world_after, with_result, told}
 use Rattle.sc_log_entries.proofs.Worked.{draw, born, entry}
 
 -- a group that has the whole ring puts x at a and y at m, and splits at m

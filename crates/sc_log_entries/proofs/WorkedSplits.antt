@@ -1,13 +1,12 @@
 -- Worked entries of splits: what they make of the ring and of the effective records, entry by entry, as a second implementation tells it.
 use Rattle.std.proofs.Common.{◌≡◌, List, [], ◌∷◌, Some, None, refl}
 use Rattle.sc_cmd.specs.declared.bodies.Body.TheVariants as At
-use Rattle.sc_cmd.specs.declared.bodies.Body.TheVariants.{Merge, Repart, Migrate}
 use Rattle.sc_cmd.specs.declared.commands.Command.TheVariants.{Split, Finish, Watched, RecordWatch}
 use Rattle.sc_cmd.specs.declared.cores.Base.{Base}
 use Rattle.sc_cmd.specs.declared.votes.Outcome.TheVariants.{Divided}
 use Rattle.sc_cmd.specs.declared.votes.Past.TheVariants as Cast
 use Rattle.sc_log_entries.specs.declared.LogEntry.{LogEntry}
-use Rattle.sc_log_entries.specs.Worlds.{first_world, world_of}
+use Rattle.sc_log_entries.specs.Definitions.{first_world, world_of}
 use Rattle.sc_log_entries.proofs.Worked.{draw, born, entry, cut, shown, Shape, shape, shapes}
 
 -- A group that is its own successor splits at once.

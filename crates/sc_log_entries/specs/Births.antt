@@ -1,5 +1,5 @@
 -- Which entry makes a new group, and how the group begins.
-use Rattle.std.specs.Prelude.{Bool, true, false, ◌&&◌, if◌then◌else◌, Option, Some, None}
+use Rattle.std.specs.Prelude.{◌&&◌, if◌then◌else◌, Option, Some, None}
 use Rattle.std.specs.Option.{option_map}
 use Rattle.sc_cmd.specs.declared.bodies.Body.{Body}
 use Rattle.sc_cmd.specs.declared.bodies.Body.TheVariants as At
@@ -10,10 +10,8 @@ use Rattle.sc_cmd.specs.declared.cores.Core.{Core}
 use Rattle.sc_cmd.specs.declared.cores.Lock.{Lock}
 use Rattle.sc_cmd.specs.declared.cores.Lock.TheVariants.{Free, Coordinating, Promised, Watching}
 use Rattle.sc_cmd.specs.declared.effects.Effect.{Effect}
-use Rattle.sc_cmd.specs.Cores.{is_alone}
-use Rattle.sc_cmd.specs.Effects.{is_changed, is_divided}
-use Rattle.sc_machine_table.specs.Group.{Group}
-use Rattle.sc_machine_table.specs.Splits.{child_of}
+use Rattle.sc_cmd.specs.Definitions.{is_alone, is_changed, is_divided}
+use Rattle.sc_machine_table.specs.Definitions.{Group, child_of}
 use Rattle.sc_log_entries.specs.declared.Division.{Division}
 
 -- the division that a transaction is to make, if it is a split

@@ -1,7 +1,7 @@
 -- Transactions, as the logs of their coordinators tell them: who takes part, and what was decided. A transaction is decided by one entry of one log, as in the nested consensus of Scatter (SOSP 2011), whoever has heard of it.
 use Rattle.std.specs.Prelude.{ℕ, Bool, ◌&&◌, not, List, [], ◌∷◌, ◌++◌, map, find, if◌then◌else◌, Option, Some, None}
 use Rattle.std.specs.Option.{option_map, option_and_then}
-use Rattle.sc_base.specs.Same.{same_draw}
+use Rattle.sc_base.specs.Definitions.{same_draw}
 use Rattle.sc_base.specs.declared.names.Draw.{Draw}
 use Rattle.sc_cmd.specs.declared.bodies.Body.{Body}
 use Rattle.sc_cmd.specs.declared.bodies.Body.TheVariants as At
@@ -12,8 +12,7 @@ use Rattle.sc_cmd.specs.declared.effects.Effect.{Effect}
 use Rattle.sc_cmd.specs.declared.votes.Outcome.{Outcome}
 use Rattle.sc_cmd.specs.declared.votes.Vote.{Vote}
 use Rattle.sc_cmd.specs.declared.votes.Vote.TheVariants.{Yes, No}
-use Rattle.sc_cmd.specs.Effects.{decided_in, is_changed}
-use Rattle.sc_cmd.specs.Cores.{is_alone}
+use Rattle.sc_cmd.specs.Definitions.{decided_in, is_changed, is_alone}
 use Rattle.sc_log_entries.specs.declared.Transaction.{Transaction}
 
 -- ---- how each entry of a coordinator adds to what is told of its transaction

@@ -7,9 +7,8 @@ use Rattle.sc_cmd.specs.declared.cores.Lock.{Lock}
 use Rattle.sc_cmd.specs.declared.cores.Lock.TheVariants.{Free, Coordinating, Promised, Watching}
 use Rattle.sc_cmd.specs.declared.votes.Outcome.{Outcome}
 use Rattle.sc_cmd.specs.declared.votes.Outcome.TheVariants.{Abort, Merged, Moved, Migrated, Divided}
-use Rattle.sc_ideal.specs.IdealStore.{holds_key}
-use Rattle.sc_machine_table.specs.Group.{Group}
-use Rattle.sc_machine_table.specs.Machine.{applied}
+use Rattle.sc_ideal.specs.Definitions.{holds_key}
+use Rattle.sc_machine_table.specs.Definitions.{Group, applied}
 use Rattle.sc_log_entries.specs.declared.Transaction.{Transaction}
 use Rattle.sc_log_entries.specs.Decisions.{decision}
 use Rattle.sc_log_entries.specs.Worlds.{StoreWorld, named_group}

@@ -1,9 +1,7 @@
 -- What holds of births.
 use Rattle.std.specs.Prelude.{◌≡◌}
 use Rattle.sc_cmd.specs.declared.commands.Command.{Command}
-use Rattle.sc_machine_table.specs.Children.{child_by}
-use Rattle.sc_machine_table.specs.Group.{Group}
-use Rattle.sc_machine_table.specs.Machine.{applied}
+use Rattle.sc_machine_table.specs.Definitions.{child_by, Group, applied}
 use Rattle.sc_log_entries.specs.Births.{birth_of}
 
 -- the child that a command makes of a group, by the machine's table, is the group that its entry gives birth to, by its effect

@@ -1,11 +1,9 @@
 -- How the groups of a ring have their parts of it: each its place, its keys and its pairs.
-use Rattle.std.specs.Prelude.{◌≡◌, ℕ, IsTrue, List, Option, Some, None}
+use Rattle.std.specs.Prelude.{◌≡◌, ℕ, IsTrue, List, Some, None}
 use Rattle.std.specs.FinMap.{empty}
-use Rattle.sc_base.specs.Among.{Among}
-use Rattle.sc_base.specs.Arc.{end_of}
-use Rattle.sc_ideal.specs.History.{contents_after}
-use Rattle.sc_ideal.specs.IdealStore.{holds_key, part_of}
-use Rattle.sc_machine_table.specs.Group.{Group}
+use Rattle.sc_base.specs.Definitions.{Among, end_of}
+use Rattle.sc_ideal.specs.Definitions.{contents_after, holds_key, part_of}
+use Rattle.sc_machine_table.specs.Definitions.{Group}
 use Rattle.sc_log_entries.specs.declared.Cut.{Cut}
 use Rattle.sc_log_entries.specs.Effective.{effective, serves}
 use Rattle.sc_log_entries.specs.Worlds.{StoreWorld}

@@ -1,15 +1,13 @@
 -- What the entries of all logs make of all groups, entry by entry.
 use Rattle.std.specs.Prelude.{◌≡◌, Bool, List, [], ◌++◌, map, fold, find, if◌then◌else◌, Option, Some, None}
 use Rattle.std.specs.Option.{option_to_list}
-use Rattle.sc_base.specs.Same.{same_draw}
+use Rattle.sc_base.specs.Definitions.{same_draw}
 use Rattle.sc_base.specs.declared.names.Draw.{Draw}
 use Rattle.sc_cmd.specs.declared.commands.Command.{Command}
 use Rattle.sc_cmd.specs.declared.cores.Base.{Base}
 use Rattle.sc_cmd.specs.declared.effects.Effect.{Effect}
 use Rattle.sc_ideal.specs.declared.Entry.{Entry}
-use Rattle.sc_machine_table.specs.Group.{Group, group_of}
-use Rattle.sc_machine_table.specs.Logs.{entry_of}
-use Rattle.sc_machine_table.specs.Machine.{applied}
+use Rattle.sc_machine_table.specs.Definitions.{Group, group_of, entry_of, applied}
 use Rattle.sc_log_entries.specs.Births.{birth_of}
 use Rattle.sc_log_entries.specs.declared.Cut.{Cut}
 use Rattle.sc_log_entries.specs.declared.LogEntry.{LogEntry}

@@ -3,27 +3,20 @@ use Rattle.std.proofs.Common.{◌≡◌, List, [], ◌∷◌, ◌++◌, Some, in
 use Rattle.sc_base.specs.declared.names.Draw.{Draw}
 use Rattle.sc_cmd.specs.declared.commands.Command.{Command}
 use Rattle.sc_cmd.specs.declared.cores.Base.{Base}
-use Rattle.sc_machine_table.specs.Group.{Group, group_of}
-use Rattle.sc_machine_table.specs.Logs.{state_after}
-use Rattle.sc_machine_table.specs.Machine.{applied}
+use Rattle.sc_machine_table.specs.Definitions.{Group, group_of, state_after, applied}
 use Rattle.sc_log_entries.specs.declared.LogEntry.{LogEntry}
-use Rattle.sc_log_entries.specs.Worlds.{StoreWorld, first_world, named_group, world_of}
-use Rattle.sc_log_entries.proofs.Pushes.{world_append}
-use Rattle.sc_hist_law.specs.Fronts.{log_in}
-use Rattle.sc_hist_law.proofs.Fronts.{heads, logs_make_states, other_first, own_first, parts_at}
-use Rattle.sc_ring_law.specs.Allowed.{Sources, IsAllowed, AreAllowed, ToldWorld, first_told, stories_told, told_on, told_after}
-use Rattle.sc_ring_law.specs.Laws.{BeginInPlace, stories_of}
-use Rattle.sc_ring_law.specs.Stories.{stories_after}
-use Rattle.sc_ring_law.proofs.Grows.{allowed_entries_stay_allowed}
-use Rattle.sc_ring_law.proofs.Sound.{entries_keep_the_promises, store_after}
-use Rattle.sc_sound.specs.GroupsOf.{entries_by_rows, entries_at}
-use Rattle.sc_log_law.specs.Allows.{MakesAllowed}
-use Rattle.sc_log_law.specs.Laws.{AllowedStaysAllowed, FrontsAllow, StatesAllow}
+use Rattle.sc_log_entries.specs.Definitions.{StoreWorld, first_world, named_group, world_of}
+use Rattle.sc_log_entries.proofs.Lemmas.{world_append, draw_cases}
+use Rattle.sc_hist_law.specs.Definitions.{log_in}
+use Rattle.sc_hist_law.proofs.Lemmas.{heads, logs_make_states, other_first, own_first, parts_at}
+use Rattle.sc_ring_law.specs.Definitions.{Sources, IsAllowed, AreAllowed, ToldWorld, first_told, stories_told, told_on, told_after, BeginInPlace, stories_of, stories_after}
+use Rattle.sc_ring_law.proofs.Lemmas.{allowed_entries_stay_allowed, entries_keep_the_promises, store_after}
+use Rattle.sc_sound.specs.Definitions.{entries_by_rows, entries_at}
+use Rattle.sc_log_law.specs.Definitions.{MakesAllowed, AllowedStaysAllowed, FrontsAllow, StatesAllow}
 use Rattle.sc_log_law.proofs.Births.{told_append}
 use Rattle.sc_log_law.proofs.Generations.{group_found}
 use Rattle.sc_log_law.proofs.Parts.{entries_parts}
 use Rattle.sc_log_law.proofs.Findings.{told_rows}
-use Rattle.sc_log_entries.proofs.Names.{draw_cases}
 
 -- entries that are allowed one after another, in two parts
 pub allowed_parts : (sources : Sources) (w : ToldWorld) (entries more : List LogEntry) → AreAllowed sources w (entries ++ more) → AreAllowed sources w entries × AreAllowed sources (told_after w entries) more

@@ -2,9 +2,9 @@
 use Rattle.std.proofs.Common.{◌≡◌, ℕ, cond, Option, Some, inl, inr, refl, sym, ◌∙◌, ap, subst}
 use Rattle.std.specs.Option.{option_map}
 use Rattle.std.proofs.lemmas.Bool.{cases_Bool, cond-false}
-use Rattle.sc_base.specs.Same.{same_draw}
+use Rattle.sc_base.specs.Definitions.{same_draw}
 use Rattle.sc_base.specs.declared.names.Draw.{Draw}
-use Rattle.sc_base.proofs.NameLemmas.{draw_is}
+use Rattle.sc_base.proofs.Lemmas.{draw_is}
 use Rattle.sc_cmd.specs.declared.bodies.Body.{Body}
 use Rattle.sc_cmd.specs.declared.bodies.Offer.{Offer}
 use Rattle.sc_cmd.specs.declared.commands.Command.TheVariants.{RecordVote, GiveUp, Watched, RecordWatch}
@@ -16,16 +16,11 @@ use Rattle.sc_cmd.specs.declared.votes.Heard.{Heard}
 use Rattle.sc_cmd.specs.declared.votes.Outcome.{Outcome}
 use Rattle.sc_cmd.specs.declared.votes.Past.{Past}
 use Rattle.sc_cmd.specs.declared.votes.Vote.{Vote}
-use Rattle.sc_cmd.specs.Effects.{decided_in}
-use Rattle.sc_machine_table.specs.Group.{Group}
-use Rattle.sc_machine_table.specs.Machine.{applied}
-use Rattle.sc_machine_table.specs.Transactions.{asks_watcher, participant_answered, vote_recorded, watch_answered, watch_recorded, is_coordinating, aborted}
-use Rattle.sc_ring_law.specs.Allowed.{Sources}
-use Rattle.sc_ring_law.specs.Invariant.{Groups, Facts, IsCoordinating, IsPromised, LockOk}
-use Rattle.sc_ring_law.specs.Stories.{Story, Stories, retold, with_answer, with_decision, with_watch_vote, watch_vote_in}
-use Rattle.sc_ring_law.proofs.Cover.{at-same}
-use Rattle.sc_log_law.specs.Allows.{GroupAllows, EndsBy}
-use Rattle.sc_log_law.specs.Laws.{GroupsAllowOthers}
+use Rattle.sc_cmd.specs.Definitions.{decided_in}
+use Rattle.sc_machine_table.specs.Definitions.{Group, applied, asks_watcher, participant_answered, vote_recorded, watch_answered, watch_recorded, is_coordinating, aborted}
+use Rattle.sc_ring_law.specs.Definitions.{Sources, Groups, Facts, IsCoordinating, IsPromised, LockOk, Story, Stories, retold, with_answer, with_decision, with_watch_vote, watch_vote_in}
+use Rattle.sc_ring_law.proofs.Lemmas.{at-same}
+use Rattle.sc_log_law.specs.Definitions.{GroupAllows, EndsBy, GroupsAllowOthers}
 
 -- who decides a transaction coordinates it
 abbrev Coordinates : Lock → Draw → Type 0

@@ -1,34 +1,23 @@
 -- The entries of one log, one after another, in a world that allowed entries made: each child that they name is new, and is born as they say.
 use Rattle.std.proofs.Common.{◌≡◌, ℕ, ◌+◌, List, [], ◌∷◌, ◌++◌, Option, Some, None, ◌⊎◌, inl, inr, refl, sym, ◌∙◌, ap, append-nil, append_assoc}
 use Rattle.std.specs.Option.{option_map, option_to_list}
-use Rattle.sc_base.specs.Among.{Among}
+use Rattle.sc_base.specs.Definitions.{Among}
 use Rattle.sc_base.specs.declared.names.Draw.{Draw}
 use Rattle.sc_cmd.specs.declared.commands.Command.{Command}
 use Rattle.sc_cmd.specs.declared.cores.Base.{Base}
 use Rattle.sc_cmd.specs.declared.effects.Effect.{Effect}
-use Rattle.sc_paxos_law.proofs.Among.{Among-right}
-use Rattle.sc_machine_table.specs.Group.{Group, group_of}
-use Rattle.sc_machine_table.specs.Logs.{state_after, entry_of, done_by}
-use Rattle.sc_machine_table.specs.Machine.{applied}
-use Rattle.sc_machine_table.specs.Splits.{child_of}
-use Rattle.sc_log_entries.specs.Births.{birth_of, division_of}
+use Rattle.sc_paxos_law.proofs.Lemmas.{Among-right}
+use Rattle.sc_machine_table.specs.Definitions.{Group, group_of, state_after, entry_of, done_by, applied, child_of}
+use Rattle.sc_log_entries.specs.Definitions.{birth_of, division_of, StoreWorld, after_command, named_group, told, world_after}
 use Rattle.sc_log_entries.specs.declared.Division.{Division}
 use Rattle.sc_log_entries.specs.declared.LogEntry.{LogEntry}
-use Rattle.sc_log_entries.specs.Worlds.{StoreWorld, after_command, named_group, told, world_after}
-use Rattle.sc_hist_law.proofs.Fronts.{logs_make_states}
-use Rattle.sc_hist_law.proofs.Logs.{applied_same}
-use Rattle.sc_ring_law.specs.Allowed.{Sources, IsAllowed, AreAllowed, ToldWorld, told_on, told_after}
-use Rattle.sc_ring_law.specs.Stories.{put}
-use Rattle.sc_ring_law.specs.Invariant.{Groups}
-use Rattle.sc_ring_law.proofs.Cover.{at-same, at-other}
-use Rattle.sc_ring_law.proofs.Cuts.{arcs_in}
-use Rattle.sc_log_entries.proofs.Names.{draw_cases, found_name}
-use Rattle.sc_ring_law.proofs.Told.{groups_in, with_child, groups_are}
-use Rattle.sc_ring_law.proofs.Worlds.{KeptWorld, kept_on, fits}
-use Rattle.sc_sound.specs.GroupsOf.{children_of, entries_from}
+use Rattle.sc_hist_law.proofs.Lemmas.{logs_make_states, applied_same}
+use Rattle.sc_ring_law.specs.Definitions.{Sources, IsAllowed, AreAllowed, ToldWorld, told_on, told_after, put, Groups}
+use Rattle.sc_ring_law.proofs.Lemmas.{at-same, at-other, arcs_in, groups_in, with_child, groups_are, KeptWorld, kept_on, fits, some_none}
+use Rattle.sc_log_entries.proofs.Lemmas.{draw_cases, found_name}
+use Rattle.sc_sound.specs.Definitions.{children_of, entries_from}
 use Rattle.sc_log_law.proofs.Children.{log_of_own}
 use Rattle.std.proofs.lemmas.Option.{none-some, same_Some}
-use Rattle.sc_ring_law.proofs.Finds.{some_none}
 
 -- more entries are told to the world before them
 pub told_append : (w : ToldWorld) (entries more : List LogEntry) → told_after w (entries ++ more) ≡ told_after (told_after w entries) more

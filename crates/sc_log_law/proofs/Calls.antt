@@ -1,16 +1,14 @@
 -- Entries that are allowed one after another.
 use Rattle.std.proofs.Common.{◌≡◌, ℕ, ◌+◌, List, [], ◌∷◌, ◌++◌, sym, subst}
-use Rattle.sc_base.specs.Among.{Each}
+use Rattle.sc_base.specs.Definitions.{Each}
 use Rattle.sc_base.specs.declared.names.Draw.{Draw}
 use Rattle.sc_cmd.specs.declared.commands.Command.{Command}
 use Rattle.sc_cmd.specs.declared.cores.Base.{Base}
-use Rattle.sc_paxos_words.proofs.ListLemmas.{Each-weaker}
+use Rattle.sc_paxos_words.proofs.Lemmas.{Each-weaker}
 use Rattle.sc_log_entries.specs.declared.LogEntry.{LogEntry}
-use Rattle.sc_ring_law.specs.Allowed.{Sources, IsAllowed, AreAllowed, ToldWorld, first_told, told_on, told_after}
-use Rattle.sc_ring_law.specs.Laws.{BeginInPlace, stories_of}
-use Rattle.sc_ring_law.proofs.Grows.{allowed_entries_stay_allowed}
-use Rattle.sc_ring_law.proofs.Sound.{allowed_lists_append}
-use Rattle.sc_sound.specs.GroupsOf.{entries_from}
+use Rattle.sc_ring_law.specs.Definitions.{Sources, IsAllowed, AreAllowed, ToldWorld, first_told, told_on, told_after, BeginInPlace, stories_of}
+use Rattle.sc_ring_law.proofs.Lemmas.{allowed_entries_stay_allowed, allowed_lists_append}
+use Rattle.sc_sound.specs.Definitions.{entries_from}
 use Rattle.sc_log_law.proofs.Births.{told_append}
 
 -- commands of one log that are allowed by what was told before the first of them may come one after another

@@ -1,18 +1,16 @@
 -- The children that a log names, and what the entries of one group's log are of another's.
 use Rattle.std.proofs.Common.{◌≡◌, ℕ, ◌+◌, List, [], ◌∷◌, ◌++◌, inl, inr, refl, sym, ◌∙◌, ap, append_assoc}
 use Rattle.std.specs.Option.{option_to_list}
-use Rattle.sc_base.specs.Among.{Among}
+use Rattle.sc_base.specs.Definitions.{Among}
 use Rattle.sc_base.specs.declared.names.Draw.{Draw}
 use Rattle.sc_cmd.specs.declared.commands.Command.{Command}
-use Rattle.sc_machine_table.specs.Group.{Group}
-use Rattle.sc_machine_table.specs.Logs.{state_after}
-use Rattle.sc_machine_table.specs.Machine.{applied}
-use Rattle.sc_log_entries.specs.Births.{birth_of}
+use Rattle.sc_machine_table.specs.Definitions.{Group, state_after, applied}
+use Rattle.sc_log_entries.specs.Definitions.{birth_of}
 use Rattle.sc_log_entries.specs.declared.LogEntry.{LogEntry}
-use Rattle.sc_hist_law.specs.Fronts.{log_in}
-use Rattle.sc_hist_law.proofs.Fronts.{other_first, own_first}
-use Rattle.sc_sound.specs.GroupsOf.{children_of, entries_from}
-use Rattle.sc_log_entries.proofs.Names.{draw_cases}
+use Rattle.sc_hist_law.specs.Definitions.{log_in}
+use Rattle.sc_hist_law.proofs.Lemmas.{other_first, own_first}
+use Rattle.sc_sound.specs.Definitions.{children_of, entries_from}
+use Rattle.sc_log_entries.proofs.Lemmas.{draw_cases}
 
 -- the children of two parts of a log
 pub children_append : (group : Group) (log more : List Command) → children_of group (log ++ more) ≡ children_of group log ++ children_of (state_after group log) more

@@ -1,21 +1,16 @@
 -- The rows of a journal with a split decide in turn, one after another.
 use Rattle.std.proofs.Common.{◌≡◌, List, [], ◌∷◌, ◌++◌, inl, inr, refl, subst, arith}
-use Rattle.sc_base.specs.Among.{Among}
+use Rattle.sc_base.specs.Definitions.{Among}
 use Rattle.sc_cmd.specs.declared.cores.Base.{Base}
 use Rattle.sc_cmd.specs.declared.orders.OrderLine.{OrderLine}
 use Rattle.sc_mail.specs.declared.bodies.Mail.{Mail}
 use Rattle.sc_actor.specs.declared.rows.Row.{Row}
-use Rattle.sc_machine_table.specs.Group.{group_of}
-use Rattle.sc_machine_table.specs.Splits.{child_of}
-use Rattle.sc_hist_law.specs.Example.{offspring, lone_base}
-use Rattle.sc_hist_law.proofs.EntriesExample.{example_of_entries}
-use Rattle.sc_ring_law.specs.Laws.{BeginInPlace, BeginsInPlace}
-use Rattle.sc_sound.specs.Example.{four}
-use Rattle.sc_sound.specs.GroupsOf.{children_by}
-use Rattle.sc_sound.specs.Logs.{decided_log}
-use Rattle.sc_log_law.specs.Descent.{Rows, IsFound}
-use Rattle.sc_log_law.specs.InTurn.{DecidesInTurn}
-use Rattle.sc_log_law.specs.Example.{split_sources, lone_bases, journal_split, put_a_call, offers_split, accepts_split, decides_split, asks_child, offers_put, decides_put, ExampleInTurn}
+use Rattle.sc_machine_table.specs.Definitions.{group_of, child_of}
+use Rattle.sc_hist_law.specs.Definitions.{offspring, lone_base}
+use Rattle.sc_hist_law.proofs.Lemmas.{example_of_entries}
+use Rattle.sc_ring_law.specs.Definitions.{BeginInPlace, BeginsInPlace}
+use Rattle.sc_sound.specs.Definitions.{four, children_by, decided_log}
+use Rattle.sc_log_law.specs.Definitions.{Rows, IsFound, DecidesInTurn, split_sources, lone_bases, journal_split, put_a_call, offers_split, accepts_split, decides_split, asks_child, offers_put, decides_put, ExampleInTurn}
 use Rattle.sc_log_law.proofs.Turns.{TurnFor, in_turn, rests, found_within}
 
 -- the child

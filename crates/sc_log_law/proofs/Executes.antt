@@ -5,8 +5,8 @@ use Rattle.std.proofs.Common.{◌≡◌, ℕ, ◌^◌, ◌<◌, Bool, true, fals
 use Rattle.std.proofs.lemmas.Bool.{cases_Bool, or_parts}
 use Rattle.sc_base.specs.declared.names.Draw.{Draw}
 use Rattle.sc_base.specs.declared.ops.Op.{Op}
-use Rattle.sc_base.proofs.NameLemmas.{draw_is}
-use Rattle.sc_ideal.specs.IdealStore.{key_of}
+use Rattle.sc_base.proofs.Lemmas.{draw_is}
+use Rattle.sc_ideal.specs.Definitions.{key_of}
 use Rattle.sc_cmd.specs.declared.bodies.Body.{Body}
 use Rattle.sc_cmd.specs.declared.bodies.Body.TheVariants as At
 use Rattle.sc_cmd.specs.declared.bodies.Offer.{Offer}
@@ -23,39 +23,16 @@ use Rattle.sc_cmd.specs.declared.votes.Outcome.TheVariants.{Abort, Moved, Divide
 use Rattle.sc_cmd.specs.declared.votes.Past.{Past}
 use Rattle.sc_cmd.specs.declared.votes.Vote.{Vote}
 use Rattle.sc_cmd.specs.declared.votes.Vote.TheVariants as Ballot
-use Rattle.sc_machine_table.specs.Group.{Group}
-use Rattle.sc_machine_table.specs.Finishes.{can_gain, gained_group, settled_in, party_freed, watcher_after}
-use Rattle.sc_machine_table.specs.Orders.{locked_in}
-use Rattle.sc_machine_table.specs.Plans.{has_key_of}
-use Rattle.sc_machine_table.specs.Splits.{is_locked_in}
-use Rattle.sc_machine_table.specs.Transactions.{is_coordinating}
-use Rattle.sc_machine_table.specs.Votes.{has_voted}
+use Rattle.sc_machine_table.specs.Definitions.{Group, can_gain, gained_group, settled_in, party_freed, watcher_after, locked_in, has_key_of, is_locked_in, is_coordinating, has_voted}
 use Rattle.sc_log_entries.specs.declared.LogEntry.{LogEntry}
 use Rattle.sc_log_entries.specs.declared.Transaction.{Transaction}
-use Rattle.sc_log_entries.specs.Decisions.{decision, transaction_in}
-use Rattle.sc_log_entries.specs.Effective.{after_outcome, is_commit}
-use Rattle.sc_log_entries.specs.Rings.{arc_in}
-use Rattle.sc_log_entries.specs.Worlds.{is_named, named_group}
-use Rattle.sc_ring_law.specs.Allowed.{Sources, IsVoteCast, IsAllowed, AreAllowed, ToldWorld, told_on}
-use Rattle.sc_ring_law.specs.Stories.{Story, Stories, unsigned, offer_for, offer_with}
-use Rattle.sc_ring_law.specs.Invariant.{Groups, has_born, has_decided, IsCoordinating, LockOk}
-use Rattle.sc_ring_law.proofs.Commits.{IsDeciding, own_is, mine_old, part_eff, promise_settled, apart_of}
-use Rattle.sc_ring_law.proofs.Cuts.{arcs_in, arc_of_cut}
-use Rattle.sc_ring_law.proofs.Effects.{decisions, outcome_of, living, eff, arc_of, succ_of, view_of, Old, eff_by, eff_free, living_is}
-use Rattle.sc_ring_law.proofs.Ends.{own_story, group_none}
-use Rattle.sc_paxos_words.proofs.ListLemmas.{find_found}
-use Rattle.sc_ring_law.proofs.Insides.{room_of}
-use Rattle.sc_ring_law.proofs.Links.{IsPair, pair_meets}
-use Rattle.sc_ring_law.proofs.Reshapes.{Ends}
-use Rattle.sc_ring_law.proofs.Rows.{unheard}
-use Rattle.sc_ring_law.proofs.Sound.{sound_world}
-use Rattle.sc_ring_law.proofs.Steps.{lock_free, watch_settled}
-use Rattle.sc_log_entries.proofs.Names.{found_name}
-use Rattle.sc_ring_law.proofs.Told.{groups_in, brief, story_brief, decision_is}
-use Rattle.sc_ring_law.proofs.Worlds.{KeptWorld, kept_on}
-use Rattle.sc_hist_law.specs.Telling.{HasCut, IsUncommitted, MayCall, MaySplit, IsItsOwn, IsParty, MayHear, MayHearWatcher, MayFinish, MayExecute, MayAllBeTold}
+use Rattle.sc_log_entries.specs.Definitions.{decision, transaction_in, after_outcome, is_commit, arc_in, is_named, named_group}
+use Rattle.sc_ring_law.specs.Definitions.{Sources, IsVoteCast, IsAllowed, AreAllowed, ToldWorld, told_on, Story, Stories, unsigned, offer_for, offer_with, Groups, has_born, has_decided, IsCoordinating, LockOk}
+use Rattle.sc_ring_law.proofs.Lemmas.{IsDeciding, own_is, mine_old, part_eff, promise_settled, apart_of, arcs_in, arc_of_cut, decisions, outcome_of, living, eff, arc_of, succ_of, view_of, Old, eff_by, eff_free, living_is, own_story, group_none, room_of, IsPair, pair_meets, Ends, unheard, sound_world, lock_free, watch_settled, groups_in, brief, story_brief, decision_is, KeptWorld, kept_on, some_none}
+use Rattle.sc_paxos_words.proofs.Lemmas.{find_found}
+use Rattle.sc_log_entries.proofs.Lemmas.{found_name}
+use Rattle.sc_hist_law.specs.Definitions.{HasCut, IsUncommitted, MayCall, MaySplit, IsItsOwn, IsParty, MayHear, MayHearWatcher, MayFinish, MayExecute, MayAllBeTold}
 use Rattle.std.proofs.lemmas.Option.{none-some, same_Some}
-use Rattle.sc_ring_law.proofs.Finds.{some_none}
 
 -- what a lock that coordinates a transaction is
 coordinating : (l : Lock) (tx : Draw) → is_coordinating l tx ≡ true → (body : Body) × (order : ℕ) × (heard : Option Heard) × (l ≡ Coordinating tx body order heard)

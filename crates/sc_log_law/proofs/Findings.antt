@@ -1,36 +1,27 @@
 -- What rows that decide in turn tell: the groups, the entries, and one map.
 use Rattle.std.proofs.Common.{◌≡◌, suc, List, [], ◌∷◌, ◌++◌, Option, Some, None, inl, inr, refl, sym, ◌∙◌, ap, subst, append-nil, append_assoc}
 use Rattle.std.specs.Option.{option_map}
-use Rattle.sc_base.specs.Among.{Among}
+use Rattle.sc_base.specs.Definitions.{Among}
 use Rattle.sc_base.specs.declared.names.Draw.{Draw}
 use Rattle.sc_cmd.specs.declared.cores.Base.{Base}
 use Rattle.sc_cmd.specs.declared.orders.OrderLine.{OrderLine}
 use Rattle.sc_mail.specs.declared.bodies.Mail.{Mail}
 use Rattle.sc_actor.specs.declared.rows.Row.{Row}
-use Rattle.sc_sound.specs.Players.{Ahead}
-use Rattle.sc_machine_table.specs.Group.{group_of}
-use Rattle.sc_machine_table.specs.Logs.{state_after}
-use Rattle.sc_paxos_law.proofs.Among.{Among-left}
-use Rattle.sc_log_entries.specs.Worlds.{named_group}
-use Rattle.sc_hist_law.specs.Fronts.{log_in}
-use Rattle.sc_hist_law.specs.Worlds.{BeginBare}
-use Rattle.sc_hist_law.proofs.Fronts.{fronts_answer}
-use Rattle.sc_ring_law.specs.Allowed.{Sources}
-use Rattle.sc_ring_law.specs.Laws.{BeginInPlace}
-use Rattle.sc_log_law.specs.OneMap.{AllowedEntriesMakeOneMap}
-use Rattle.sc_sound.specs.GroupsOf.{children_of, birth_at, log_by, log_at, state_at, entries_at, world_at}
-use Rattle.sc_sound.specs.Logs.{decided_state}
-use Rattle.sc_log_law.specs.Descent.{Rows, IsFound}
-use Rattle.sc_log_law.specs.InTurn.{DecidesInTurn, DecideInTurn}
-use Rattle.sc_log_law.specs.Findings.{AreFound, AreOldOrNew, AreItsLogs, TellOneMap}
-use Rattle.sc_log_law.specs.Laws.{GroupsAreFound, GroupsAreOldOrNew, EntriesAreLogs, EntriesAreAllowed, EntriesTellOneMap}
+use Rattle.sc_sound.specs.Definitions.{Ahead, children_of, birth_at, log_by, log_at, state_at, entries_at, world_at, decided_state}
+use Rattle.sc_machine_table.specs.Definitions.{group_of, state_after}
+use Rattle.sc_paxos_law.proofs.Lemmas.{Among-left}
+use Rattle.sc_log_entries.specs.Definitions.{named_group}
+use Rattle.sc_hist_law.specs.Definitions.{log_in, BeginBare}
+use Rattle.sc_hist_law.proofs.Lemmas.{fronts_answer}
+use Rattle.sc_ring_law.specs.Definitions.{Sources, BeginInPlace}
+use Rattle.sc_log_law.specs.Definitions.{AllowedEntriesMakeOneMap, Rows, IsFound, DecidesInTurn, DecideInTurn, AreFound, AreOldOrNew, AreItsLogs, TellOneMap, GroupsAreFound, GroupsAreOldOrNew, EntriesAreLogs, EntriesAreAllowed, EntriesTellOneMap}
 use Rattle.sc_log_law.proofs.OneGroup.{for_one}
 use Rattle.sc_log_law.proofs.Children.{children_append, log_append, log_of_others}
 use Rattle.sc_log_law.proofs.Generations.{FoundInTurn, group_found, found_group, known_by_name, no_birth_at, no_log_at, no_state_at, birth_found}
 use Rattle.sc_log_law.proofs.Births.{none_there}
 use Rattle.sc_log_law.proofs.Told.{Told, first_rows, state_there}
 use Rattle.sc_log_law.proofs.Pushes.{found_next, new_name, push_told}
-use Rattle.sc_ring_law.proofs.Finds.{some_none}
+use Rattle.sc_ring_law.proofs.Lemmas.{some_none}
 
 -- ---- what is told
 

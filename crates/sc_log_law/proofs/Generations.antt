@@ -5,26 +5,21 @@ use Rattle.std.specs.List.{flat_map}
 use Rattle.std.specs.Option.{option_map}
 use Rattle.std.proofs.lemmas.Bool.{cases_lt}
 use Rattle.std.proofs.lemmas.List.{length_push}
-use Rattle.sc_base.specs.Among.{Among, Each}
+use Rattle.sc_base.specs.Definitions.{Among, Each}
 use Rattle.sc_base.specs.declared.names.Draw.{Draw}
-use Rattle.sc_base.proofs.NameLemmas.{draw_is}
+use Rattle.sc_base.proofs.Lemmas.{draw_is}
 use Rattle.sc_cmd.specs.declared.commands.Command.{Command}
 use Rattle.sc_cmd.specs.declared.cores.Base.{Base}
 use Rattle.sc_cmd.specs.declared.orders.OrderLine.{OrderLine}
 use Rattle.sc_mail.specs.declared.bodies.Mail.{Mail}
 use Rattle.sc_actor.specs.declared.rows.Row.{Row}
-use Rattle.sc_paxos_law.proofs.Among.{Among-left, Among-right, Among-either, Among-flat_map, from_flat_map}
-use Rattle.sc_paxos_words.proofs.ListLemmas.{find_found}
-use Rattle.sc_sound.specs.Players.{Ahead}
-use Rattle.sc_machine_table.specs.Group.{group_of}
-use Rattle.sc_ring_law.specs.Allowed.{Sources, IsAllowed}
-use Rattle.sc_ring_law.specs.Laws.{stories_of}
-use Rattle.sc_ring_law.proofs.Finds.{Pairwise}
-use Rattle.sc_sound.specs.GroupsOf.{children_of, children_by, is_birth_of, with_descendants, groups_at, birth_at, log_by, log_at, state_at, entries_at}
-use Rattle.sc_sound.specs.Logs.{decided_log, decided_state}
-use Rattle.sc_sound.specs.Soundness.{Continues}
-use Rattle.sc_log_law.specs.Descent.{Rows, Descends, IsFound, added_by, newborn_by}
-use Rattle.sc_log_law.specs.Findings.{IsFoundByName}
+use Rattle.sc_paxos_law.proofs.Lemmas.{Among-left, Among-right, Among-either, Among-flat_map, from_flat_map}
+use Rattle.sc_paxos_words.proofs.Lemmas.{find_found}
+use Rattle.sc_sound.specs.Definitions.{Ahead, children_of, children_by, is_birth_of, with_descendants, groups_at, birth_at, log_by, log_at, state_at, entries_at, decided_log, decided_state, Continues}
+use Rattle.sc_machine_table.specs.Definitions.{group_of}
+use Rattle.sc_ring_law.specs.Definitions.{Sources, IsAllowed, stories_of}
+use Rattle.sc_ring_law.proofs.Lemmas.{Pairwise}
+use Rattle.sc_log_law.specs.Definitions.{Rows, Descends, IsFound, added_by, newborn_by, IsFoundByName}
 use Rattle.sc_log_law.proofs.Lists.{HaveTwoNames, find_base, find_no_base, births_from, births_still, births_named, births_apart}
 use Rattle.sc_log_law.proofs.Children.{children_append}
 

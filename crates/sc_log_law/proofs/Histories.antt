@@ -3,23 +3,17 @@ use Rattle.std.proofs.Common.{◌≡◌, ℕ, ◌+◌, ◌<◌, ◌≤◌, nat_l
 use Rattle.std.specs.Prelude.{slice_get}
 use Rattle.std.proofs.lemmas.Bool.{cases_lt, lt-ltb, le-ltb, cond-true, cond-false}
 use Rattle.std.proofs.lemmas.Option.{slice_get_within}
-use Rattle.sc_base.specs.Among.{Among}
+use Rattle.sc_base.specs.Definitions.{Among}
 use Rattle.sc_cmd.specs.declared.commands.Command.TheVariants.{Call}
 use Rattle.sc_cmd.specs.declared.cores.Base.{Base}
 use Rattle.sc_cmd.specs.declared.orders.OrderLine.{OrderLine}
 use Rattle.sc_mail.specs.declared.bodies.Mail.{Mail}
 use Rattle.sc_actor.specs.declared.rows.Row.{Row}
 use Rattle.sc_ideal.specs.declared.Entry.{Entry}
-use Rattle.sc_sound.specs.Players.{Ahead}
-use Rattle.sc_log_entries.specs.Worlds.{StoreWorld}
-use Rattle.sc_ring_law.specs.Allowed.{Sources}
-use Rattle.sc_ring_law.specs.Laws.{BeginInPlace}
-use Rattle.sc_sound.specs.GroupsOf.{groups_at, entries_by_rows, history_at}
-use Rattle.sc_sound.specs.Logs.{decided_log}
-use Rattle.sc_sound.specs.Soundness.{Continues, told_from}
-use Rattle.sc_log_law.specs.Descent.{Rows, IsFound, added_by}
-use Rattle.sc_log_law.specs.InTurn.{DecidesInTurn, DecideInTurn}
-use Rattle.sc_log_law.specs.Laws.{HistoryIsTold, ToldRowsStay}
+use Rattle.sc_sound.specs.Definitions.{Ahead, groups_at, entries_by_rows, history_at, decided_log, Continues, told_from}
+use Rattle.sc_log_entries.specs.Definitions.{StoreWorld}
+use Rattle.sc_ring_law.specs.Definitions.{Sources, BeginInPlace}
+use Rattle.sc_log_law.specs.Definitions.{Rows, IsFound, added_by, DecidesInTurn, DecideInTurn, HistoryIsTold, ToldRowsStay}
 use Rattle.sc_log_law.proofs.Generations.{log_on, still_descends, group_found, found_group, known_by_name}
 use Rattle.sc_log_law.proofs.Told.{Told, first_rows, Decides}
 use Rattle.sc_log_law.proofs.Pushes.{d, world_next}

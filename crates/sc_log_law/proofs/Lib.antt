@@ -18,3 +18,5 @@ pub mod Times
 pub mod Sound
 pub mod Turns
 mod Example
+pub mod Laws
+pub mod Lemmas

@@ -2,15 +2,15 @@
 use Rattle.std.proofs.Common.{◌≡◌, true, false, List, [], ◌∷◌, ◌++◌, fold, find, Some, None, ◌⊎◌, inl, inr, refl, sym, ◌∙◌, ap, subst, append-nil}
 use Rattle.std.specs.List.{flat_map, list_any}
 use Rattle.std.proofs.lemmas.Bool.{cases_Bool, or_left, or_right, or_cases, cond-true, cond-false}
-use Rattle.sc_base.specs.Among.{Among, Each}
+use Rattle.sc_base.specs.Definitions.{Among, Each}
 use Rattle.sc_base.specs.declared.names.Draw.{Draw}
-use Rattle.sc_base.proofs.NameLemmas.{same_name, draw_is}
+use Rattle.sc_base.proofs.Lemmas.{same_name, draw_is}
 use Rattle.sc_cmd.specs.declared.cores.Base.{Base}
-use Rattle.sc_paxos_law.proofs.Among.{Among-left, Among-right, Among-either}
-use Rattle.sc_paxos_words.proofs.ListLemmas.{Each-append, Each-among}
-use Rattle.sc_log_entries.proofs.Names.{other_name}
-use Rattle.sc_ring_law.proofs.Finds.{Pairwise}
-use Rattle.sc_sound.specs.GroupsOf.{is_birth_of, with_birth}
+use Rattle.sc_paxos_law.proofs.Lemmas.{Among-left, Among-right, Among-either}
+use Rattle.sc_paxos_words.proofs.Lemmas.{Each-append, Each-among}
+use Rattle.sc_log_entries.proofs.Lemmas.{other_name}
+use Rattle.sc_ring_law.proofs.Lemmas.{Pairwise}
+use Rattle.sc_sound.specs.Definitions.{is_birth_of, with_birth}
 
 -- ---- lists
 

@@ -11,10 +11,9 @@ use Rattle.sc_cmd.specs.declared.cores.Lock.{Lock}
 use Rattle.sc_cmd.specs.declared.cores.Lock.TheVariants.{Free, Coordinating, Promised, Watching}
 use Rattle.sc_cmd.specs.declared.effects.Effect.{Effect}
 use Rattle.sc_cmd.specs.declared.links.Route.{Route}
-use Rattle.sc_ideal.specs.IdealStore.{key_of, holds_key, reply_of}
-use Rattle.sc_machine_table.specs.Group.{Group}
-use Rattle.sc_machine_table.specs.Machine.{applied, called, done, served, served_by_note}
-use Rattle.sc_hist_law.specs.Laws.{IsReplied}
+use Rattle.sc_ideal.specs.Definitions.{key_of, holds_key, reply_of}
+use Rattle.sc_machine_table.specs.Definitions.{Group, applied, called, done, served, served_by_note}
+use Rattle.sc_hist_law.specs.Definitions.{IsReplied}
 
 -- a reply to a request is noted of the client
 pub record IsNotedAs (group : Group) (client seq : ℕ) (reply : Reply) : Type 0 where

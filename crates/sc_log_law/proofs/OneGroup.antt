@@ -10,14 +10,11 @@ use Rattle.sc_mail.specs.declared.bodies.MailBody.TheVariants.{Accept}
 use Rattle.sc_actor.specs.declared.rows.Row.{Row}
 use Rattle.sc_actor.specs.declared.rows.Event.{Event}
 use Rattle.sc_actor.specs.declared.rows.Event.TheVariants.{Deliver}
-use Rattle.sc_actor.specs.Mail.{numbered}
-use Rattle.sc_paxos_law.specs.Steps.{Step, Accepted}
-use Rattle.sc_paxos_law.specs.Decided.{log_of}
-use Rattle.sc_sound.specs.Accepts.{is_accepted, accepts_of, accepts_got, accepts_at, accepts_from, accepts}
-use Rattle.sc_sound.specs.Logs.{rule_of}
-use Rattle.sc_log_law.specs.Descent.{Rows}
-use Rattle.sc_log_law.specs.Laws.{RowsDecideForOne}
-use Rattle.sc_log_entries.proofs.Names.{other_name}
+use Rattle.sc_actor.specs.Definitions.{numbered}
+use Rattle.sc_paxos_law.specs.Definitions.{Step, Accepted, log_of}
+use Rattle.sc_sound.specs.Definitions.{is_accepted, accepts_of, accepts_got, accepts_at, accepts_from, accepts, rule_of}
+use Rattle.sc_log_law.specs.Definitions.{Rows, RowsDecideForOne}
+use Rattle.sc_log_entries.proofs.Lemmas.{other_name}
 
 -- all that was sent
 abbrev sent_by : List Mail → Rows → List Mail

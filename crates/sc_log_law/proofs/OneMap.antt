@@ -1,13 +1,12 @@
 -- The ring, the history and the map of allowed entries.
 use Rattle.std.proofs.Common.{sym, ◌∙◌, ap}
 use Rattle.std.proofs.lemmas.Option.{same_Some}
-use Rattle.sc_machine_table.specs.Group.{Group}
-use Rattle.sc_ring_law.specs.Allowed.{first_told}
-use Rattle.sc_ring_law.proofs.Sound.{entries_keep_the_ring}
-use Rattle.sc_ring_law.proofs.Start.{at_start}
-use Rattle.sc_hist_law.specs.Telling.{EntriesThatMayBeToldTell}
-use Rattle.sc_hist_law.proofs.Entries.{entries_tell}
-use Rattle.sc_log_law.specs.OneMap.{AllowedEntriesMakeOneMap}
+use Rattle.sc_machine_table.specs.Definitions.{Group}
+use Rattle.sc_ring_law.specs.Definitions.{first_told}
+use Rattle.sc_ring_law.proofs.Lemmas.{entries_keep_the_ring, at_start}
+use Rattle.sc_hist_law.specs.Definitions.{EntriesThatMayBeToldTell}
+use Rattle.sc_hist_law.proofs.Lemmas.{entries_tell}
+use Rattle.sc_log_law.specs.Definitions.{AllowedEntriesMakeOneMap}
 use Rattle.sc_log_law.proofs.Executes.{all_may_be_told}
 
 pub one_map : EntriesThatMayBeToldTell → AllowedEntriesMakeOneMap

@@ -2,18 +2,14 @@
 use Rattle.std.proofs.Common.{◌≡◌, ℕ, zero, suc, ◌+◌, ◌<◌, ◌≤◌, nat_lt, List, [], ◌∷◌, ◌++◌, length, Some, inl, inr, sym, ◌∙◌, ap, subst, append-nil, append_assoc, arith}
 use Rattle.std.specs.Prelude.{slice_get}
 use Rattle.std.proofs.lemmas.Bool.{cases_Bool, cond-true, cond-false}
-use Rattle.sc_base.specs.Among.{Among}
+use Rattle.sc_base.specs.Definitions.{Among}
 use Rattle.sc_cmd.specs.declared.cores.Base.{Base}
 use Rattle.sc_cmd.specs.declared.orders.OrderLine.{OrderLine}
 use Rattle.sc_mail.specs.declared.bodies.Mail.{Mail}
 use Rattle.sc_actor.specs.declared.rows.Row.{Row}
-use Rattle.sc_sound.specs.Players.{Ahead}
-use Rattle.sc_ring_law.specs.Allowed.{Sources}
-use Rattle.sc_sound.specs.GroupsOf.{entries_by_row, entries_by_rows, history_at}
-use Rattle.sc_sound.specs.Soundness.{told_from}
-use Rattle.sc_log_law.specs.Descent.{Rows}
-use Rattle.sc_log_law.specs.InTurn.{DecidesInTurn, DecideInTurn}
-use Rattle.sc_log_law.specs.Laws.{RowsGoOn}
+use Rattle.sc_sound.specs.Definitions.{Ahead, entries_by_row, entries_by_rows, history_at, told_from}
+use Rattle.sc_ring_law.specs.Definitions.{Sources}
+use Rattle.sc_log_law.specs.Definitions.{Rows, DecidesInTurn, DecideInTurn, RowsGoOn}
 
 -- ---- rows in two parts
 

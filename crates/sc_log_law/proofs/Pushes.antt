@@ -1,32 +1,27 @@
 -- One more row that decides in turn: what it decides, group by group, and what holds afterwards.
 use Rattle.std.proofs.Common.{◌≡◌, ℕ, suc, ◌+◌, List, [], ◌∷◌, ◌++◌, length, Some, ◌⊎◌, inl, inr, sym, ◌∙◌, ap, subst, append_assoc}
-use Rattle.sc_base.specs.Among.{Among}
+use Rattle.sc_base.specs.Definitions.{Among}
 use Rattle.sc_base.specs.declared.names.Draw.{Draw}
 use Rattle.sc_cmd.specs.declared.commands.Command.{Command}
 use Rattle.sc_cmd.specs.declared.cores.Base.{Base}
 use Rattle.sc_cmd.specs.declared.orders.OrderLine.{OrderLine}
 use Rattle.sc_mail.specs.declared.bodies.Mail.{Mail}
 use Rattle.sc_actor.specs.declared.rows.Row.{Row}
-use Rattle.sc_machine_table.specs.Group.{Group}
-use Rattle.sc_paxos_law.proofs.Among.{Among-left, Among-right, Among-either}
-use Rattle.sc_sound.specs.Players.{Ahead}
+use Rattle.sc_machine_table.specs.Definitions.{Group}
+use Rattle.sc_paxos_law.proofs.Lemmas.{Among-left, Among-right, Among-either}
+use Rattle.sc_sound.specs.Definitions.{Ahead, groups_at, log_at, entries_from, entries_after, entries_gained, entries_by_row, entries_at, world_at, decided_log, decided_state}
 use Rattle.sc_log_entries.specs.declared.LogEntry.{LogEntry}
-use Rattle.sc_log_entries.specs.Worlds.{StoreWorld, first_world, named_group, world_after}
-use Rattle.sc_log_entries.proofs.Pushes.{world_append}
-use Rattle.sc_hist_law.specs.Fronts.{log_in}
-use Rattle.sc_ring_law.specs.Allowed.{Sources, AreAllowed, first_told}
-use Rattle.sc_ring_law.specs.Laws.{BeginInPlace}
-use Rattle.sc_ring_law.proofs.Sound.{allowed_lists_append}
-use Rattle.sc_sound.specs.GroupsOf.{groups_at, log_at, entries_from, entries_after, entries_gained, entries_by_row, entries_at, world_at}
-use Rattle.sc_sound.specs.Logs.{decided_log, decided_state}
-use Rattle.sc_sound.proofs.EntryRows.{entries-push, world-push}
-use Rattle.sc_log_law.specs.Descent.{Rows, IsFound, added_by}
+use Rattle.sc_log_entries.specs.Definitions.{StoreWorld, first_world, named_group, world_after}
+use Rattle.sc_log_entries.proofs.Lemmas.{world_append, draw_cases}
+use Rattle.sc_hist_law.specs.Definitions.{log_in}
+use Rattle.sc_ring_law.specs.Definitions.{Sources, AreAllowed, first_told, BeginInPlace}
+use Rattle.sc_ring_law.proofs.Lemmas.{allowed_lists_append, some_none}
+use Rattle.sc_sound.proofs.Lemmas.{entries-push, world-push}
+use Rattle.sc_log_law.specs.Definitions.{Rows, IsFound, added_by}
 use Rattle.sc_log_law.proofs.Lists.{flat_map_none, flat_map_one}
 use Rattle.sc_log_law.proofs.Children.{log_append, log_of_others, log_of_own, entries_of}
 use Rattle.sc_log_law.proofs.Generations.{FoundInTurn, AreOne, AreNear, log_on, still_descends, IsNamedNow, now_descends, old_or_new, near_on, group_found, groups_apart, found_group, known_by_name, no_birth_at, no_log_at}
 use Rattle.sc_log_law.proofs.Told.{IsBorn, Told, two_names, state_there, Decides, others_idle, decides}
-use Rattle.sc_ring_law.proofs.Finds.{some_none}
-use Rattle.sc_log_entries.proofs.Names.{draw_cases}
 
 module _ (sources : Sources) (ahead : Ahead) (bases : List Base) (start : BeginInPlace sources bases) (before : Rows) (k : Told sources ahead bases before) (row : Row Mail OrderLine) (turn : FoundInTurn sources ahead bases before row) where
   abbrev next : Rows

@@ -4,36 +4,26 @@ use Rattle.std.specs.Prelude.{slice_get}
 use Rattle.std.specs.FinMap.{get}
 use Rattle.std.proofs.lemmas.Bool.{cases_lt}
 use Rattle.std.proofs.lemmas.List.{length-append}
-use Rattle.sc_base.specs.Among.{Among}
+use Rattle.sc_base.specs.Definitions.{Among}
 use Rattle.sc_base.specs.declared.ops.Reply.{Reply}
 use Rattle.sc_cmd.specs.declared.commands.Command.TheVariants.{Call}
 use Rattle.sc_cmd.specs.declared.cores.Base.{Base}
 use Rattle.sc_cmd.specs.declared.orders.OrderLine.{OrderLine}
 use Rattle.sc_mail.specs.declared.bodies.Mail.{Mail}
 use Rattle.sc_actor.specs.declared.rows.Row.{Row}
-use Rattle.sc_actor.proofs.PendingLemmas.{get_left}
-use Rattle.sc_ideal.specs.History.{HasEntry}
+use Rattle.sc_actor.proofs.Lemmas.{get_left}
+use Rattle.sc_ideal.specs.Definitions.{HasEntry}
 use Rattle.sc_ideal.specs.declared.Entry.{Entry}
-use Rattle.sc_machine_table.specs.Group.{Group, group_of}
-use Rattle.sc_machine_table.specs.Logs.{state_after}
-use Rattle.sc_paxos_law.proofs.Among.{Among-left}
-use Rattle.sc_sound.specs.Players.{Ahead}
+use Rattle.sc_machine_table.specs.Definitions.{Group, group_of, state_after}
+use Rattle.sc_paxos_law.proofs.Lemmas.{Among-left}
+use Rattle.sc_sound.specs.Definitions.{Ahead, entries_at, history_at, IsRequest, issue_row, AnswersRequests, told_row, IsTimely, KeepsRealTime, IsSound}
 use Rattle.sc_scenario.specs.declared.scenarios.Scenario.{Scenario}
-use Rattle.sc_hist_law.specs.Worlds.{BeginBare}
-use Rattle.sc_log_entries.specs.Worlds.{CoverThroughout}
-use Rattle.sc_ring_law.specs.Allowed.{Sources, AreAllowed, first_told}
-use Rattle.sc_ring_law.proofs.Sound.{entries_keep_the_ring}
+use Rattle.sc_hist_law.specs.Definitions.{BeginBare}
+use Rattle.sc_log_entries.specs.Definitions.{CoverThroughout}
+use Rattle.sc_ring_law.specs.Definitions.{Sources, AreAllowed, first_told, BeginInPlace}
+use Rattle.sc_ring_law.proofs.Lemmas.{entries_keep_the_ring}
 use Rattle.sc_log_law.proofs.Allowing.{allowed_parts}
-use Rattle.sc_ring_law.specs.Laws.{BeginInPlace}
-use Rattle.sc_log_law.specs.OneMap.{AllowedEntriesMakeOneMap}
-use Rattle.sc_sound.specs.GroupsOf.{entries_at, history_at}
-use Rattle.sc_sound.specs.Requests.{IsRequest, issue_row}
-use Rattle.sc_sound.specs.Soundness.{AnswersRequests, told_row, IsTimely, KeepsRealTime, IsSound}
-use Rattle.sc_log_law.specs.Descent.{Rows}
-use Rattle.sc_log_law.specs.InTurn.{DecideInTurn}
-use Rattle.sc_log_law.specs.Findings.{TellOneMap, IsToldAt, StayAsTold}
-use Rattle.sc_log_law.specs.Beside.{IsIssuedIn, IsDecidedBefore, HoldsBeside}
-use Rattle.sc_log_law.specs.Laws.{JournalsInTurnAreSound}
+use Rattle.sc_log_law.specs.Definitions.{AllowedEntriesMakeOneMap, Rows, DecideInTurn, TellOneMap, IsToldAt, StayAsTold, IsIssuedIn, IsDecidedBefore, HoldsBeside, JournalsInTurnAreSound}
 use Rattle.sc_log_law.proofs.Children.{state_append}
 use Rattle.sc_log_law.proofs.Parts.{in_turn_parts}
 use Rattle.sc_log_law.proofs.Findings.{entries_tell_one_map, entries_are_logs, entries_are_allowed}

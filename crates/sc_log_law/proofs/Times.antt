@@ -5,15 +5,12 @@ use Rattle.std.specs.List.{AllPairs}
 use Rattle.std.proofs.lemmas.Bool.{cases_Bool, cases_lt, ltb-false, le-ltb, cond-true, cond-false, cond_both}
 use Rattle.std.proofs.lemmas.List.{length_push}
 use Rattle.std.proofs.lemmas.Option.{slice_get_within, get_or_from_slice_get}
-use Rattle.sc_base.specs.Among.{Among}
+use Rattle.sc_base.specs.Definitions.{Among}
 use Rattle.sc_cmd.specs.declared.cores.Base.{Base}
-use Rattle.sc_ideal.specs.History.{AreApart}
+use Rattle.sc_ideal.specs.Definitions.{AreApart}
 use Rattle.sc_ideal.specs.declared.Entry.{Entry}
-use Rattle.sc_sound.specs.Players.{Ahead}
-use Rattle.sc_sound.specs.GroupsOf.{history_at}
-use Rattle.sc_sound.specs.Requests.{issues, issued_from, issue_row}
-use Rattle.sc_sound.specs.Soundness.{told_from}
-use Rattle.sc_log_law.specs.Descent.{Rows}
+use Rattle.sc_sound.specs.Definitions.{Ahead, history_at, issues, issued_from, issue_row, told_from}
+use Rattle.sc_log_law.specs.Definitions.{Rows}
 
 -- an element of a list has a place in it
 pub among_place : {X : Type 0} (xs : List X) (x : X) → Among x xs → (place : ℕ) × (slice_get xs place ≡ Some x)

@@ -1,7 +1,7 @@
 -- What holds of the groups and the entries of rows that decide in turn, with each row.
 use Rattle.std.proofs.Common.{◌≡◌, ℕ, zero, suc, ◌+◌, List, [], ◌∷◌, ◌++◌, map, length, drop, Option, Some, None, ◌⊎◌, inl, inr, refl, sym, ◌∙◌, ap, subst, append-nil, arith}
 use Rattle.std.proofs.Math.Seq.{drop-length}
-use Rattle.sc_base.specs.Among.{Among, Each}
+use Rattle.sc_base.specs.Definitions.{Among, Each}
 use Rattle.sc_base.specs.declared.names.Draw.{Draw}
 use Rattle.sc_cmd.specs.declared.commands.Command.{Command}
 use Rattle.sc_cmd.specs.declared.commands.Command.TheVariants.{Call}
@@ -10,29 +10,19 @@ use Rattle.sc_cmd.specs.declared.orders.OrderLine.{OrderLine}
 use Rattle.sc_mail.specs.declared.bodies.Mail.{Mail}
 use Rattle.sc_actor.specs.declared.rows.Row.{Row}
 use Rattle.sc_ideal.specs.declared.Entry.{Entry}
-use Rattle.sc_machine_table.specs.Group.{Group, group_of}
-use Rattle.sc_machine_table.specs.Logs.{state_after, done_by}
-use Rattle.sc_paxos_words.proofs.ListLemmas.{Each-among, Each-from, find_found}
-use Rattle.sc_sound.specs.Players.{Ahead}
+use Rattle.sc_machine_table.specs.Definitions.{Group, group_of, state_after, done_by}
+use Rattle.sc_paxos_words.proofs.Lemmas.{Each-among, Each-from, find_found}
+use Rattle.sc_sound.specs.Definitions.{Ahead, children_of, birth_at, entries_from, entries_at, world_at, decided_log, decided_state}
 use Rattle.sc_log_entries.specs.declared.Cut.{Cut}
 use Rattle.sc_log_entries.specs.declared.LogEntry.{LogEntry}
-use Rattle.sc_log_entries.specs.Rings.{first_cut}
-use Rattle.sc_log_entries.specs.Worlds.{StoreWorld, first_world, is_named, named_group, world_after, world_of}
-use Rattle.sc_log_entries.proofs.Pushes.{world_append}
-use Rattle.sc_hist_law.specs.Fronts.{log_in}
-use Rattle.sc_hist_law.proofs.Fronts.{logs_make_states}
-use Rattle.sc_hist_law.proofs.Told.{calls_of}
-use Rattle.sc_paxos_law.proofs.Among.{from_map}
-use Rattle.sc_ring_law.proofs.Sound.{store_after}
-use Rattle.sc_ring_law.specs.Allowed.{Sources, IsAllowed, AreAllowed, ToldWorld, first_told, told_after}
-use Rattle.sc_ring_law.specs.Laws.{BeginInPlace}
-use Rattle.sc_ring_law.proofs.Finds.{Pairwise, map_among, some_none}
-use Rattle.sc_ring_law.proofs.Start.{at_start}
-use Rattle.sc_log_entries.proofs.Names.{found_name, draw_cases}
-use Rattle.sc_ring_law.proofs.Worlds.{KeptWorld, kept_after}
-use Rattle.sc_sound.specs.GroupsOf.{children_of, birth_at, entries_from, entries_at, world_at}
-use Rattle.sc_sound.specs.Logs.{decided_log, decided_state}
-use Rattle.sc_log_law.specs.Descent.{Rows, Descends, IsFound, added_by, newborn_by}
+use Rattle.sc_log_entries.specs.Definitions.{first_cut, StoreWorld, first_world, is_named, named_group, world_after, world_of}
+use Rattle.sc_log_entries.proofs.Lemmas.{world_append, found_name, draw_cases}
+use Rattle.sc_hist_law.specs.Definitions.{log_in}
+use Rattle.sc_hist_law.proofs.Lemmas.{logs_make_states, calls_of}
+use Rattle.sc_paxos_law.proofs.Lemmas.{from_map}
+use Rattle.sc_ring_law.proofs.Lemmas.{store_after, Pairwise, map_among, some_none, at_start, KeptWorld, kept_after}
+use Rattle.sc_ring_law.specs.Definitions.{Sources, IsAllowed, AreAllowed, ToldWorld, first_told, told_after, BeginInPlace}
+use Rattle.sc_log_law.specs.Definitions.{Rows, Descends, IsFound, added_by, newborn_by}
 use Rattle.sc_log_law.proofs.Lists.{HaveTwoNames}
 use Rattle.sc_log_law.proofs.Generations.{FoundInTurn, AreOne, AreNear, IsNamedNow, known_by_name, birth_found}
 use Rattle.sc_log_law.proofs.Births.{IsBornAmong, BornBy, born_by}

@@ -1,19 +1,14 @@
 -- A row decides in turn where it does for each group that is found before it.
 use Rattle.std.proofs.Common.{◌≡◌, zero, suc, List, [], ◌∷◌, ◌++◌, length, drop, sym, ◌∙◌, ap, subst, append-nil}
 use Rattle.std.proofs.Math.Seq.{drop-length}
-use Rattle.sc_base.specs.Among.{Among, Each}
+use Rattle.sc_base.specs.Definitions.{Among, Each}
 use Rattle.sc_cmd.specs.declared.cores.Base.{Base}
 use Rattle.sc_cmd.specs.declared.orders.OrderLine.{OrderLine}
 use Rattle.sc_mail.specs.declared.bodies.Mail.{Mail}
 use Rattle.sc_actor.specs.declared.rows.Row.{Row}
-use Rattle.sc_sound.specs.Players.{Ahead}
-use Rattle.sc_ring_law.specs.Allowed.{Sources, IsAllowed}
-use Rattle.sc_ring_law.specs.Laws.{stories_of}
-use Rattle.sc_sound.specs.GroupsOf.{children_of, children_by, entries_at}
-use Rattle.sc_sound.specs.Logs.{decided_log, decided_state}
-use Rattle.sc_sound.specs.Soundness.{Continues}
-use Rattle.sc_log_law.specs.Descent.{Rows, IsFound, added_by, newborn_by}
-use Rattle.sc_log_law.specs.InTurn.{DecidesInTurn}
+use Rattle.sc_sound.specs.Definitions.{Ahead, children_of, children_by, entries_at, decided_log, decided_state, Continues}
+use Rattle.sc_ring_law.specs.Definitions.{Sources, IsAllowed, stories_of}
+use Rattle.sc_log_law.specs.Definitions.{Rows, IsFound, added_by, newborn_by, DecidesInTurn}
 use Rattle.sc_log_law.proofs.Generations.{group_found}
 
 module _ (sources : Sources) (ahead : Ahead) (bases : List Base) (before : Rows) (row : Row Mail OrderLine) where

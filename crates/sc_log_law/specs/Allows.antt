@@ -14,12 +14,8 @@ use Rattle.sc_cmd.specs.declared.votes.Past.{Past}
 use Rattle.sc_cmd.specs.declared.votes.Past.TheVariants as Cast
 use Rattle.sc_cmd.specs.declared.votes.Vote.{Vote}
 use Rattle.sc_cmd.specs.declared.votes.Vote.TheVariants as Ballot
-use Rattle.sc_machine_table.specs.Group.{Group}
-use Rattle.sc_machine_table.specs.Machine.{applied}
-use Rattle.sc_machine_table.specs.Plans.{frozen_of}
-use Rattle.sc_ring_law.specs.Allowed.{Sources, IsAllowed}
-use Rattle.sc_ring_law.specs.Invariant.{Groups, Facts}
-use Rattle.sc_ring_law.specs.Stories.{Stories, unsigned, unsigned_watch, offer_for, watch_for, stories_after}
+use Rattle.sc_machine_table.specs.Definitions.{Group, applied, frozen_of}
+use Rattle.sc_ring_law.specs.Definitions.{Sources, IsAllowed, Groups, Facts, Stories, unsigned, unsigned_watch, offer_for, watch_for, stories_after}
 
 -- a group as it stands makes a command allowed, whatever was told so far
 abbrev pub AllowsAsItStands : Sources → Draw → Group → Draw → Command → Type 0

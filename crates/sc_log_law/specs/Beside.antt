@@ -1,6 +1,6 @@
 -- What makes a journal sound beside its groups and entries: one value per slot of each group, replicas that have executed fronts, and calls and replies in the order of rows.
 use Rattle.std.specs.Prelude.{◌≡◌, ℕ, ◌+◌, ◌-◌, ◌≤◌, List, ◌∷◌, ◌++◌, length, Some, slice_get}
-use Rattle.sc_base.specs.Among.{Among}
+use Rattle.sc_base.specs.Definitions.{Among}
 use Rattle.sc_base.specs.declared.ops.Op.{Op}
 use Rattle.sc_base.specs.declared.ops.Reply.{Reply}
 use Rattle.sc_cmd.specs.declared.commands.Command.{Command}
@@ -9,19 +9,12 @@ use Rattle.sc_cmd.specs.declared.cores.Base.{Base}
 use Rattle.sc_cmd.specs.declared.orders.OrderLine.{OrderLine}
 use Rattle.sc_mail.specs.declared.bodies.Mail.{Mail}
 use Rattle.sc_actor.specs.declared.rows.Row.{Row}
-use Rattle.sc_machine_table.specs.Group.{group_of}
-use Rattle.sc_machine_table.specs.Logs.{state_after}
-use Rattle.sc_machine_table.specs.Machine.{applied}
-use Rattle.sc_paxos_law.specs.Chosen.{IsLog}
-use Rattle.sc_sound.specs.Players.{Ahead, route_of}
+use Rattle.sc_machine_table.specs.Definitions.{group_of, state_after, applied}
+use Rattle.sc_paxos_law.specs.Definitions.{IsLog}
+use Rattle.sc_sound.specs.Definitions.{Ahead, route_of, accepts, groups_at, rule_of, IsChosenIn, decided_log, issue_row, kept_reply, answer_row, Continues, AllHaveRun}
 use Rattle.sc_scenario.specs.declared.scenarios.Asks.{Asks}
 use Rattle.sc_scenario.specs.declared.scenarios.Scenario.{Scenario}
-use Rattle.sc_hist_law.specs.Laws.{IsReplied}
-use Rattle.sc_sound.specs.Accepts.{accepts}
-use Rattle.sc_sound.specs.GroupsOf.{groups_at}
-use Rattle.sc_sound.specs.Logs.{rule_of, IsChosenIn, decided_log}
-use Rattle.sc_sound.specs.Requests.{issue_row, kept_reply, answer_row}
-use Rattle.sc_sound.specs.Soundness.{Continues, AllHaveRun}
+use Rattle.sc_hist_law.specs.Definitions.{IsReplied}
 use Rattle.sc_log_law.specs.Descent.{Rows, added_by}
 
 -- one value per slot of a group, and a decided log that is one and the longest

@@ -1,6 +1,6 @@
 -- A journal in which a group is split and its child serves a call: its rows decide in turn.
 use Rattle.std.specs.Prelude.{◌≡◌, ℕ, List, [], ◌∷◌, map, Some, None, if◌then◌else◌}
-use Rattle.sc_base.specs.Same.{same_draw}
+use Rattle.sc_base.specs.Definitions.{same_draw}
 use Rattle.sc_base.specs.declared.names.Ballot.{Ballot}
 use Rattle.sc_cmd.specs.declared.commands.Command.{Command}
 use Rattle.sc_cmd.specs.declared.commands.Command.TheVariants.{Call, Split}
@@ -12,12 +12,9 @@ use Rattle.sc_mail.specs.declared.bodies.MailBody.{MailBody}
 use Rattle.sc_mail.specs.declared.bodies.MailBody.TheVariants.{Request, Accept, Accepted}
 use Rattle.sc_actor.specs.declared.rows.Row.{Row}
 use Rattle.sc_actor.specs.declared.rows.Event.TheVariants.{Deliver, Told, Go}
-use Rattle.sc_hist_law.specs.Example.{parent, offspring, put_a, lone_base}
-use Rattle.sc_hist_law.specs.Worlds.{BeginBare}
-use Rattle.sc_ring_law.specs.Allowed.{Sources}
-use Rattle.sc_ring_law.specs.Laws.{BeginInPlace}
-use Rattle.sc_sound.specs.Example.{four, mail, row}
-use Rattle.sc_sound.specs.GroupsOf.{groups_at, log_at}
+use Rattle.sc_hist_law.specs.Definitions.{parent, offspring, put_a, lone_base, BeginBare}
+use Rattle.sc_ring_law.specs.Definitions.{Sources, BeginInPlace}
+use Rattle.sc_sound.specs.Definitions.{four, mail, row, groups_at, log_at}
 use Rattle.sc_log_law.specs.Descent.{Rows}
 use Rattle.sc_log_law.specs.InTurn.{DecideInTurn}
 

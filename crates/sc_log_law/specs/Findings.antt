@@ -1,6 +1,6 @@
 -- What holds of the groups of a journal and of its entries, where each row decides in turn.
 use Rattle.std.specs.Prelude.{◌≡◌, ℕ, ◌+◌, ◌<◌, ◌≤◌, ◌⊎◌, List, [], ◌∷◌, ◌++◌, length, Some, None}
-use Rattle.sc_base.specs.Among.{Among}
+use Rattle.sc_base.specs.Definitions.{Among}
 use Rattle.sc_base.specs.declared.names.Draw.{Draw}
 use Rattle.sc_cmd.specs.declared.commands.Command.{Command}
 use Rattle.sc_cmd.specs.declared.commands.Command.TheVariants.{Call}
@@ -9,16 +9,11 @@ use Rattle.sc_cmd.specs.declared.orders.OrderLine.{OrderLine}
 use Rattle.sc_mail.specs.declared.bodies.Mail.{Mail}
 use Rattle.sc_actor.specs.declared.rows.Row.{Row}
 use Rattle.sc_ideal.specs.declared.Entry.{Entry}
-use Rattle.sc_machine_table.specs.Group.{group_of}
-use Rattle.sc_machine_table.specs.Logs.{state_after}
-use Rattle.sc_sound.specs.Players.{Ahead}
+use Rattle.sc_machine_table.specs.Definitions.{group_of, state_after}
+use Rattle.sc_sound.specs.Definitions.{Ahead, children_of, children_by, groups_at, birth_at, log_at, state_at, entries_at, world_at, history_at, decided_log, decided_state, Continues, IsOneMap, told_row}
 use Rattle.sc_log_entries.specs.declared.LogEntry.{LogEntry}
-use Rattle.sc_log_entries.specs.Worlds.{named_group}
-use Rattle.sc_hist_law.specs.Fronts.{log_in}
-use Rattle.sc_hist_law.specs.Moves.{HasNotes}
-use Rattle.sc_sound.specs.GroupsOf.{children_of, children_by, groups_at, birth_at, log_at, state_at, entries_at, world_at, history_at}
-use Rattle.sc_sound.specs.Logs.{decided_log, decided_state}
-use Rattle.sc_sound.specs.Soundness.{Continues, IsOneMap, told_row}
+use Rattle.sc_log_entries.specs.Definitions.{named_group}
+use Rattle.sc_hist_law.specs.Definitions.{log_in, HasNotes}
 use Rattle.sc_log_law.specs.Descent.{Rows, IsFound, added_by, newborn_by}
 
 -- ---- groups

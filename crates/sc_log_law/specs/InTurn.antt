@@ -1,17 +1,13 @@
 -- What is asked of the decided logs of a journal, row by row: of the groups that there are before the row, and of the children that its own entries name.
 use Rattle.std.specs.Prelude.{◌≡◌, List, [], ◌∷◌, ◌++◌}
-use Rattle.sc_base.specs.Among.{Among, Each}
+use Rattle.sc_base.specs.Definitions.{Among, Each}
 use Rattle.sc_base.specs.declared.names.Draw.{Draw}
 use Rattle.sc_cmd.specs.declared.cores.Base.{Base}
 use Rattle.sc_cmd.specs.declared.orders.OrderLine.{OrderLine}
 use Rattle.sc_mail.specs.declared.bodies.Mail.{Mail}
 use Rattle.sc_actor.specs.declared.rows.Row.{Row}
-use Rattle.sc_sound.specs.Players.{Ahead}
-use Rattle.sc_ring_law.specs.Allowed.{Sources, IsAllowed}
-use Rattle.sc_ring_law.specs.Laws.{stories_of}
-use Rattle.sc_sound.specs.GroupsOf.{groups_at, entries_at}
-use Rattle.sc_sound.specs.Logs.{decided_log}
-use Rattle.sc_sound.specs.Soundness.{Continues}
+use Rattle.sc_sound.specs.Definitions.{Ahead, groups_at, entries_at, decided_log, Continues}
+use Rattle.sc_ring_law.specs.Definitions.{Sources, IsAllowed, stories_of}
 use Rattle.sc_log_law.specs.Descent.{Rows, added_by, newborn_by}
 
 -- A row after these decides what was allowed, and nothing yet for a group that it gives birth to.

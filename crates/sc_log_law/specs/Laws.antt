@@ -1,6 +1,6 @@
 -- What follows where each row of a journal decides in turn, whatever its groups order, split and merge.
 use Rattle.std.specs.Prelude.{◌≡◌, ℕ, List, [], ◌∷◌, ◌++◌, Some, slice_get}
-use Rattle.sc_base.specs.Among.{Among}
+use Rattle.sc_base.specs.Definitions.{Among}
 use Rattle.sc_base.specs.declared.names.Draw.{Draw}
 use Rattle.sc_cmd.specs.declared.commands.Command.{Command}
 use Rattle.sc_cmd.specs.declared.cores.Base.{Base}
@@ -8,16 +8,11 @@ use Rattle.sc_cmd.specs.declared.orders.OrderLine.{OrderLine}
 use Rattle.sc_mail.specs.declared.bodies.Mail.{Mail}
 use Rattle.sc_actor.specs.declared.rows.Row.{Row}
 use Rattle.sc_ideal.specs.declared.Entry.{Entry}
-use Rattle.sc_sound.specs.Players.{Ahead}
+use Rattle.sc_sound.specs.Definitions.{Ahead, groups_at, entries_at, history_at, decided_log, IsSound}
 use Rattle.sc_scenario.specs.declared.scenarios.Scenario.{Scenario}
-use Rattle.sc_machine_table.specs.Group.{Group, group_of}
-use Rattle.sc_machine_table.specs.Logs.{state_after}
-use Rattle.sc_ring_law.specs.Allowed.{Sources, IsAllowed, AreAllowed, first_told}
-use Rattle.sc_ring_law.specs.Laws.{BeginInPlace, stories_of}
-use Rattle.sc_hist_law.specs.Worlds.{BeginBare}
-use Rattle.sc_sound.specs.GroupsOf.{groups_at, entries_at, history_at}
-use Rattle.sc_sound.specs.Logs.{decided_log}
-use Rattle.sc_sound.specs.Soundness.{IsSound}
+use Rattle.sc_machine_table.specs.Definitions.{Group, group_of, state_after}
+use Rattle.sc_ring_law.specs.Definitions.{Sources, IsAllowed, AreAllowed, first_told, BeginInPlace, stories_of}
+use Rattle.sc_hist_law.specs.Definitions.{BeginBare}
 use Rattle.sc_log_law.specs.Allows.{AllowsAsItStands, MakesAllowed, GroupAllows}
 use Rattle.sc_log_law.specs.Beside.{HoldsBeside}
 use Rattle.sc_log_law.specs.Descent.{Rows}

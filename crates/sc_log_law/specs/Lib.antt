@@ -6,3 +6,4 @@ pub mod Findings
 pub mod InTurn
 pub mod Laws
 pub mod OneMap
+pub mod Definitions

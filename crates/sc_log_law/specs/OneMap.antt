@@ -1,15 +1,13 @@
 -- What allowed entries make of the store: one map, served by the groups of the ring.
 use Rattle.std.specs.Prelude.{List}
-use Rattle.sc_base.specs.Among.{Among}
+use Rattle.sc_base.specs.Definitions.{Among}
 use Rattle.sc_cmd.specs.declared.cores.Base.{Base}
-use Rattle.sc_ideal.specs.History.{Legal}
+use Rattle.sc_ideal.specs.Definitions.{Legal}
 use Rattle.sc_log_entries.specs.declared.Cut.{Cut}
 use Rattle.sc_log_entries.specs.declared.LogEntry.{LogEntry}
-use Rattle.sc_log_entries.specs.Parts.{HoldsItsPart}
-use Rattle.sc_log_entries.specs.Worlds.{world_of}
-use Rattle.sc_ring_law.specs.Allowed.{Sources, AreAllowed, first_told}
-use Rattle.sc_ring_law.specs.Laws.{BeginInPlace, IsRingSound}
-use Rattle.sc_hist_law.specs.Worlds.{BeginBare, LogNotesStay}
+use Rattle.sc_log_entries.specs.Definitions.{HoldsItsPart, world_of}
+use Rattle.sc_ring_law.specs.Definitions.{Sources, AreAllowed, first_told, BeginInPlace, IsRingSound}
+use Rattle.sc_hist_law.specs.Definitions.{BeginBare, LogNotesStay}
 
 -- the ring is sound, the history is legal, the map after it, on each cut, is the pairs of the cut's group, and what any log ever made its group note has its entry in the history
 pub record MakeOneMap (bases : List Base) (entries : List LogEntry) : Type 0 where

@@ -5,22 +5,7 @@
 #![tactic(auto)]
 
 ghost use Rattle.sc_log_law.specs.Example.{ExampleInTurn};
-ghost use Rattle.sc_log_law.specs.Laws.{
-  AllowedStaysAllowed,
-  EntriesAreAllowed,
-  EntriesAreLogs,
-  EntriesTellOneMap,
-  FrontsAllow,
-  GroupsAllowOthers,
-  GroupsAreFound,
-  GroupsAreOldOrNew,
-  HistoryIsTold,
-  JournalsInTurnAreSound,
-  RowsDecideForOne,
-  RowsGoOn,
-  StatesAllow,
-  ToldRowsStay,
-};
+ghost use Rattle.sc_log_law.specs.Laws.{AllowedStaysAllowed, EntriesAreAllowed, EntriesAreLogs, EntriesTellOneMap, FrontsAllow, GroupsAllowOthers, GroupsAreFound, GroupsAreOldOrNew, HistoryIsTold, JournalsInTurnAreSound, RowsDecideForOne, RowsGoOn, StatesAllow, ToldRowsStay};
 ghost use Rattle.sc_log_law.specs.OneMap.{AllowedEntriesMakeOneMap};
 
 /// After every list of allowed entries from groups that hold nothing, the ring covers and is
@@ -97,9 +82,7 @@ pub fn told_rows_stay()
 /// before the row that takes it.
 pub fn journals_in_turn_are_sound()
     ensures { JournalsInTurnAreSound }
-{
-    allowed_entries_make_one_map();
-}
+{}
 
 /// Rows that decide in turn are about something: a group is split, and its child decides a call.
 pub fn a_split_decides_in_turn()

@@ -4,11 +4,10 @@ use Rattle.std.specs.Map.{lookup, set_value}
 use Rattle.std.proofs.lemmas.Map.{length-set_value}
 use Rattle.indexmap.specs.IndexMap.{insert_entry}
 use Rattle.sc_base.specs.declared.names.Draw.{Draw}
-use Rattle.sc_base.specs.Same.{same_draw}
+use Rattle.sc_base.specs.Definitions.{same_draw}
 use Rattle.sc_lookup.specs.declared.ways.Way.{Way}
 use Rattle.std.specs.Prelude.{is_some, Result, Ok, Err, OnOk, IsOk}
-use Rattle.sc_lookup.specs.Ways.{new_way}
-use Rattle.sc_lookup.specs.Known.{KnownGroups, way_to, changed, group_learnt}
+use Rattle.sc_lookup.specs.Definitions.{new_way, KnownGroups, way_to, changed, group_learnt}
 
 -- to change what is known of a group that is not known changes nothing
 pub set_value-none : {K X : Type 0} (test : K → Bool) (es : List (K × X)) (w : X) → lookup test es ≡ None → set_value test es w ≡ es

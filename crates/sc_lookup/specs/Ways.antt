@@ -1,6 +1,6 @@
 -- What a client knows of one group.
 use Rattle.std.specs.Prelude.{ℕ, ◌+◌, ◌-◌, ◌%◌, ◌^◌, List, None, unwrap_or}
-use Rattle.sc_base.specs.Roster.{least_of, next_after}
+use Rattle.sc_base.specs.Definitions.{least_of, next_after}
 use Rattle.sc_lookup.specs.declared.ways.Way.{Way}
 
 -- a group that was not known, with no preferred node

@@ -2,19 +2,16 @@
 use Rattle.std.proofs.Common.{◌≡◌, ◌≢◌, ◌≤◌, ◌<◌, ℕ, ◌==◌, ◌||◌, ◌&&◌, not, nat_le, length, Bool, true, false, cond, Option, Some, None, IsTrue, refl, arith}
 use Rattle.std.proofs.lemmas.Bool.{leb-false}
 use Rattle.std.proofs.lemmas.Bool.Decides.{nat_tests}
-use Rattle.sc_base.specs.Arc.{holds, end_of}
+use Rattle.sc_base.specs.Definitions.{holds, end_of, add_fault, remove_fault, is_member}
 use Rattle.sc_base.specs.declared.names.Draw.{Draw}
-use Rattle.sc_base.specs.Faults.{add_fault, remove_fault}
-use Rattle.sc_base.specs.Roster.{is_member}
 use Rattle.sc_base.specs.declared.sets.MemberFault.TheVariants.{Present, Full}
 use Rattle.sc_cmd.specs.declared.bodies.Body.{Body}
 use Rattle.sc_cmd.specs.declared.bodies.Body.TheVariants.{Merge, Repart, Migrate, Split}
 use Rattle.sc_cmd.specs.declared.commands.Command.{Command}
 use Rattle.sc_cmd.specs.declared.cores.Core.{Core}
 use Rattle.sc_cmd.specs.declared.orders.OrderRefusal.TheVariants.{NoNeighbour, BadBoundary, TooManyMembers, NotMember, LastMember, TxLimit, IsMember}
-use Rattle.sc_cmd.specs.Cores.{is_alone}
-use Rattle.sc_machine_table.specs.Orders.{refused_in, refused_free, join_refused, leave_refused, split_refused, limit_refused, body_refused, begin_refused}
-use Rattle.sc_machine_table.specs.Splits.{CanSplit}
+use Rattle.sc_cmd.specs.Definitions.{is_alone}
+use Rattle.sc_machine_table.specs.Definitions.{refused_in, refused_free, join_refused, leave_refused, split_refused, limit_refused, body_refused, begin_refused, CanSplit}
 
 -- what is not refused passes the first test, and is not refused by what follows
 passed : {X : Type 0} (test : Bool) (why : X) (rest : Option X) → cond test (Some why) rest ≡ None → (test ≡ false) × (rest ≡ None)

@@ -1,6 +1,6 @@
 -- The record that a group begins with, and the route by which a client comes to know it.
 use Rattle.std.specs.Prelude.{[], None}
-use Rattle.sc_base.specs.Roster.{least_of}
+use Rattle.sc_base.specs.Definitions.{least_of}
 use Rattle.sc_cmd.specs.declared.cores.Base.{Base}
 use Rattle.sc_cmd.specs.declared.cores.Lock.TheVariants.{Free}
 use Rattle.sc_cmd.specs.declared.links.Route.{Route}

@@ -11,13 +11,7 @@ use Rattle.sc_cmd.specs.declared.effects.Effect.TheVariants.{Done, Again, Stale,
 use Rattle.sc_cmd.specs.declared.votes.Frozen.{Frozen}
 use Rattle.sc_cmd.specs.declared.votes.Vote.{Vote}
 use Rattle.sc_cmd.specs.declared.votes.Vote.TheVariants.{Yes, No}
-use Rattle.sc_machine_table.specs.Finishes.{finished}
-use Rattle.sc_machine_table.specs.Group.{Group}
-use Rattle.sc_machine_table.specs.Machine.{called, ordered_by, split_group}
-use Rattle.sc_machine_table.specs.Orders.{refusal_of}
-use Rattle.sc_machine_table.specs.Plans.{can_repart}
-use Rattle.sc_machine_table.specs.Transactions.{given_up, vote_recorded, watch_recorded}
-use Rattle.sc_machine_table.specs.Votes.{offer_voted, watched}
+use Rattle.sc_machine_table.specs.Definitions.{finished, Group, called, ordered_by, split_group, refusal_of, can_repart, given_up, vote_recorded, watch_recorded, offer_voted, watched}
 
 -- effects that take memory to be made: a reply, a vote, a decision, a change
 abbrev pub is_made : Effect → Bool

@@ -2,3 +2,4 @@ pub mod Parts
 mod Runs
 pub mod LogLemmas
 mod TransactionRuns
+pub mod Lemmas

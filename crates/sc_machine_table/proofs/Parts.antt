@@ -5,17 +5,12 @@ use Rattle.std.specs.Ordering.{nat_cmp}
 use Rattle.std.specs.Cmp.{nat_cmp_total}
 use Rattle.std.specs.Cmp.Lexicographic.{slice_cmp}
 use Rattle.std.proofs.lemmas.Map.Lookups.{exact_unsigned}
-use Rattle.sc_base.specs.Arc.{Arc, IsArc, CanJoin, before, from, joined, holds}
-use Rattle.sc_base.specs.ArcLaws.{PartsJoin}
-use Rattle.sc_base.specs.Text.{pos_of}
+use Rattle.sc_base.specs.Definitions.{Arc, IsArc, CanJoin, before, from, joined, holds, PartsJoin, pos_of}
 use Rattle.sc_base.specs.declared.ops.Noted.{Noted}
-use Rattle.sc_base.proofs.ArcLemmas.{joins_hold}
-use Rattle.sc_ideal.specs.IdealStore.{Contents, holds_key, part_of, with_pairs}
-use Rattle.sc_ideal.specs.Clients.{ClientTable, later, joined_with}
-use Rattle.sc_ideal.proofs.Apart.{same_contents, get-part}
-use Rattle.sc_ideal.proofs.Joins.{or_else, get-with_pairs}
-use Rattle.sc_ideal.proofs.Tables.{get-joined_with}
-use Rattle.sc_machine_table.specs.Group.{Group, group_of, base_of}
+use Rattle.sc_base.proofs.Lemmas.{joins_hold}
+use Rattle.sc_ideal.specs.Definitions.{Contents, holds_key, part_of, with_pairs, ClientTable, later, joined_with}
+use Rattle.sc_ideal.proofs.Lemmas.{same_contents, get-part, or_else, get-with_pairs, get-joined_with}
+use Rattle.sc_machine_table.specs.Definitions.{Group, group_of, base_of}
 
 -- the part on an arc that lies in another
 inside : {X : Type 0} (a b : Bool) (found : Option X) → (a ≡ true → b ≡ true) → cond a (cond b found None) None ≡ cond a found None
@@ -35,7 +30,7 @@ first_or : (a b : Bool) → a ≡ true → (a || b) ≡ true
 first_or true b t = refl
 first_or false b t = absurd (let no_way : false ≡ true = t in cc)
 
-second_or : (a b : Bool) → b ≡ true → (a || b) ≡ true
+pub second_or : (a b : Bool) → b ≡ true → (a || b) ≡ true
 second_or true b t = refl
 second_or false b t = t
 

@@ -11,10 +11,7 @@ use Rattle.sc_cmd.specs.declared.effects.Effect.TheVariants.{Changed, NoEffect, 
 use Rattle.sc_cmd.specs.declared.orders.OrderRefusal.TheVariants.{NotLeader, InTransaction, BadBoundary, TooManyMembers, NotMember, LastMember, IsMember}
 use Rattle.sc_cmd.specs.declared.votes.Outcome.TheVariants.{Abort}
 use Rattle.sc_cmd.specs.declared.votes.Past.TheVariants.{Yes}
-use Rattle.sc_machine_table.specs.Group.{group_of}
-use Rattle.sc_machine_table.specs.Machine.{applied}
-use Rattle.sc_machine_table.specs.Orders.{refusal_of}
-use Rattle.sc_machine_table.specs.Splits.{left_core, right_core, right_succ}
+use Rattle.sc_machine_table.specs.Definitions.{group_of, applied, refusal_of, left_core, right_core, right_succ}
 
 abbrev draw : ℕ → ℕ → Draw
 draw node count = record { node = node; count = count }

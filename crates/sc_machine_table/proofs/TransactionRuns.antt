@@ -16,12 +16,7 @@ use Rattle.sc_cmd.specs.declared.votes.No.TheVariants.{Busy, Gone, Apart, TooMan
 use Rattle.sc_cmd.specs.declared.votes.Outcome.TheVariants.{Abort, Divided}
 use Rattle.sc_cmd.specs.declared.votes.Past.TheVariants as Cast
 use Rattle.sc_cmd.specs.declared.votes.Vote.TheVariants.{Yes}
-use Rattle.sc_machine_table.specs.Finishes.{finished, gained_core, lost_core}
-use Rattle.sc_machine_table.specs.Group.{Group, group_of}
-use Rattle.sc_machine_table.specs.Orders.{refusal_of}
-use Rattle.sc_machine_table.specs.Plans.{kept_arc}
-use Rattle.sc_machine_table.specs.Transactions.{given_up, vote_recorded}
-use Rattle.sc_machine_table.specs.Votes.{vote_of, offer_voted, watched}
+use Rattle.sc_machine_table.specs.Definitions.{finished, gained_core, lost_core, Group, group_of, refusal_of, kept_arc, given_up, vote_recorded, vote_of, offer_voted, watched}
 
 abbrev draw : ℕ → ℕ → Draw
 draw node count = record { node = node; count = count }

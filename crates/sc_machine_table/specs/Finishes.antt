@@ -1,11 +1,9 @@
 -- What an outcome makes of a party: of the participant, which has promised, and of the watcher. What cannot be made is none.
 use Rattle.std.specs.Prelude.{ℕ, Bool, ◌&&◌, not, nat_le, length, List, ◌∷◌, [], ◌++◌, map, if◌then◌else◌, Option, Some, None}
 use Rattle.std.specs.FinMap.{empty}
-use Rattle.sc_base.specs.Arc.{from, joined}
-use Rattle.sc_base.specs.Same.{same_draw}
+use Rattle.sc_base.specs.Definitions.{from, joined, same_draw, united}
 use Rattle.sc_base.specs.declared.names.Draw.{Draw}
-use Rattle.sc_ideal.specs.IdealStore.{part_of}
-use Rattle.sc_base.specs.Union.{united}
+use Rattle.sc_ideal.specs.Definitions.{part_of}
 use Rattle.sc_cmd.specs.declared.bodies.Offer.{Offer}
 use Rattle.sc_cmd.specs.declared.bodies.Watch.{Watch}
 use Rattle.sc_cmd.specs.declared.cores.Core.{Core}

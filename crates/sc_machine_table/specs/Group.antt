@@ -1,7 +1,6 @@
 -- A group as its machine keeps it: its record, its pairs and its client table.
 use Rattle.std.specs.FinMap.{empty, entries}
-use Rattle.sc_ideal.specs.IdealStore.{Contents, with_pairs}
-use Rattle.sc_ideal.specs.Clients.{ClientTable, joined_with}
+use Rattle.sc_ideal.specs.Definitions.{Contents, with_pairs, ClientTable, joined_with}
 use Rattle.sc_cmd.specs.declared.cores.Core.{Core}
 use Rattle.sc_cmd.specs.declared.cores.Base.{Base}
 

@@ -1,8 +1,7 @@
 -- The orders that a group's log executes: why one is refused, and what else it makes of the group. Of the refusals in the order of their numbers the first that holds counts.
-use Rattle.std.specs.Prelude.{ℕ, Bool, ◌==◌, ◌&&◌, ◌||◌, not, nat_le, length, if◌then◌else◌, Option, Some, None}
-use Rattle.sc_base.specs.Arc.{holds, end_of}
+use Rattle.std.specs.Prelude.{ℕ, ◌==◌, ◌&&◌, ◌||◌, not, nat_le, length, if◌then◌else◌, Option, Some, None}
+use Rattle.sc_base.specs.Definitions.{holds, end_of, is_member, with_member, without_member}
 use Rattle.sc_base.specs.declared.names.Draw.{Draw}
-use Rattle.sc_base.specs.Roster.{is_member, with_member, without_member}
 use Rattle.sc_cmd.specs.declared.bodies.Body.{Body}
 use Rattle.sc_cmd.specs.declared.bodies.Body.TheVariants as At
 use Rattle.sc_cmd.specs.declared.commands.Command.{Command}
@@ -15,7 +14,7 @@ use Rattle.sc_cmd.specs.declared.effects.Effect.TheVariants as Was
 use Rattle.sc_cmd.specs.declared.links.Route.{Route}
 use Rattle.sc_cmd.specs.declared.orders.OrderRefusal.{OrderRefusal}
 use Rattle.sc_cmd.specs.declared.orders.OrderRefusal.TheVariants.{NotLeader, InTransaction, NoNeighbour, BadBoundary, TooManyMembers, NotMember, LastMember, TxLimit, IsMember}
-use Rattle.sc_cmd.specs.Cores.{is_alone}
+use Rattle.sc_cmd.specs.Definitions.{is_alone}
 use Rattle.sc_machine_table.specs.Group.{Group}
 
 -- the transaction that a lock is in

@@ -2,13 +2,9 @@
 use Rattle.std.specs.Prelude.{ℕ, ◌+◌, ◌^◌, Bool, ◌==◌, ◌&&◌, not, nat_le, is_some, length, List, ◌∷◌, [], if◌then◌else◌, Option, Some, None}
 use Rattle.std.specs.List.{list_any}
 use Rattle.std.specs.FinMap.{empty, entries, get}
-use Rattle.sc_base.specs.Arc.{Arc, holds, end_of, before, from, joined}
-use Rattle.sc_base.specs.Same.{same_draw}
+use Rattle.sc_base.specs.Definitions.{Arc, holds, end_of, before, from, joined, same_draw, is_member, without_member, united}
 use Rattle.sc_base.specs.declared.names.Draw.{Draw}
-use Rattle.sc_ideal.specs.IdealStore.{Contents, part_of, with_pairs}
-use Rattle.sc_ideal.specs.Clients.{joined_with}
-use Rattle.sc_base.specs.Roster.{is_member, without_member}
-use Rattle.sc_base.specs.Union.{united}
+use Rattle.sc_ideal.specs.Definitions.{Contents, part_of, with_pairs, joined_with}
 use Rattle.sc_cmd.specs.declared.cores.Core.{Core}
 use Rattle.sc_cmd.specs.declared.links.Link.{Link}
 use Rattle.sc_cmd.specs.declared.links.Route.{Route}

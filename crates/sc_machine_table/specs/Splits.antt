@@ -2,12 +2,10 @@
 use Rattle.std.specs.Prelude.{ℕ, ◌-◌, ◌/◌, ◌≤◌, Bool, not, is_some, ◌&&◌, ◌||◌, if◌then◌else◌, List, [], ◌∷◌, ◌++◌, length, take, drop, Option, Some, None, false}
 use Rattle.std.specs.List.{list_any}
 use Rattle.std.specs.FinMap.{entries}
-use Rattle.sc_base.specs.Arc.{CanCut, before, from}
+use Rattle.sc_base.specs.Definitions.{CanCut, before, from, least_of, same_draw}
 use Rattle.sc_base.specs.declared.names.Draw.{Draw}
-use Rattle.sc_cmd.specs.Cores.{is_alone}
-use Rattle.sc_ideal.specs.IdealStore.{part_of}
-use Rattle.sc_base.specs.Roster.{least_of}
-use Rattle.sc_base.specs.Same.{same_draw}
+use Rattle.sc_cmd.specs.Definitions.{is_alone}
+use Rattle.sc_ideal.specs.Definitions.{part_of}
 use Rattle.sc_cmd.specs.declared.cores.Base.{Base}
 use Rattle.sc_cmd.specs.declared.cores.Core.{Core}
 use Rattle.sc_cmd.specs.declared.cores.Lock.TheVariants.{Free}

@@ -1,9 +1,8 @@
 -- What a split or a transaction keeps of the arcs, the pairs and the client tables of its two groups.
 use Rattle.std.specs.Prelude.{◌≡◌, ℕ, ◌<◌, ◌^◌}
 use Rattle.std.specs.FinMap.{get}
-use Rattle.sc_base.specs.Arc.{Arc, IsArc, CanJoin, joined}
-use Rattle.sc_ideal.specs.IdealStore.{Contents, part_of}
-use Rattle.sc_ideal.specs.Clients.{ClientTable, later}
+use Rattle.sc_base.specs.Definitions.{IsArc, CanJoin, joined}
+use Rattle.sc_ideal.specs.Definitions.{Contents, part_of, ClientTable, later}
 use Rattle.sc_machine_table.specs.Group.{Group}
 
 -- the group has of a whole map just the pairs on its arc

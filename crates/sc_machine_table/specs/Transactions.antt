@@ -1,6 +1,6 @@
 -- How a coordinator goes through a transaction: it begins, hears its participant and then a watcher, or gives up, and decides. What decides is an entry of its own log, as in the nested consensus of Scatter (SOSP 2011).
 use Rattle.std.specs.Prelude.{ℕ, ◌+◌, Bool, ◌∷◌, [], ◌++◌, true, false, is_some, if◌then◌else◌, Option, Some, None}
-use Rattle.sc_base.specs.Same.{same_draw}
+use Rattle.sc_base.specs.Definitions.{same_draw}
 use Rattle.sc_base.specs.declared.names.Draw.{Draw}
 use Rattle.sc_cmd.specs.declared.bodies.Body.{Body}
 use Rattle.sc_cmd.specs.declared.bodies.Body.TheVariants.{Merge, Repart, Migrate, Split}

@@ -1,10 +1,8 @@
 -- How a group votes: on the offer of the group before it, and on becoming the watcher of another. Of the reasons for a No the first that holds counts.
 use Rattle.std.specs.Prelude.{ℕ, Bool, ◌==◌, ◌||◌, ◌∷◌, [], ◌++◌, not, nat_lt, length, if◌then◌else◌, Option, Some, None}
 use Rattle.std.specs.List.{list_any}
-use Rattle.sc_base.specs.Arc.{holds, end_of}
-use Rattle.sc_base.specs.Same.{same_draw}
+use Rattle.sc_base.specs.Definitions.{holds, end_of, same_draw, united}
 use Rattle.sc_base.specs.declared.names.Draw.{Draw}
-use Rattle.sc_base.specs.Union.{united}
 use Rattle.sc_cmd.specs.declared.bodies.Body.{Body}
 use Rattle.sc_cmd.specs.declared.bodies.Body.TheVariants.{Merge, Repart, Migrate, Split}
 use Rattle.sc_cmd.specs.declared.bodies.Offer.{Offer}

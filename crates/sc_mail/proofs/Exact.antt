@@ -1,8 +1,5 @@
 -- What the derived `==` of the types of this crate decides.
-use Rattle.std.specs.Prelude.{nat_eq}
-use Rattle.std.specs.Cmp.Lexicographic.{pointwise}
-use Rattle.sc_base.proofs.EqualityLemmas.{Exact, lists, options, numbers, struct, last, ◌and◌, enum, ◌or◌, no_variant}
-use Rattle.sc_base.proofs.Exact.{arc, draw, ballot, op, reply}
+use Rattle.sc_base.proofs.Lemmas.{Exact, lists, options, numbers, struct, last, ◌and◌, enum, ◌or◌, no_variant, arc, draw, ballot, op, reply, bytes as members}
 use Rattle.sc_cmd.proofs.Exact.{link, route, offer, watch, vote, past, outcome, base, command, told_result}
 use Rattle.sc_cmd.specs.contracts.commands.Command as command_type
 use Rattle.sc_paxos_words.specs.contracts.reports.Report as report_type
@@ -12,9 +9,6 @@ use Rattle.sc_mail.specs.contracts.bodies.Mail as mail_type
 use Rattle.sc_mail.specs.contracts.bodies.MailPartialEq.TheImpl as mail_eq
 use Rattle.sc_mail.specs.contracts.bodies.MailBody as body_type
 use Rattle.sc_mail.specs.contracts.bodies.MailBodyPartialEq.TheImpl as body_eq
-
-members : Exact (pointwise nat_eq)
-members = lists numbers
 
 pub answer : Exact answer_eq.ghosts.eq
 answer = enum answer_type.enum (last reply or last (options numbers) or arc and last link or last route or last numbers or no_variant)

@@ -1,7 +1,7 @@
 -- The table of a node or a client.
 use Rattle.sc_cmd.specs.declared.orders.OrderLine.{OrderLine}
 use Rattle.sc_mail.specs.declared.bodies.Mail.{Mail}
-use Rattle.sc_actor.specs.Replay.{Table}
+use Rattle.sc_actor.specs.Definitions.{Table}
 use Rattle.sc_mail.specs.declared.roles.Role.{Role}
 use Rattle.sc_mail.specs.declared.roles.Role.TheVariants.{Node, Client}
 

@@ -4,32 +4,15 @@ use Rattle.std.proofs.Common.{◌≡◌, ℕ, ◌≤◌, nat_le, Bool, List, [],
 use Rattle.std.specs.Prelude.{is_some, nat_lt, ◌||◌, not}
 use Rattle.std.specs.Option.{option_map}
 use Rattle.std.proofs.lemmas.Bool.{cases_Bool, cond-true, cond-false, cond_both, eqb-true, eqb-false, eq-eqb, leb-true, le-leb, and_from, and_parts, cases_lt}
-use Rattle.sc_base.specs.Among.{Among}
-use Rattle.sc_base.specs.Drawing.{Drawer}
-use Rattle.sc_base.specs.declared.names.Draw.{Draw}
-use Rattle.sc_cmd.specs.declared.cores.Base.{Base}
-use Rattle.sc_cmd.specs.declared.orders.OrderLine.{OrderLine}
-use Rattle.sc_mail.specs.declared.bodies.Mail.{Mail}
-use Rattle.sc_mail.specs.declared.bodies.MailBody.{MailBody}
-use Rattle.sc_mail.specs.declared.bodies.MailBody.TheVariants.{Install}
-use Rattle.sc_actor.specs.declared.actors.Seat.{Seat}
-use Rattle.sc_actor.specs.declared.rows.Row.{Row}
-use Rattle.sc_actor.specs.declared.rows.Event.{Event}
-use Rattle.sc_actor.specs.declared.rows.Event.TheVariants.{Deliver, Drop, Again, Go, Tick, Crash, Told}
-use Rattle.sc_actor.specs.declared.rows.Input.TheVariants.{Got}
-use Rattle.sc_actor.specs.Mail.{mails, numbered}
-use Rattle.sc_actor.specs.Replay.{value, acted, input_of}
-use Rattle.sc_actor.proofs.ReplayLemmas.{value-snoc}
-use Rattle.sc_node_table.specs.Node.{NodeState, replica_of, with_replica, with_new, group_of_mail, with_made, unknown, may_come, with_born, with_children, taken_by, routed, on_mail, group_of_order, ordered_of, on_order, on_tick, names_after_ticks, born_node}
-use Rattle.sc_node_table.specs.Policy.{names_after_tick}
-use Rattle.sc_node_table.specs.Replica.{ReplicaState, born_replica, last_slot, either}
-use Rattle.sc_node_table.specs.Rows.{made_by, mailed}
-use Rattle.sc_node_table.specs.Slots.{slots_ahead}
-use Rattle.sc_sound.specs.Players.{Ahead, node_seat, player_table, Player}
-use Rattle.sc_mail.specs.declared.roles.Role.TheVariants.{Node as ANode}
+use Rattle.sc_base.specs.Definitions.{Among, Drawer}
+use Rattle.sc_node_table.specs.Values.{Draw, Base, OrderLine, Mail, MailBody, Install, Seat, Row, Event, Deliver, Drop, Again, Go, Tick, Crash, Got, Node as ANode}
+use Rattle.sc_actor.specs.declared.rows.Event.TheVariants.{Told}
+use Rattle.sc_actor.specs.Definitions.{mails, numbered, value, acted, input_of}
+use Rattle.sc_actor.proofs.Lemmas.{value-snoc}
+use Rattle.sc_node_table.specs.Definitions.{NodeState, replica_of, with_replica, with_new, group_of_mail, with_made, unknown, may_come, with_born, with_children, taken_by, routed, on_mail, group_of_order, ordered_of, on_order, on_tick, names_after_ticks, born_node, names_after_tick, ReplicaState, born_replica, last_slot, either, made_by, mailed, slots_ahead}
+use Rattle.sc_sound.specs.Definitions.{Ahead, node_seat, player_table, Player}
 use Rattle.sc_scenario.specs.declared.scenarios.Scenario.{Scenario}
-use Rattle.sc_names_law.specs.Owners.{Rows, Owned, owned_by, drawn_for, waited, wished_at, drawn_wishing, drawn_ticking, names_drawn, is_node_of, drawn_at, owner_by, owner_in}
-use Rattle.sc_names_law.specs.Laws.{HasNames, NodesHaveNames, DrawnNamesAreOwned, RowsDrawOnce, OwnedNamesAreOfNodes, OtherNamesAreFree}
+use Rattle.sc_names_law.specs.Definitions.{Rows, Owned, owned_by, drawn_for, waited, wished_at, drawn_wishing, drawn_ticking, names_drawn, is_node_of, drawn_at, owner_by, owner_in, HasNames, NodesHaveNames, DrawnNamesAreOwned, RowsDrawOnce, OwnedNamesAreOfNodes, OtherNamesAreFree}
 use Rattle.sc_names_law.proofs.Drawn.{Draws, Differ, draws_both, draws_up, drawn_between, drawn_not_past, drawn_from, drawn_once, line_draws, tick_draws}
 use Rattle.sc_names_law.proofs.Owned.{owner_was_drawn, owner-push, owned_later, drawn_in}
 

@@ -5,17 +5,11 @@ use Rattle.std.specs.Prelude.{is_some, is_none}
 use Rattle.std.proofs.lemmas.Bool.{and_from, cases_Bool, cases_lt, cond-true, cond-false, eq-eqb}
 use Rattle.std.proofs.lemmas.List.Elements.{All-nil, All-cons}
 use Rattle.std.proofs.lemmas.List.Kept.{AllPairs-cons}
-use Rattle.sc_base.specs.Among.{Among}
-use Rattle.sc_base.specs.Drawing.{Drawer, next_name, drawn_on}
-use Rattle.sc_base.specs.declared.names.Draw.{Draw}
-use Rattle.sc_base.proofs.NameLemmas.{draw_is}
-use Rattle.sc_cmd.specs.declared.orders.OrderLine.{OrderLine}
-use Rattle.sc_base.specs.Roster.{is_member}
-use Rattle.sc_node_table.specs.Node.{group_of_order}
-use Rattle.sc_node_table.specs.Ordering.{takes_name, untaken, names_after}
-use Rattle.sc_node_table.specs.Policy.{wished_line, names_with, names_after_tick}
-use Rattle.sc_node_table.specs.Replica.{ReplicaState, members, settled}
-use Rattle.sc_names_law.specs.Owners.{Owned, owned_by, drawn_for, waited, wished_at, drawn_wishing, owner_by}
+use Rattle.sc_base.specs.Definitions.{Among, Drawer, next_name, drawn_on, is_member}
+use Rattle.sc_node_table.specs.Values.{Draw, OrderLine}
+use Rattle.sc_base.proofs.Lemmas.{draw_is}
+use Rattle.sc_node_table.specs.Definitions.{group_of_order, takes_name, untaken, names_after, wished_line, names_with, names_after_tick, ReplicaState, members, settled}
+use Rattle.sc_names_law.specs.Definitions.{Owned, owned_by, drawn_for, waited, wished_at, drawn_wishing, owner_by}
 use Rattle.sc_names_law.proofs.Owned.{owner_of_drawn, owner_of_other}
 
 -- what a node draws: its next names, one after another

@@ -1,16 +1,11 @@
 -- The example is a lawful journal, and its names have these owners.
 use Rattle.std.proofs.Common.{◌≡◌, Some, None, refl}
-use Rattle.sc_actor.specs.System.{no_words}
-use Rattle.sc_base.specs.Among.{Each}
-use Rattle.sc_node_table.specs.Mails.{sent_all}
-use Rattle.sc_node_table.specs.Ordering.{ordered_row}
-use Rattle.sc_node_table.specs.Pump.{next_call, from_calls, from_queues, found_for, offered, pumped_from, pumped}
-use Rattle.sc_sound.specs.Players.{Lawful}
-use Rattle.sc_scenario.specs.Groups.{lone_name}
-use Rattle.sc_sound.specs.Example.{four}
-use Rattle.sc_names_law.specs.Example.{example_name, second_name, third_name, drawing_scenario, drawing_rows}
-use Rattle.sc_names_law.specs.Fresh.{BeginsUndrawn}
-use Rattle.sc_names_law.specs.Owners.{owner_in}
+use Rattle.sc_actor.specs.Definitions.{no_words}
+use Rattle.sc_base.specs.Definitions.{Each}
+use Rattle.sc_node_table.specs.Definitions.{sent_all, ordered_row, next_call, from_calls, from_queues, found_for, offered, pumped_from, pumped}
+use Rattle.sc_sound.specs.Definitions.{Lawful, four}
+use Rattle.sc_scenario.specs.Definitions.{lone_name}
+use Rattle.sc_names_law.specs.Definitions.{example_name, second_name, third_name, drawing_scenario, drawing_rows, BeginsUndrawn, owner_in}
 
 pub begins : Each BeginsUndrawn drawing_scenario.groups
 begins = (record { id = refl; succ = refl; pred = refl; free = refl; decided = refl; voted = refl; born = refl; here = refl }, tt)

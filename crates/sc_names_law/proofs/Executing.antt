@@ -1,37 +1,19 @@
 -- What an executed entry leaves in a replica, what is sent for it, and the children that it makes.
 use Rattle.std.proofs.Common.{ℕ, ◌&&◌, nat_lt, eqb, Bool, true, cond, List, [], ◌∷◌, ◌++◌, Option, Some, None}
-use Rattle.sc_base.specs.Among.{Each}
-use Rattle.sc_base.specs.declared.names.Draw.{Draw}
-use Rattle.sc_cmd.specs.declared.commands.Command.{Command}
-use Rattle.sc_cmd.specs.declared.commands.Command.TheVariants.{Call, Join, Leave}
-use Rattle.sc_cmd.specs.declared.cores.Base.{Base}
-use Rattle.sc_cmd.specs.declared.effects.Effect.{Effect}
+use Rattle.sc_base.specs.Definitions.{Each, is_member, least_of}
+use Rattle.sc_node_table.specs.Values.{Draw, Command, Call, Join, Leave, Base, Effect, Route, ToldResult, AnswerBody, Answer, Learn, Learnt}
 use Rattle.sc_cmd.specs.declared.effects.Effect.TheVariants as Was
-use Rattle.sc_cmd.specs.declared.links.Route.{Route}
-use Rattle.sc_cmd.specs.declared.orders.ToldResult.{ToldResult}
-use Rattle.sc_cmd.specs.Effects.{result_of}
-use Rattle.sc_mail.specs.declared.bodies.AnswerBody.{AnswerBody}
+use Rattle.sc_cmd.specs.Definitions.{result_of}
 use Rattle.sc_mail.specs.declared.bodies.AnswerBody.TheVariants as Says
-use Rattle.sc_mail.specs.declared.bodies.MailBody.TheVariants.{Answer, Learn}
-use Rattle.sc_base.specs.Roster.{is_member, least_of}
-use Rattle.sc_machine_table.specs.Children.{child_by}
-use Rattle.sc_machine_table.specs.Machine.{applied}
-use Rattle.sc_paxos_words.proofs.ListLemmas.{Each-append}
-use Rattle.sc_paxos_words.specs.Leaders.{without_flight_at}
-use Rattle.sc_paxos_words.specs.declared.answers.Learnt.{Learnt}
-use Rattle.sc_paxos_words.specs.Logs.{LogState, next_of}
+use Rattle.sc_machine_table.specs.Definitions.{child_by, applied}
+use Rattle.sc_paxos_words.proofs.Lemmas.{Each-append}
+use Rattle.sc_paxos_words.specs.Definitions.{without_flight_at, LogState, next_of}
 use Rattle.sc_node_table.specs.declared.Before.{Before}
-use Rattle.sc_node_table.specs.Slots.{at_slot, without_slot}
-use Rattle.sc_node_table.specs.Replica.{ReplicaState, Place, Executed, childless, name_of, next, members}
-use Rattle.sc_node_table.specs.Mails.{sent_others, order_number}
-use Rattle.sc_node_table.specs.Election.{elected, stopped}
-use Rattle.sc_node_table.specs.Execute.{with_entry, entered, answer_of, told_call, order_result, told_effect, announced, learnt_to, welcomed, landed, left_gone, left, is_among, looked_for, looked, executed_one, child_at, next_child, has_room, next_ready, ending, executed_ready, executed}
-use Rattle.sc_node_table.specs.Spoken.{before_of, spoken}
-use Rattle.sc_names_law.specs.Names.{Opt, CoreNames, CommandNames, EffectNames, AnswerNames, ResultNames, ReplicaNames}
+use Rattle.sc_node_table.specs.Definitions.{at_slot, without_slot, ReplicaState, Place, Executed, childless, name_of, next, members, sent_others, order_number, elected, stopped, with_entry, entered, answer_of, told_call, order_result, told_effect, announced, learnt_to, welcomed, landed, left_gone, left, is_among, looked_for, looked, executed_one, child_at, next_child, has_room, next_ready, ending, executed_ready, executed, before_of, spoken}
+use Rattle.sc_names_law.specs.Definitions.{Opt, CoreNames, CommandNames, EffectNames, AnswerNames, ResultNames, ReplicaNames}
 use Rattle.sc_names_law.proofs.Lists.{opt_slot, slot_without, flight_without}
 use Rattle.sc_names_law.proofs.Machine.{applied_names, child_by_names}
-use Rattle.sc_law_lemmas.proofs.Places.{welcomed_place, executed_place, landed_place}
-use Rattle.sc_law_lemmas.proofs.Ways.{either_way}
+use Rattle.sc_law_lemmas.proofs.Lemmas.{welcomed_place, executed_place, landed_place, either_way}
 use Rattle.sc_names_law.proofs.Sent.{BeforeNames, sent_names, sent_others_names, told_names, before_names, spoken_names}
 use Rattle.sc_names_law.proofs.Held.{Fine, Cmds, Cmd, back_names, flying_names, elected_names, ended_names, stopped_names, welcomed_names, forgotten_names, pumped_names}
 

@@ -2,40 +2,19 @@
 use Rattle.std.proofs.Common.{◌≡◌, ℕ, zero, suc, ◌+◌, ◌<◌, ◌≤◌, eqb, cond, List, [], ◌∷◌, ◌++◌, filter, map, Option, Some, None, ◌⊎◌, inl, inr, refl, sym, ◌∙◌, ap, subst, arith}
 use Rattle.std.specs.Option.{option_map}
 use Rattle.std.proofs.lemmas.Bool.{cond_both, eqb-true}
-use Rattle.sc_base.specs.Among.{Among, Each}
-use Rattle.sc_base.specs.Drawing.{next_name}
-use Rattle.sc_base.specs.declared.names.Draw.{Draw}
-use Rattle.sc_actor.specs.declared.actors.Seat.{Seat}
-use Rattle.sc_actor.specs.declared.rows.Row.{Row}
-use Rattle.sc_actor.specs.declared.rows.Event.{Event}
-use Rattle.sc_actor.specs.declared.rows.Event.TheVariants.{Deliver, Drop, Again, Go, Tick, Crash, Told}
-use Rattle.sc_actor.specs.declared.rows.Input.{Input}
-use Rattle.sc_actor.specs.declared.rows.Input.TheVariants.{Got, Tick as TickInput, Go as GoInput, Told as ToldInput}
-use Rattle.sc_actor.specs.Mail.{mails, numbered}
-use Rattle.sc_actor.specs.Replay.{value, replay, acted, input_of}
-use Rattle.sc_actor.specs.Steps.{IsStep}
-use Rattle.sc_actor.proofs.Induction.{lawful-induction}
-use Rattle.sc_actor.proofs.ReplayLemmas.{value-snoc, mails-snoc}
-use Rattle.sc_client_table.specs.Client.{Client as ClientState}
-use Rattle.sc_cmd.specs.declared.cores.Base.{Base}
-use Rattle.sc_cmd.specs.declared.cores.Lock.{Lock}
-use Rattle.sc_cmd.specs.declared.links.Route.{Route}
-use Rattle.sc_cmd.specs.declared.orders.OrderLine.{OrderLine}
-use Rattle.sc_cmd.specs.declared.votes.Outcome.{Outcome}
-use Rattle.sc_cmd.specs.declared.votes.Past.{Past}
-use Rattle.sc_mail.specs.declared.bodies.Mail.{Mail}
-use Rattle.sc_base.specs.Roster.{is_member}
-use Rattle.sc_node_table.specs.Node.{NodeState, born_node}
-use Rattle.sc_node_table.specs.Replica.{born_replica}
-use Rattle.sc_node_table.specs.Slots.{numbers_from}
-use Rattle.sc_paxos_words.proofs.ListLemmas.{Each-among, Each-from, Each-append, Each-filter, find_found}
-use Rattle.sc_sound.specs.Players.{Ahead, Player, Lawful, player_table, node_seat, client_seat, client_seats, route_of, births, schedule, system_of}
-use Rattle.sc_mail.specs.declared.roles.Role.TheVariants.{Node, Client}
+use Rattle.sc_base.specs.Definitions.{Among, Each, next_name, is_member}
+use Rattle.sc_node_table.specs.Values.{Draw, Seat, Row, Event, Deliver, Drop, Again, Go, Tick, Crash, Input, Got, Base, Lock, Route, OrderLine, Outcome, Past, Mail, Node, Client}
+use Rattle.sc_actor.specs.declared.rows.Event.TheVariants.{Told}
+use Rattle.sc_actor.specs.declared.rows.Input.TheVariants.{Tick as TickInput, Go as GoInput, Told as ToldInput}
+use Rattle.sc_actor.specs.Definitions.{mails, numbered, value, replay, acted, input_of, IsStep}
+use Rattle.sc_actor.proofs.Lemmas.{lawful-induction, value-snoc, mails-snoc}
+use Rattle.sc_client_table.specs.Definitions.{Client as ClientState}
+use Rattle.sc_node_table.specs.Definitions.{NodeState, born_node, born_replica, numbers_from}
+use Rattle.sc_paxos_words.proofs.Lemmas.{Each-among, Each-from, Each-append, Each-filter, find_found}
+use Rattle.sc_sound.specs.Definitions.{Ahead, Player, Lawful, player_table, node_seat, client_seat, client_seats, route_of, births, schedule, system_of}
 use Rattle.sc_scenario.specs.declared.scenarios.Asks.{Asks}
 use Rattle.sc_scenario.specs.declared.scenarios.Scenario.{Scenario}
-use Rattle.sc_names_law.specs.Owners.{Rows, Owned, drawn_ticking, drawn_at, owner_in}
-use Rattle.sc_names_law.specs.Fresh.{IsUsed, BeginsUndrawn, AllNames, AllDecided, NamesAreDrawn, DrawnNamesAreNew}
-use Rattle.sc_names_law.specs.Names.{Opt, LockNames, OutcomeNames, PastNames, CoreNames, MailNames, ReplicaNames, NodeNames, ClientNames, PlayerNames}
+use Rattle.sc_names_law.specs.Definitions.{Rows, Owned, drawn_ticking, drawn_at, owner_in, IsUsed, BeginsUndrawn, AllNames, AllDecided, NamesAreDrawn, DrawnNamesAreNew, Opt, LockNames, OutcomeNames, PastNames, CoreNames, MailNames, ReplicaNames, NodeNames, ClientNames, PlayerNames}
 use Rattle.sc_names_law.proofs.Counters.{drawn_are_owned, fresh_at}
 use Rattle.sc_names_law.proofs.Lists.{opt_get}
 use Rattle.sc_names_law.proofs.Machine.{Each-map}

@@ -2,39 +2,19 @@
 use Rattle.std.proofs.Common.{subst, ℕ, ◌+◌, ◌-◌, ◌^◌, ◌&&◌, nat_le, nat_lt, eqb, Bool, cond, List, [], ◌∷◌, Option, Some, None}
 use Rattle.std.specs.Prelude.{is_some}
 use Rattle.std.specs.List.{list_any}
-use Rattle.sc_base.specs.Among.{Each}
-use Rattle.sc_base.specs.declared.names.Ballot.{Ballot}
-use Rattle.sc_base.specs.declared.names.Draw.{Draw}
-use Rattle.sc_base.specs.declared.ops.Op.{Op}
-use Rattle.sc_ideal.specs.IdealStore.{key_of, holds_key}
-use Rattle.sc_cmd.specs.declared.commands.Command.{Command}
-use Rattle.sc_cmd.specs.declared.commands.Command.TheVariants.{Noop, Call, Join, Leave, Split, Begin, Prepared, RecordVote, GiveUp, Finish, Watched, RecordWatch}
-use Rattle.sc_cmd.specs.declared.cores.Base.{Base}
-use Rattle.sc_cmd.specs.declared.cores.Core.{Core}
-use Rattle.sc_cmd.specs.declared.links.Route.{Route}
-use Rattle.sc_mail.specs.declared.bodies.AnswerBody.{AnswerBody}
+use Rattle.sc_base.specs.Definitions.{Each}
+use Rattle.sc_node_table.specs.Values.{Ballot, Draw, Op, Command, Noop, Call, Join, Leave, Split, Begin, Prepared, RecordVote, GiveUp, Finish, Watched, RecordWatch, Base, Core, Route, AnswerBody, Prepare, Accept, Install, Must, Gap, Flight, Report}
+use Rattle.sc_ideal.specs.Definitions.{key_of, holds_key}
 use Rattle.sc_mail.specs.declared.bodies.AnswerBody.TheVariants as Says
-use Rattle.sc_mail.specs.declared.bodies.MailBody.TheVariants.{Prepare, Accept, Install}
-use Rattle.sc_machine_table.specs.Group.{base_of}
-use Rattle.sc_paxos_words.proofs.ListLemmas.{Each-append, Each-filter}
-use Rattle.sc_paxos_words.specs.declared.answers.Must.{Must}
-use Rattle.sc_paxos_words.specs.declared.answers.Must.TheVariants.{Value, Gap, Free as Open}
-use Rattle.sc_paxos_words.specs.declared.flights.Flight.{Flight}
-use Rattle.sc_paxos_words.specs.declared.reports.Report.{Report}
-use Rattle.sc_paxos_words.specs.Choice.{choice, chosen_value, names_above}
-use Rattle.sc_paxos_words.specs.Leaders.{flight_at, must, must_without}
-use Rattle.sc_node_table.specs.Replica.{ReplicaState, Place, name_of, next, flying, taken_at, under_way, is_idle, settled, may_offer, last_slot, born_replica, installed_replica, floor_of, forgotten}
-use Rattle.sc_node_table.specs.Mails.{sent, answered_all}
-use Rattle.sc_node_table.specs.Queues.{call_of, is_call_of, without_call, call_before, put_back}
-use Rattle.sc_node_table.specs.Election.{open_nodes, elected, ended, stopped, saw}
-use Rattle.sc_node_table.specs.Install.{install_to, asked_to_promise, welcomed_all, named, jumped}
-use Rattle.sc_node_table.specs.Pump.{Found, is_act, refused_by, turned_down, from_calls, from_acts, from_queues, found_by, found_for, offered, pumped_from, pumped}
-use Rattle.sc_paxos_words.specs.Ballots.{below}
-use Rattle.sc_names_law.specs.Names.{Opt, CoreNames, CommandNames, AnswerNames, ReplicaNames}
+use Rattle.sc_machine_table.specs.Definitions.{base_of}
+use Rattle.sc_paxos_words.proofs.Lemmas.{Each-append, Each-filter}
+use Rattle.sc_paxos_words.specs.declared.answers.Must.TheVariants.{Value, Free as Open}
+use Rattle.sc_paxos_words.specs.Definitions.{choice, chosen_value, names_above, flight_at, must, must_without, below}
+use Rattle.sc_node_table.specs.Definitions.{ReplicaState, Place, name_of, next, flying, taken_at, under_way, is_idle, settled, may_offer, last_slot, born_replica, installed_replica, floor_of, forgotten, sent, answered_all, call_of, is_call_of, without_call, call_before, put_back, open_nodes, elected, ended, stopped, saw, install_to, asked_to_promise, welcomed_all, named, jumped, Found, is_act, refused_by, turned_down, from_calls, from_acts, from_queues, found_by, found_for, offered, pumped_from, pumped}
+use Rattle.sc_names_law.specs.Definitions.{Opt, CoreNames, CommandNames, AnswerNames, ReplicaNames}
 use Rattle.sc_names_law.proofs.Lists.{opt_find, opt_map, opt_choice, Each-drop}
-use Rattle.sc_law_lemmas.proofs.Ways.{either_way}
+use Rattle.sc_law_lemmas.proofs.Lemmas.{either_way, next_found}
 use Rattle.sc_names_law.proofs.Sent.{Sent, sent_names, sent_all_names, answered_names, answered_all_names, dismissed_all_names}
-use Rattle.sc_law_lemmas.proofs.Calls.{next_found}
 
 module _ (K : Draw → Type 0) where
   abbrev pub Fine : Place → Type 0

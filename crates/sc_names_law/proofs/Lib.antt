@@ -15,3 +15,4 @@ pub mod Logs
 pub mod Fresh
 pub mod Example
 pub mod Naming
+pub mod Lemmas

@@ -3,18 +3,13 @@ use Rattle.std.proofs.Common.{ℕ, zero, suc, nat_lt, eqb, Bool, List, [], ◌�
 use Rattle.std.specs.Prelude.{slice_get}
 use Rattle.std.specs.List.{fold}
 use Rattle.std.specs.Option.{option_map}
-use Rattle.sc_base.specs.Among.{Each}
-use Rattle.sc_paxos_words.proofs.ListLemmas.{Each-append, Each-filter}
-use Rattle.sc_paxos_words.specs.declared.flights.Flight.{Flight}
-use Rattle.sc_paxos_words.specs.declared.reports.Report.{Report}
-use Rattle.sc_paxos_words.specs.Acceptors.{with_report}
-use Rattle.sc_paxos_words.specs.Choice.{is_better, better_of, choice}
-use Rattle.sc_paxos_words.specs.Leaders.{without_flight}
-use Rattle.sc_paxos_words.specs.Votes.{with_voters}
-use Rattle.sc_node_table.specs.Replica.{either}
-use Rattle.sc_node_table.specs.Slots.{at_slot, with_slot, without_slot}
-use Rattle.sc_names_law.specs.Names.{Opt}
-use Rattle.sc_law_lemmas.proofs.Ways.{either_way}
+use Rattle.sc_base.specs.Definitions.{Each}
+use Rattle.sc_paxos_words.proofs.Lemmas.{Each-append, Each-filter}
+use Rattle.sc_node_table.specs.Values.{Flight, Report}
+use Rattle.sc_paxos_words.specs.Definitions.{with_report, is_better, better_of, choice, without_flight, with_voters}
+use Rattle.sc_node_table.specs.Definitions.{either, at_slot, with_slot, without_slot}
+use Rattle.sc_names_law.specs.Definitions.{Opt}
+use Rattle.sc_law_lemmas.proofs.Lemmas.{either_way}
 
 pub opt_find : {X : Type 0} (P : X → Type 0) (p : X → Bool) (xs : List X) → Each P xs → Opt P (find p xs)
 opt_find P p [] e = tt

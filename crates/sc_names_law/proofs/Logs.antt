@@ -2,51 +2,23 @@
 use Rattle.std.proofs.Common.{ℕ, zero, suc, ◌+◌, ◌&&◌, eqb, List, [], ◌∷◌, ◌++◌, length, fold, Option, Some, None}
 use Rattle.std.specs.List.{flat_map, list_any}
 use Rattle.std.specs.Option.{option_to_list}
-use Rattle.sc_base.specs.Among.{Each}
-use Rattle.sc_base.specs.Same.{same_draw}
-use Rattle.sc_base.specs.declared.names.Draw.{Draw}
-use Rattle.sc_cmd.specs.Effects.{is_changed, is_divided}
-use Rattle.sc_cmd.specs.Cores.{is_alone}
-use Rattle.sc_actor.specs.declared.rows.Row.{Row}
-use Rattle.sc_actor.specs.declared.rows.Event.{Event}
-use Rattle.sc_actor.specs.declared.rows.Event.TheVariants.{Deliver}
-use Rattle.sc_actor.specs.Mail.{mails, numbered}
-use Rattle.sc_cmd.specs.declared.bodies.Body.{Body}
+use Rattle.sc_base.specs.Definitions.{Each, same_draw, is_majority}
+use Rattle.sc_node_table.specs.Values.{Draw, Row, Event, Deliver, Body, Command, Split, RecordWatch, Base, Core, Lock, Free, Coordinating, Promised, Watching, Effect, OrderLine, Mail, MailBody, Accept, Report}
+use Rattle.sc_cmd.specs.Definitions.{is_changed, is_divided, is_alone}
+use Rattle.sc_actor.specs.Definitions.{mails, numbered}
 use Rattle.sc_cmd.specs.declared.bodies.Body.TheVariants as At
-use Rattle.sc_cmd.specs.declared.commands.Command.{Command}
-use Rattle.sc_cmd.specs.declared.commands.Command.TheVariants.{Split, RecordWatch}
-use Rattle.sc_cmd.specs.declared.cores.Base.{Base}
-use Rattle.sc_cmd.specs.declared.cores.Core.{Core}
-use Rattle.sc_cmd.specs.declared.cores.Lock.{Lock}
-use Rattle.sc_cmd.specs.declared.cores.Lock.TheVariants.{Free, Coordinating, Promised, Watching}
-use Rattle.sc_cmd.specs.declared.effects.Effect.{Effect}
-use Rattle.sc_cmd.specs.declared.orders.OrderLine.{OrderLine}
 use Rattle.sc_log_entries.specs.declared.Division.{Division}
-use Rattle.sc_log_entries.specs.Births.{division_by, division_in, division_of, birth_of}
-use Rattle.sc_machine_table.specs.Group.{Group, group_of}
-use Rattle.sc_machine_table.specs.Machine.{applied}
-use Rattle.sc_machine_table.specs.Splits.{child_of}
-use Rattle.sc_mail.specs.declared.bodies.Mail.{Mail}
-use Rattle.sc_mail.specs.declared.bodies.MailBody.{MailBody}
-use Rattle.sc_mail.specs.declared.bodies.MailBody.TheVariants.{Accept}
-use Rattle.sc_base.specs.Majority.{is_majority}
-use Rattle.sc_paxos_law.specs.Chosen.{Rule, members_of}
-use Rattle.sc_paxos_law.specs.Decided.{voters_of, lesser_of, found_in, chosen_at, top_slot, with_next_entries}
-use Rattle.sc_paxos_law.specs.Steps.{Step, Prepared, Promised, Offered, Accepted, Cut}
-use Rattle.sc_paxos_words.proofs.ListLemmas.{Each-append}
-use Rattle.sc_paxos_words.specs.declared.reports.Report.{Report}
-use Rattle.sc_paxos_words.specs.Ballots.{below}
-use Rattle.sc_sound.specs.Players.{Ahead}
+use Rattle.sc_log_entries.specs.Definitions.{division_by, division_in, division_of, birth_of}
+use Rattle.sc_machine_table.specs.Definitions.{Group, group_of, applied, child_of}
+use Rattle.sc_paxos_law.specs.Definitions.{Rule, members_of, voters_of, lesser_of, found_in, chosen_at, top_slot, with_next_entries, Step, Prepared, Promised, Offered, Accepted, Cut}
+use Rattle.sc_paxos_words.proofs.Lemmas.{Each-append}
+use Rattle.sc_paxos_words.specs.Definitions.{below}
+use Rattle.sc_sound.specs.Definitions.{Ahead, is_accepted, accepts_of, accepts_got, accepts_at, accepts_from, accepts, children_of, children_by, is_birth_of, with_birth, with_descendants, rule_of, decided_log}
 use Rattle.sc_scenario.specs.declared.scenarios.Scenario.{Scenario}
-use Rattle.sc_sound.specs.Accepts.{is_accepted, accepts_of, accepts_got, accepts_at, accepts_from, accepts}
-use Rattle.sc_sound.specs.GroupsOf.{children_of, children_by, is_birth_of, with_birth, with_descendants}
-use Rattle.sc_sound.specs.Logs.{rule_of, decided_log}
-use Rattle.sc_names_law.specs.Fresh.{AllDecided}
-use Rattle.sc_names_law.specs.Owners.{Rows}
-use Rattle.sc_names_law.specs.Names.{Opt, BodyNames, LockNames, CoreNames, CommandNames, MailNames, BodiesNames}
+use Rattle.sc_names_law.specs.Definitions.{AllDecided, Rows, Opt, BodyNames, LockNames, CoreNames, CommandNames, MailNames, BodiesNames}
 use Rattle.sc_names_law.proofs.Lists.{opt_map, opt_get}
 use Rattle.sc_names_law.proofs.Machine.{applied_names, child_names}
-use Rattle.sc_law_lemmas.proofs.Ways.{either_way}
+use Rattle.sc_law_lemmas.proofs.Lemmas.{either_way}
 
 module _ (K : Draw → Type 0) where
   abbrev Ms : List Mail → Type 0

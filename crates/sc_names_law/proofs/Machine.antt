@@ -1,52 +1,18 @@
 -- The group machine names nothing new: what stands in a group after a command, and in its effect, stood in the group before, or in the command.
 use Rattle.std.proofs.Common.{ℕ, ◌&&◌, ◌||◌, not, nat_le, nat_lt, eqb, List, [], ◌∷◌, length, map, Option, Some, None}
 use Rattle.std.specs.FinMap.{get}
-use Rattle.sc_base.specs.Among.{Each}
-use Rattle.sc_base.specs.Arc.{holds, end_of}
-use Rattle.sc_base.specs.Same.{same_draw}
-use Rattle.sc_base.specs.declared.names.Draw.{Draw}
-use Rattle.sc_base.specs.declared.ops.Op.{Op}
-use Rattle.sc_base.specs.declared.ops.Noted.{Noted}
-use Rattle.sc_cmd.specs.Cores.{is_alone}
-use Rattle.sc_ideal.specs.IdealStore.{key_of, holds_key}
-use Rattle.sc_cmd.specs.declared.bodies.Body.{Body}
+use Rattle.sc_base.specs.Definitions.{Each, holds, end_of, same_draw, is_member, united}
+use Rattle.sc_node_table.specs.Values.{Draw, Op, Noted, Body, Offer, Watch, Command, Noop, Call, Join, Leave, Split, Begin, Prepared, RecordVote, GiveUp, Finish, Watched, RecordWatch, Base, Core, Lock, Free, Coordinating, Promised, Watching, Effect, Link, Route, OrderRefusal, Frozen, Gift, Heard, No, Outcome, Past, Vote}
+use Rattle.sc_cmd.specs.Definitions.{is_alone}
+use Rattle.sc_ideal.specs.Definitions.{key_of, holds_key}
 use Rattle.sc_cmd.specs.declared.bodies.Body.TheVariants as At
-use Rattle.sc_cmd.specs.declared.bodies.Offer.{Offer}
-use Rattle.sc_cmd.specs.declared.bodies.Watch.{Watch}
-use Rattle.sc_cmd.specs.declared.commands.Command.{Command}
-use Rattle.sc_cmd.specs.declared.commands.Command.TheVariants.{Noop, Call, Join, Leave, Split, Begin, Prepared, RecordVote, GiveUp, Finish, Watched, RecordWatch}
-use Rattle.sc_cmd.specs.declared.cores.Base.{Base}
-use Rattle.sc_cmd.specs.declared.cores.Core.{Core}
-use Rattle.sc_cmd.specs.declared.cores.Lock.{Lock}
-use Rattle.sc_cmd.specs.declared.cores.Lock.TheVariants.{Free, Coordinating, Promised, Watching}
-use Rattle.sc_cmd.specs.declared.effects.Effect.{Effect}
-use Rattle.sc_cmd.specs.declared.links.Link.{Link}
-use Rattle.sc_cmd.specs.declared.links.Route.{Route}
-use Rattle.sc_cmd.specs.declared.orders.OrderRefusal.{OrderRefusal}
-use Rattle.sc_cmd.specs.declared.votes.Frozen.{Frozen}
-use Rattle.sc_cmd.specs.declared.votes.Gift.{Gift}
-use Rattle.sc_cmd.specs.declared.votes.Heard.{Heard}
-use Rattle.sc_cmd.specs.declared.votes.No.{No}
-use Rattle.sc_cmd.specs.declared.votes.Outcome.{Outcome}
 use Rattle.sc_cmd.specs.declared.votes.Outcome.TheVariants as Is
-use Rattle.sc_cmd.specs.declared.votes.Past.{Past}
 use Rattle.sc_cmd.specs.declared.votes.Past.TheVariants as Cast
-use Rattle.sc_cmd.specs.declared.votes.Vote.{Vote}
 use Rattle.sc_cmd.specs.declared.votes.Vote.TheVariants as Says
-use Rattle.sc_paxos_words.proofs.ListLemmas.{Each-append}
-use Rattle.sc_base.specs.Roster.{is_member}
-use Rattle.sc_base.specs.Union.{united}
-use Rattle.sc_machine_table.specs.Children.{ordered_child, released_child, answered_child, watched_child, child_by}
-use Rattle.sc_machine_table.specs.Group.{Group}
-use Rattle.sc_machine_table.specs.Machine.{served_by_note, served, called, split_group, ordered_by, applied}
-use Rattle.sc_machine_table.specs.Orders.{locked_in, limit_refused, body_refused, refused_free, refused_in, refusal_of, ordered, with_node, without_node}
-use Rattle.sc_machine_table.specs.Splits.{splits_at_once, left_link, right_link, left_group, child_of, has_named}
-use Rattle.sc_machine_table.specs.Plans.{Plan, can_cut, has_key_of, can_split, may_merge, can_repart, taken, can_migrate, split_plan, merged_core, merged_link, merge_plan, closing_plan, repart_plan, migrate_plan}
-use Rattle.sc_machine_table.specs.Transactions.{asks_watcher, is_coordinating, begun_group, decided, committed, granted, participant_answered, vote_recorded, released, watch_answered, watch_recorded}
-use Rattle.sc_machine_table.specs.Votes.{has_voted, size_no, body_no, offer_no, watch_no, no_of, vote_of, watch_vote_of, past_of, bound_by, voted_on, offer_voted, watched}
-use Rattle.sc_machine_table.specs.Finishes.{can_gain, moved, participant_after, pred_after, watcher_after, closed, party_freed, settled_in, finished}
-use Rattle.sc_law_lemmas.proofs.Ways.{either_way}
-use Rattle.sc_names_law.specs.Names.{Opt, BodyNames, OfferNames, WatchNames, NoNames, VoteNames, PastNames, OutcomeNames, HeardNames, LockNames, CoreNames, CommandNames, RefusalNames, EffectNames}
+use Rattle.sc_paxos_words.proofs.Lemmas.{Each-append}
+use Rattle.sc_machine_table.specs.Definitions.{ordered_child, released_child, answered_child, watched_child, child_by, Group, served_by_note, served, called, split_group, ordered_by, applied, locked_in, limit_refused, body_refused, refused_free, refused_in, refusal_of, ordered, with_node, without_node, splits_at_once, left_link, right_link, left_group, child_of, has_named, Plan, can_cut, has_key_of, can_split, may_merge, can_repart, taken, can_migrate, split_plan, merged_core, merged_link, merge_plan, closing_plan, repart_plan, migrate_plan, asks_watcher, is_coordinating, begun_group, decided, committed, granted, participant_answered, vote_recorded, released, watch_answered, watch_recorded, has_voted, size_no, body_no, offer_no, watch_no, no_of, vote_of, watch_vote_of, past_of, bound_by, voted_on, offer_voted, watched, can_gain, moved, participant_after, pred_after, watcher_after, closed, party_freed, settled_in, finished}
+use Rattle.sc_law_lemmas.proofs.Lemmas.{either_way}
+use Rattle.sc_names_law.specs.Definitions.{Opt, BodyNames, OfferNames, WatchNames, NoNames, VoteNames, PastNames, OutcomeNames, HeardNames, LockNames, CoreNames, CommandNames, RefusalNames, EffectNames}
 
 -- of each of a list that is mapped
 pub Each-map : {X Y : Type 0} (P : X → Type 0) (Q : Y → Type 0) (f : X → Y) → ((x : X) → P x → Q (f x)) → (xs : List X) → Each P xs → Each Q (map f xs)

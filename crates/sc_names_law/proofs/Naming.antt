@@ -1,19 +1,13 @@
 -- The names that logs name: each was drawn for its group.
 use Rattle.std.proofs.Common.{◌≡◌, ◌++◌, Some, inl, inr, sym, ◌∙◌, subst, arith}
 use Rattle.std.proofs.lemmas.Option.{same_Some}
-use Rattle.sc_base.specs.declared.names.Draw.{Draw}
-use Rattle.sc_cmd.specs.declared.commands.Command.{Command}
-use Rattle.sc_cmd.specs.declared.commands.Command.TheVariants.{Noop, Call, Join, Leave, Split, Begin, Prepared, RecordVote, GiveUp, Finish, Watched, RecordWatch}
-use Rattle.sc_paxos_words.proofs.ListLemmas.{Each-among}
-use Rattle.sc_sound.specs.Players.{Ahead}
-use Rattle.sc_ring_law.specs.Laws.{draw_of}
+use Rattle.sc_node_table.specs.Values.{Draw, Command, Noop, Call, Join, Leave, Split, Begin, Prepared, RecordVote, GiveUp, Finish, Watched, RecordWatch}
+use Rattle.sc_paxos_words.proofs.Lemmas.{Each-among}
+use Rattle.sc_sound.specs.Definitions.{Ahead, decided_log}
+use Rattle.sc_ring_law.specs.Definitions.{draw_of}
 use Rattle.sc_scenario.specs.declared.scenarios.Scenario.{Scenario}
-use Rattle.sc_sound.specs.Logs.{decided_log}
-use Rattle.sc_names_law.specs.Fresh.{IsUsed}
-use Rattle.sc_names_law.specs.Naming.{AllowedNamesAreDrawn, LoggedNamesAreDrawn, MoreOwnersAllow}
-use Rattle.sc_names_law.specs.Names.{CommandNames}
-use Rattle.sc_names_law.specs.Owners.{Rows, owner_in}
-use Rattle.sc_ring_law.proofs.Sound.{owned}
+use Rattle.sc_names_law.specs.Definitions.{IsUsed, AllowedNamesAreDrawn, LoggedNamesAreDrawn, MoreOwnersAllow, CommandNames, Rows, owner_in}
+use Rattle.sc_ring_law.proofs.Lemmas.{owned}
 use Rattle.sc_names_law.proofs.Counters.{owned_are_of_nodes}
 use Rattle.sc_names_law.proofs.Fresh.{names_are_drawn}
 use Rattle.sc_names_law.proofs.Owned.{owned_are_drawn, owned_later}

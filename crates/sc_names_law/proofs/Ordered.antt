@@ -2,31 +2,16 @@
 use Rattle.std.proofs.Common.{◌≡◌, ℕ, ◌≤◌, ◌&&◌, Bool, nat_le, List, [], ◌∷◌, ◌++◌, true, Option, Some, None, inl, refl, sym, ◌∙◌, ap, subst}
 use Rattle.std.specs.Prelude.{is_none}
 use Rattle.std.proofs.lemmas.Bool.{cond-true, and_from, le-leb}
-use Rattle.sc_base.specs.Among.{Among}
-use Rattle.sc_base.specs.Drawing.{Drawer, next_name}
-use Rattle.sc_base.specs.declared.names.Draw.{Draw}
-use Rattle.sc_cmd.specs.declared.commands.Command.{Command}
-use Rattle.sc_cmd.specs.declared.orders.Order.{Order}
+use Rattle.sc_base.specs.Definitions.{Among, Drawer, next_name}
+use Rattle.sc_node_table.specs.Values.{Draw, Command, Order, OrderLine, OrderRefusal, Mail, Tick, Row, Node}
 use Rattle.sc_cmd.specs.declared.orders.Order.TheVariants as An
-use Rattle.sc_cmd.specs.declared.orders.OrderLine.{OrderLine}
-use Rattle.sc_cmd.specs.declared.orders.OrderRefusal.{OrderRefusal}
-use Rattle.sc_mail.specs.declared.bodies.Mail.{Mail}
-use Rattle.sc_actor.specs.declared.rows.Event.TheVariants.{Tick}
-use Rattle.sc_actor.specs.declared.rows.Row.{Row}
-use Rattle.sc_actor.specs.Replay.{value}
-use Rattle.sc_node_table.specs.Node.{NodeState, group_of_order, names_after_ticks}
-use Rattle.sc_node_table.specs.Ordering.{ordered_command, takes_name, untaken, taken_or_told, ordered_row}
-use Rattle.sc_node_table.specs.Policy.{names_after_tick}
-use Rattle.sc_node_table.specs.Pump.{pumped}
-use Rattle.sc_node_table.specs.Replica.{ReplicaState}
-use Rattle.sc_paxos_law.proofs.Among.{Among-left, Among-right}
-use Rattle.sc_sound.specs.Players.{Ahead, Player, player_table, node_seat}
-use Rattle.sc_mail.specs.declared.roles.Role.TheVariants.{Node}
+use Rattle.sc_actor.specs.Definitions.{value}
+use Rattle.sc_node_table.specs.Definitions.{NodeState, group_of_order, names_after_ticks, ordered_command, takes_name, untaken, taken_or_told, ordered_row, names_after_tick, pumped, ReplicaState}
+use Rattle.sc_paxos_law.proofs.Lemmas.{Among-left, Among-right}
+use Rattle.sc_sound.specs.Definitions.{Ahead, Player, player_table, node_seat}
 use Rattle.sc_scenario.specs.declared.scenarios.Scenario.{Scenario}
-use Rattle.sc_ring_law.specs.Allowed.{Sources, IsAllowed}
-use Rattle.sc_ring_law.specs.Stories.{Stories}
-use Rattle.sc_names_law.specs.Owners.{Rows, Owned, drawn_for, waited, wished_at, drawn_wishing, drawn_ticking, names_drawn, drawn_at, is_node_of, owner_in}
-use Rattle.sc_names_law.specs.Laws.{IsAtPosition, TakesOrder, TakenOrdersAreAllowed, TakesWish, TakenWishesAreAllowed, OrdersAreQueued}
+use Rattle.sc_ring_law.specs.Definitions.{Sources, IsAllowed, Stories}
+use Rattle.sc_names_law.specs.Definitions.{Rows, Owned, drawn_for, waited, wished_at, drawn_wishing, drawn_ticking, names_drawn, drawn_at, is_node_of, owner_in, IsAtPosition, TakesOrder, TakenOrdersAreAllowed, TakesWish, TakenWishesAreAllowed, OrdersAreQueued}
 use Rattle.sc_names_law.proofs.Counters.{drawn_are_owned}
 use Rattle.sc_names_law.proofs.Wished.{wished_of}
 

@@ -1,19 +1,14 @@
 -- The owner of a name, by the rows one after another.
 use Rattle.std.proofs.Common.{◌≡◌, List, [], ◌∷◌, ◌++◌, Option, Some, None, inl, inr, refl, sym, ◌∙◌, ap, subst, append_assoc, append-nil}
 use Rattle.std.proofs.lemmas.Bool.{cases_Bool, cond-true, cond-false}
-use Rattle.sc_base.specs.Among.{Among}
-use Rattle.sc_base.specs.Same.{same_draw}
-use Rattle.sc_base.specs.declared.names.Draw.{Draw}
-use Rattle.sc_base.proofs.NameLemmas.{draw_is, same_name}
-use Rattle.sc_cmd.specs.declared.orders.OrderLine.{OrderLine}
-use Rattle.sc_mail.specs.declared.bodies.Mail.{Mail}
-use Rattle.sc_actor.specs.declared.rows.Row.{Row}
-use Rattle.sc_node_table.specs.Replica.{either}
-use Rattle.sc_sound.specs.Players.{Ahead}
+use Rattle.sc_base.specs.Definitions.{Among, same_draw}
+use Rattle.sc_node_table.specs.Values.{Draw, OrderLine, Mail, Row}
+use Rattle.sc_base.proofs.Lemmas.{draw_is, same_name}
+use Rattle.sc_node_table.specs.Definitions.{either}
+use Rattle.sc_sound.specs.Definitions.{Ahead}
 use Rattle.sc_scenario.specs.declared.scenarios.Scenario.{Scenario}
-use Rattle.sc_names_law.specs.Owners.{Rows, Owned, owned_by, drawn_at, owner_by, owner_from, owner_in}
-use Rattle.sc_names_law.specs.Laws.{IsDrawn, OwnersStay, OwnedNamesAreDrawn}
-use Rattle.sc_law_lemmas.proofs.Ways.{either_assoc, either_none}
+use Rattle.sc_names_law.specs.Definitions.{Rows, Owned, owned_by, drawn_at, owner_by, owner_from, owner_in, IsDrawn, OwnersStay, OwnedNamesAreDrawn}
+use Rattle.sc_law_lemmas.proofs.Lemmas.{either_assoc, either_none}
 
 -- the first of drawn names is owned by its group
 pub owner_of_drawn : (owned : Owned) (more : List Owned) → owner_by (owned ∷ more) owned.name ≡ Some owned.group

@@ -3,41 +3,20 @@ use Rattle.std.proofs.Common.{◌≡◌, ℕ, ◌+◌, ◌||◌, not, nat_le, na
 use Rattle.std.specs.Prelude.{is_some}
 use Rattle.std.specs.List.{fold}
 use Rattle.std.specs.Map.{set_value, remove_entry}
-use Rattle.sc_base.specs.Among.{Each}
-use Rattle.sc_base.specs.Arc.{end_of}
-use Rattle.sc_base.specs.Operation.{key_of}
-use Rattle.sc_base.specs.Same.{same_draw}
-use Rattle.sc_base.specs.Text.{pos_of}
-use Rattle.sc_base.specs.Drawing.{Drawer, next_name}
-use Rattle.sc_base.specs.declared.names.Draw.{Draw}
-use Rattle.sc_base.specs.declared.ops.Op.{Op}
-use Rattle.sc_actor.specs.declared.rows.Input.{Input}
-use Rattle.sc_actor.specs.declared.rows.Input.TheVariants.{Got, Tick, Go, Told}
-use Rattle.sc_client_table.specs.Client.{Client as ClientState, waiting_request}
-use Rattle.sc_client_table.specs.Table.{ClientStep, asked_of, sent_to, sent_where, chosen_for, request_sent, started, turned_on, client_ticked, waits_for, was_asked, redirected, answer_taken, got, table}
-use Rattle.sc_cmd.specs.declared.cores.Base.{Base}
-use Rattle.sc_cmd.specs.declared.orders.OrderLine.{OrderLine}
+use Rattle.sc_base.specs.Definitions.{Each, end_of, key_of, same_draw, pos_of, Drawer, next_name}
+use Rattle.sc_node_table.specs.Values.{Draw, Op, Input, Got, Base, OrderLine, AnswerBody, Mail, MailBody, Request, Answer, Prepare, Promise, Accept, Accepted, Nack, Learn, Ask, Install, TxPrepare, TxVote, TxOutcome, TxElsewhere, TxWatch, TxWatched, Told as ToldMail}
+use Rattle.sc_actor.specs.declared.rows.Input.TheVariants.{Tick, Go, Told}
+use Rattle.sc_client_table.specs.Definitions.{Client as ClientState, waiting_request, ClientStep, asked_of, sent_to, sent_where, chosen_for, request_sent, started, turned_on, client_ticked, waits_for, was_asked, redirected, answer_taken, got, table}
 use Rattle.sc_cmd.specs.declared.orders.OrderRefusal.TheVariants as Why
 use Rattle.sc_cmd.specs.declared.orders.ToldResult.TheVariants as Tells
 use Rattle.sc_lookup.specs.declared.ways.Way.{Way}
-use Rattle.sc_lookup.specs.Known.{KnownGroups, way_to, better, chosen, target_in, changed, preferring, passed_on, starting, group_learnt, told_not_mine, told_gone}
-use Rattle.sc_lookup.specs.Ways.{far, new_way, next_target}
-use Rattle.sc_mail.specs.declared.bodies.AnswerBody.{AnswerBody}
+use Rattle.sc_lookup.specs.Definitions.{KnownGroups, way_to, better, chosen, target_in, changed, preferring, passed_on, starting, group_learnt, told_not_mine, told_gone, far, new_way, next_target}
 use Rattle.sc_mail.specs.declared.bodies.AnswerBody.TheVariants as Answers
-use Rattle.sc_mail.specs.declared.bodies.Mail.{Mail}
-use Rattle.sc_mail.specs.declared.bodies.MailBody.{MailBody}
-use Rattle.sc_mail.specs.declared.bodies.MailBody.TheVariants.{Request, Answer, Prepare, Promise, Accept, Accepted, Nack, Learn, Ask, Install, TxPrepare, TxVote, TxOutcome, TxElsewhere, TxWatch, TxWatched, Told as ToldMail}
-use Rattle.sc_node_table.specs.Node.{NodeState, replica_of, with_replica, is_before, with_new, group_of_mail, absent, with_made, unknown, may_come, with_born, with_children, taken_by, routed, on_mail, group_of_order, ordered_of, ticked, node_table}
-use Rattle.sc_node_table.specs.Ordering.{takes_name, untaken, ordered_row}
-use Rattle.sc_node_table.specs.Policy.{names_after_tick}
-use Rattle.sc_node_table.specs.Replica.{ReplicaState, Place, Executed, name_of, born_replica, last_slot}
-use Rattle.sc_node_table.specs.Rows.{tick_row, made_by, mailed}
-use Rattle.sc_node_table.specs.Slots.{slots_ahead}
-use Rattle.sc_paxos_words.proofs.ListLemmas.{Each-append}
-use Rattle.sc_names_law.specs.Names.{Opt, CoreNames, AnswerNames, BodiesNames, MailNames, ReplicaNames, NodeNames, ClientNames}
-use Rattle.sc_names_law.specs.Owners.{Owned, waited, wished_at, drawn_wishing, drawn_ticking}
+use Rattle.sc_node_table.specs.Definitions.{NodeState, replica_of, with_replica, is_before, with_new, group_of_mail, absent, with_made, unknown, may_come, with_born, with_children, taken_by, routed, on_mail, group_of_order, ordered_of, ticked, node_table, takes_name, untaken, ordered_row, names_after_tick, ReplicaState, Place, Executed, name_of, born_replica, last_slot, tick_row, made_by, mailed, slots_ahead}
+use Rattle.sc_paxos_words.proofs.Lemmas.{Each-append}
+use Rattle.sc_names_law.specs.Definitions.{Opt, CoreNames, AnswerNames, BodiesNames, MailNames, ReplicaNames, NodeNames, ClientNames, Owned, waited, wished_at, drawn_wishing, drawn_ticking}
 use Rattle.sc_names_law.proofs.Lists.{opt_find, opt_map}
-use Rattle.sc_law_lemmas.proofs.Ways.{either_way}
+use Rattle.sc_law_lemmas.proofs.Lemmas.{either_way}
 use Rattle.sc_names_law.proofs.Sent.{Sent, sent_names}
 use Rattle.sc_names_law.proofs.Held.{Fine, born_names}
 use Rattle.sc_names_law.proofs.Executing.{Kids}

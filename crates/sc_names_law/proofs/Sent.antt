@@ -1,47 +1,21 @@
 -- What is sent names nothing new: answers, what the desk is told, and what the parties of a transaction say to each other.
 use Rattle.std.proofs.Common.{ℕ, nat_le, nat_lt, eqb, Bool, cond, List, [], ◌∷◌, length, Option, Some, None}
-use Rattle.sc_base.specs.Among.{Each}
-use Rattle.sc_base.specs.declared.names.Draw.{Draw}
-use Rattle.sc_cmd.specs.declared.bodies.Body.{Body}
+use Rattle.sc_base.specs.Definitions.{Each, least_of, united}
+use Rattle.sc_node_table.specs.Values.{Draw, Body, Offer, Watch, Command, Noop, Call, Join, Leave, Split, Begin, Prepared, RecordVote, GiveUp, Finish, Watched, RecordWatch, Core, Lock, Free, Coordinating, Promised, Watching, Effect, Link, ToldResult, Heard, Outcome, Past, Vote, AnswerBody, Mail, MailBody, Answer, TxPrepare, TxVote, TxOutcome, TxWatched, Told}
 use Rattle.sc_cmd.specs.declared.bodies.Body.TheVariants as At
-use Rattle.sc_cmd.specs.declared.bodies.Offer.{Offer}
-use Rattle.sc_cmd.specs.declared.bodies.Watch.{Watch}
-use Rattle.sc_cmd.specs.declared.commands.Command.{Command}
-use Rattle.sc_cmd.specs.declared.commands.Command.TheVariants.{Noop, Call, Join, Leave, Split, Begin, Prepared, RecordVote, GiveUp, Finish, Watched, RecordWatch}
-use Rattle.sc_cmd.specs.declared.cores.Core.{Core}
-use Rattle.sc_cmd.specs.declared.cores.Lock.{Lock}
-use Rattle.sc_cmd.specs.declared.cores.Lock.TheVariants.{Free, Coordinating, Promised, Watching}
-use Rattle.sc_cmd.specs.declared.effects.Effect.{Effect}
 use Rattle.sc_cmd.specs.declared.effects.Effect.TheVariants as Was
-use Rattle.sc_cmd.specs.declared.links.Link.{Link}
 use Rattle.sc_cmd.specs.declared.orders.OrderRefusal.TheVariants as Why
-use Rattle.sc_cmd.specs.declared.orders.ToldResult.{ToldResult}
 use Rattle.sc_cmd.specs.declared.orders.ToldResult.TheVariants as Tells
-use Rattle.sc_cmd.specs.declared.votes.Heard.{Heard}
-use Rattle.sc_cmd.specs.declared.votes.Outcome.{Outcome}
 use Rattle.sc_cmd.specs.declared.votes.Outcome.TheVariants as Is
-use Rattle.sc_cmd.specs.declared.votes.Past.{Past}
 use Rattle.sc_cmd.specs.declared.votes.Past.TheVariants as Cast
-use Rattle.sc_cmd.specs.declared.votes.Vote.{Vote}
 use Rattle.sc_cmd.specs.declared.votes.Vote.TheVariants as Says
-use Rattle.sc_cmd.specs.Effects.{refused_result, result_of, decided_in, cast_in}
-use Rattle.sc_mail.specs.declared.bodies.AnswerBody.{AnswerBody}
-use Rattle.sc_mail.specs.declared.bodies.Mail.{Mail}
-use Rattle.sc_mail.specs.declared.bodies.MailBody.{MailBody}
-use Rattle.sc_mail.specs.declared.bodies.MailBody.TheVariants.{Answer, TxPrepare, TxVote, TxOutcome, TxWatched, Told}
-use Rattle.sc_base.specs.Roster.{least_of}
-use Rattle.sc_base.specs.Union.{united}
-use Rattle.sc_machine_table.specs.Group.{Group}
-use Rattle.sc_machine_table.specs.Plans.{can_split, frozen_of, merged_link}
-use Rattle.sc_machine_table.specs.Splits.{right_link}
-use Rattle.sc_paxos_words.proofs.ListLemmas.{Each-append}
+use Rattle.sc_cmd.specs.Definitions.{refused_result, result_of, decided_in, cast_in}
+use Rattle.sc_machine_table.specs.Definitions.{Group, can_split, frozen_of, merged_link, right_link}
+use Rattle.sc_paxos_words.proofs.Lemmas.{Each-append}
 use Rattle.sc_node_table.specs.declared.Before.{Before}
-use Rattle.sc_node_table.specs.Mails.{sent, sent_all, sent_others, answered, answered_all, told_order, dismissed, dismissed_all}
-use Rattle.sc_node_table.specs.Questions.{offer_of, heard_question, question, asked_first}
-use Rattle.sc_node_table.specs.Transactions.{voted_to, watched_to, told_outcome}
-use Rattle.sc_node_table.specs.Spoken.{heard_from, before_in, before_of, outcome_result, decided_result, begun_result, spoken_number, told_result, told_begun, asked_on, begun_asks, vote_sent, watch_sent, aborted_to, aborted_watcher, given_up_by, vote_answered, released_to, watch_answered_by, went_on, spoken_mails}
-use Rattle.sc_names_law.specs.Names.{Opt, BodyNames, OfferNames, WatchNames, PastNames, OutcomeNames, HeardNames, LockNames, CoreNames, CommandNames, EffectNames, ResultNames, AnswerNames, BodiesNames, MailNames}
-use Rattle.sc_law_lemmas.proofs.Ways.{either_way}
+use Rattle.sc_node_table.specs.Definitions.{sent, sent_all, sent_others, answered, answered_all, told_order, dismissed, dismissed_all, offer_of, heard_question, question, asked_first, voted_to, watched_to, told_outcome, heard_from, before_in, before_of, outcome_result, decided_result, begun_result, spoken_number, told_result, told_begun, asked_on, begun_asks, vote_sent, watch_sent, aborted_to, aborted_watcher, given_up_by, vote_answered, released_to, watch_answered_by, went_on, spoken_mails}
+use Rattle.sc_names_law.specs.Definitions.{Opt, BodyNames, OfferNames, WatchNames, PastNames, OutcomeNames, HeardNames, LockNames, CoreNames, CommandNames, EffectNames, ResultNames, AnswerNames, BodiesNames, MailNames}
+use Rattle.sc_law_lemmas.proofs.Lemmas.{either_way}
 
 module _ (K : Draw → Type 0) where
   abbrev pub Sent : List Mail → Type 0

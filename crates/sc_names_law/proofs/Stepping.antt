@@ -2,63 +2,22 @@
 use Rattle.std.proofs.Common.{◌≡◌, ℕ, ◌+◌, ◌-◌, ◌&&◌, ◌||◌, not, nat_le, nat_lt, eqb, Bool, true, cond, List, [], ◌∷◌, ◌++◌, length, find, Option, Some, None, refl, ap, subst, ◌∙◌}
 use Rattle.std.specs.Prelude.{is_some, is_none}
 use Rattle.std.proofs.lemmas.Bool.{and_from, cond-true, cond-false, cond_both}
-use Rattle.sc_base.specs.Among.{Each}
-use Rattle.sc_base.specs.Same.{same_draw}
-use Rattle.sc_base.specs.Drawing.{Drawer, next_name}
-use Rattle.sc_base.specs.declared.names.Draw.{Draw}
-use Rattle.sc_base.specs.declared.ops.Op.{Op}
-use Rattle.sc_ideal.specs.IdealStore.{key_of, holds_key}
-use Rattle.sc_cmd.specs.declared.bodies.Offer.{Offer}
-use Rattle.sc_cmd.specs.declared.bodies.Watch.{Watch}
-use Rattle.sc_cmd.specs.declared.commands.Command.{Command}
-use Rattle.sc_cmd.specs.declared.commands.Command.TheVariants.{Call, Prepared, RecordVote, GiveUp, Finish, Watched, RecordWatch}
-use Rattle.sc_cmd.specs.declared.cores.Base.{Base}
-use Rattle.sc_cmd.specs.declared.cores.Core.{Core}
-use Rattle.sc_cmd.specs.declared.cores.Lock.{Lock}
-use Rattle.sc_cmd.specs.declared.cores.Lock.TheVariants.{Free, Coordinating, Promised, Watching}
-use Rattle.sc_cmd.specs.declared.links.Route.{Route}
-use Rattle.sc_cmd.specs.declared.orders.Order.{Order}
+use Rattle.sc_base.specs.Definitions.{Each, same_draw, Drawer, next_name, is_member}
+use Rattle.sc_node_table.specs.Values.{Draw, Op, Offer, Watch, Command, Call, Prepared, RecordVote, GiveUp, Finish, Watched, RecordWatch, Base, Core, Lock, Free, Coordinating, Promised, Watching, Route, Order, OrderLine, OrderRefusal, Outcome, Past, Vote, AnswerBody, Mail, MailBody, Request, Answer, Prepare, Promise, Accept, Accepted, Nack, Learn, Ask, Install, TxPrepare, TxVote, TxOutcome, TxElsewhere, TxWatch, TxWatched, Told}
+use Rattle.sc_ideal.specs.Definitions.{key_of, holds_key}
 use Rattle.sc_cmd.specs.declared.orders.Order.TheVariants as An
-use Rattle.sc_cmd.specs.declared.orders.OrderLine.{OrderLine}
-use Rattle.sc_cmd.specs.declared.orders.OrderRefusal.{OrderRefusal}
 use Rattle.sc_cmd.specs.declared.orders.OrderRefusal.TheVariants as Why
 use Rattle.sc_cmd.specs.declared.orders.ToldResult.TheVariants as Tells
-use Rattle.sc_cmd.specs.declared.votes.Outcome.{Outcome}
-use Rattle.sc_cmd.specs.declared.votes.Past.{Past}
 use Rattle.sc_cmd.specs.declared.votes.Past.TheVariants as Cast
-use Rattle.sc_cmd.specs.declared.votes.Vote.{Vote}
 use Rattle.sc_cmd.specs.declared.votes.Vote.TheVariants as Says
-use Rattle.sc_mail.specs.declared.bodies.AnswerBody.{AnswerBody}
-use Rattle.sc_mail.specs.declared.bodies.Mail.{Mail}
-use Rattle.sc_mail.specs.declared.bodies.MailBody.{MailBody}
-use Rattle.sc_mail.specs.declared.bodies.MailBody.TheVariants.{Request, Answer, Prepare, Promise, Accept, Accepted, Nack, Learn, Ask, Install, TxPrepare, TxVote, TxOutcome, TxElsewhere, TxWatch, TxWatched, Told}
-use Rattle.sc_base.specs.Roster.{is_member}
-use Rattle.sc_machine_table.specs.Group.{Group}
-use Rattle.sc_machine_table.specs.Orders.{locked_in, refusal_of}
-use Rattle.sc_machine_table.specs.Plans.{frozen_of}
-use Rattle.sc_machine_table.specs.Splits.{is_locked_in}
-use Rattle.sc_paxos_words.proofs.ListLemmas.{Each-append}
-use Rattle.sc_paxos_words.specs.Logs.{entry_at}
-use Rattle.sc_node_table.specs.Replica.{ReplicaState, Place, name_of, next, members, flying, is_idle, settled, last_slot, installed_replica}
-use Rattle.sc_node_table.specs.Acts.{has_act, with_act, act_queued}
-use Rattle.sc_node_table.specs.Election.{elected, stopped}
-use Rattle.sc_node_table.specs.Execute.{looked}
-use Rattle.sc_node_table.specs.Install.{named, jumped}
-use Rattle.sc_node_table.specs.Mails.{sent_all}
-use Rattle.sc_node_table.specs.Ordering.{ordered_command, takes_name, has_drawn_all, named_refused, first_of_both, untaken, taken_or_told, ordered_row}
-use Rattle.sc_node_table.specs.Node.{group_of_order}
-use Rattle.sc_node_table.specs.Policy.{wished_line, with_command, with_line, wishing}
-use Rattle.sc_node_table.specs.Pump.{pumped, serves_calls}
-use Rattle.sc_node_table.specs.Questions.{asked_link, question}
-use Rattle.sc_node_table.specs.Queues.{call_of, without_call}
-use Rattle.sc_node_table.specs.Reminders.{patience, one_tick_more, waited_in, reminders, reminded}
-use Rattle.sc_node_table.specs.Rows.{call_refusal, refused_at, queued, requested, request_row, looked_up, took_over, install_row, made_by, uncounted, asked_again, told_last, tick_row, mailed}
-use Rattle.sc_node_table.specs.Transactions.{noted_vote, noted_outcome, gone_vote, standing_by, standing_vote, sent_elsewhere, offered_by, offer_row, watched_by, watch_row, awaits_vote, awaits_watch, vote_queued, vote_met, vote_row, watch_queued, watch_met, watched_row, next_asked, asked_next, elsewhere_row, is_bound, outcome_row}
-use Rattle.sc_names_law.specs.Names.{Opt, OfferNames, WatchNames, VoteNames, PastNames, OutcomeNames, LockNames, CoreNames, CommandNames, RefusalNames, AnswerNames, BodiesNames, ReplicaNames}
-use Rattle.sc_names_law.specs.Owners.{Owned, owned_by, drawn_for, waited, wished_at, drawn_wishing}
+use Rattle.sc_machine_table.specs.Definitions.{Group, locked_in, refusal_of, frozen_of, is_locked_in}
+use Rattle.sc_paxos_words.proofs.Lemmas.{Each-append}
+use Rattle.sc_paxos_words.specs.Definitions.{entry_at}
+use Rattle.sc_node_table.specs.Definitions.{ReplicaState, Place, name_of, next, members, flying, is_idle, settled, last_slot, installed_replica, has_act, with_act, act_queued, elected, stopped, looked, named, jumped, sent_all, ordered_command, takes_name, has_drawn_all, named_refused, first_of_both, untaken, taken_or_told, ordered_row, group_of_order, wished_line, with_command, with_line, wishing, pumped, serves_calls, asked_link, question, call_of, without_call, patience, one_tick_more, waited_in, reminders, reminded, call_refusal, refused_at, queued, requested, request_row, looked_up, took_over, install_row, made_by, uncounted, asked_again, told_last, tick_row, mailed, noted_vote, noted_outcome, gone_vote, standing_by, standing_vote, sent_elsewhere, offered_by, offer_row, watched_by, watch_row, awaits_vote, awaits_watch, vote_queued, vote_met, vote_row, watch_queued, watch_met, watched_row, next_asked, asked_next, elsewhere_row, is_bound, outcome_row}
+use Rattle.sc_names_law.specs.Definitions.{Opt, OfferNames, WatchNames, VoteNames, PastNames, OutcomeNames, LockNames, CoreNames, CommandNames, RefusalNames, AnswerNames, BodiesNames, ReplicaNames, Owned, owned_by, drawn_for, waited, wished_at, drawn_wishing}
 use Rattle.sc_names_law.proofs.Lists.{opt_find, opt_map}
 use Rattle.sc_names_law.proofs.Machine.{refusal_names}
-use Rattle.sc_law_lemmas.proofs.Ways.{either_way}
+use Rattle.sc_law_lemmas.proofs.Lemmas.{either_way}
 use Rattle.sc_names_law.proofs.Sent.{Sent, sent_names, sent_all_names, sent_others_names, question_names, voted_to_names, watched_to_names, outcome_names}
 use Rattle.sc_names_law.proofs.Held.{Fine, Cmd, with_calls, with_acts, without_names, flying_names, elected_names, stopped_names, named_names, jumped_names, installed_names, pumped_names}
 use Rattle.sc_names_law.proofs.Executing.{Kids, looked_names}

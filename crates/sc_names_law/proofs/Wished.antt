@@ -5,24 +5,14 @@ use Rattle.std.specs.FinMap.{entries}
 use Rattle.std.specs.Option.{option_map}
 use Rattle.std.proofs.lemmas.Bool.{cond_both}
 use Rattle.std.proofs.lemmas.Nat.{mod_below}
-use Rattle.sc_base.specs.declared.names.Draw.{Draw}
-use Rattle.sc_cmd.specs.declared.commands.Command.TheVariants.{GiveUp}
-use Rattle.sc_cmd.specs.declared.cores.Core.{Core}
-use Rattle.sc_cmd.specs.declared.cores.Lock.{Lock}
-use Rattle.sc_cmd.specs.declared.cores.Lock.TheVariants.{Free, Coordinating, Promised, Watching}
-use Rattle.sc_cmd.specs.declared.orders.OrderLine.{OrderLine}
-use Rattle.sc_machine_table.specs.Group.{Group}
-use Rattle.sc_base.specs.Roster.{is_member}
+use Rattle.sc_node_table.specs.Values.{Draw, GiveUp, Core, Lock, Free, Coordinating, Promised, Watching, OrderLine}
+use Rattle.sc_machine_table.specs.Definitions.{Group}
+use Rattle.sc_base.specs.Definitions.{is_member}
 use Rattle.sc_policy.specs.declared.bodies.Body0.{Body0}
 use Rattle.sc_policy.specs.declared.bodies.Body0.TheVariants.{Split, Merge, Repart}
-use Rattle.sc_policy.specs.Wishes.{has_neighbour, is_small, middle_of, positions_from, middle_key, wants_split, wants_repart, wished, wished_of_two, order_of, wished_order}
-use Rattle.sc_node_table.specs.Acts.{has_act, with_act}
-use Rattle.sc_node_table.specs.Node.{group_of_order}
-use Rattle.sc_node_table.specs.Policy.{is_at_rest, policy_line, wished_line}
-use Rattle.sc_node_table.specs.Reminders.{patience, one_tick_more, waited_in}
-use Rattle.sc_node_table.specs.Replica.{ReplicaState, name_of, members, settled}
-use Rattle.sc_names_law.specs.Laws.{IsAtPosition, WishesAreAtPositions}
-use Rattle.sc_names_law.specs.Owners.{waited, wished_at}
+use Rattle.sc_policy.specs.Definitions.{has_neighbour, is_small, middle_of, positions_from, middle_key, wants_split, wants_repart, wished, wished_of_two, order_of, wished_order}
+use Rattle.sc_node_table.specs.Definitions.{has_act, with_act, group_of_order, is_at_rest, policy_line, wished_line, patience, one_tick_more, waited_in, ReplicaState, name_of, members, settled}
+use Rattle.sc_names_law.specs.Definitions.{IsAtPosition, WishesAreAtPositions, waited, wished_at}
 
 -- ---- waiting leaves the group
 

@@ -1,17 +1,14 @@
 -- A journal of three orders to one node: two splits, and a merge of a group that has no neighbour.
 use Rattle.std.specs.Prelude.{false, [], ◌∷◌}
-use Rattle.sc_base.specs.declared.names.Draw.{Draw}
-use Rattle.sc_cmd.specs.declared.commands.Command.TheVariants.{Split}
-use Rattle.sc_cmd.specs.declared.orders.OrderLine.{OrderLine}
+use Rattle.sc_node_table.specs.Values.{Draw, Split, OrderLine, Accept, Told as ToldMail}
 use Rattle.sc_cmd.specs.declared.orders.Order.TheVariants as An
 use Rattle.sc_cmd.specs.declared.orders.OrderRefusal.TheVariants as Why
 use Rattle.sc_cmd.specs.declared.orders.ToldResult.TheVariants as Tells
-use Rattle.sc_mail.specs.declared.bodies.MailBody.TheVariants.{Accept, Told as ToldMail}
 use Rattle.sc_actor.specs.declared.rows.Event.TheVariants.{Told}
-use Rattle.sc_scenario.specs.Groups.{lone_group, lone_name}
+use Rattle.sc_scenario.specs.Definitions.{lone_group, lone_name}
 use Rattle.sc_scenario.specs.declared.scenarios.SchedLine.TheVariants as line
 use Rattle.sc_scenario.specs.declared.scenarios.Scenario.{Scenario}
-use Rattle.sc_sound.specs.Example.{ballot, mail, row}
+use Rattle.sc_sound.specs.Definitions.{ballot, mail, row}
 use Rattle.sc_names_law.specs.Owners.{Rows}
 
 -- the names that node 1 draws, in their order

@@ -1,19 +1,10 @@
 -- A name that is drawn is new: no mail, no player, no log and no group had it before.
 use Rattle.std.specs.Prelude.{◌≡◌, ℕ, [], Some, None, ◌⊎◌}
-use Rattle.sc_base.specs.Among.{Among, Each}
-use Rattle.sc_base.specs.declared.names.Draw.{Draw}
-use Rattle.sc_cmd.specs.declared.cores.Base.{Base}
-use Rattle.sc_cmd.specs.declared.cores.Lock.TheVariants.{Free}
-use Rattle.sc_cmd.specs.declared.orders.OrderLine.{OrderLine}
-use Rattle.sc_mail.specs.declared.bodies.Mail.{Mail}
-use Rattle.sc_actor.specs.declared.actors.Seat.{Seat}
-use Rattle.sc_actor.specs.declared.rows.Row.{Row}
-use Rattle.sc_actor.specs.Mail.{mails}
-use Rattle.sc_actor.specs.Replay.{value}
-use Rattle.sc_sound.specs.Players.{Ahead, Player, Lawful, player_table, births}
+use Rattle.sc_base.specs.Definitions.{Among, Each}
+use Rattle.sc_node_table.specs.Values.{Draw, Base, Free, OrderLine, Mail, Seat, Row}
+use Rattle.sc_actor.specs.Definitions.{mails, value}
+use Rattle.sc_sound.specs.Definitions.{Ahead, Player, Lawful, player_table, births, groups_at, decided_log}
 use Rattle.sc_scenario.specs.declared.scenarios.Scenario.{Scenario}
-use Rattle.sc_sound.specs.GroupsOf.{groups_at}
-use Rattle.sc_sound.specs.Logs.{decided_log}
 use Rattle.sc_names_law.specs.Owners.{Rows, Owned, drawn_at, owner_in}
 use Rattle.sc_names_law.specs.Names.{CoreNames, CommandNames, MailNames, PlayerNames}
 

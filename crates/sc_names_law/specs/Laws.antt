@@ -1,26 +1,15 @@
 -- Each name is drawn once, for one group, and what an order queues is allowed by the owner of its name.
 use Rattle.std.specs.List.{AllPairs}
 use Rattle.std.specs.Prelude.{Bool, List, [], ◌≡◌, ℕ, ◌<◌, ◌≤◌, ◌^◌, ◌∷◌, ◌++◌, Some, None}
-use Rattle.sc_base.specs.Among.{Among}
-use Rattle.sc_base.specs.Drawing.{Drawer, next_name}
-use Rattle.sc_base.specs.declared.names.Draw.{Draw}
-use Rattle.sc_base.specs.declared.ops.Op.{Op}
-use Rattle.sc_cmd.specs.declared.orders.Order.{Order}
+use Rattle.sc_base.specs.Definitions.{Among, Drawer, next_name}
+use Rattle.sc_node_table.specs.Values.{Draw, Op, Order, OrderLine, Mail, Row, Tick, Node}
 use Rattle.sc_cmd.specs.declared.orders.Order.TheVariants as An
-use Rattle.sc_cmd.specs.declared.orders.OrderLine.{OrderLine}
-use Rattle.sc_mail.specs.declared.bodies.Mail.{Mail}
-use Rattle.sc_actor.specs.declared.rows.Row.{Row}
-use Rattle.sc_actor.specs.declared.rows.Event.TheVariants.{Tick, Told}
-use Rattle.sc_actor.specs.Replay.{value}
-use Rattle.sc_node_table.specs.Node.{NodeState, replica_of, group_of_order, names_after_ticks}
-use Rattle.sc_node_table.specs.Ordering.{ordered_command, untaken, ordered_row}
-use Rattle.sc_node_table.specs.Pump.{pumped}
-use Rattle.sc_node_table.specs.Replica.{ReplicaState, name_of}
-use Rattle.sc_sound.specs.Players.{Ahead, player_table, node_seat}
-use Rattle.sc_mail.specs.declared.roles.Role.TheVariants.{Node}
+use Rattle.sc_actor.specs.declared.rows.Event.TheVariants.{Told}
+use Rattle.sc_actor.specs.Definitions.{value}
+use Rattle.sc_node_table.specs.Definitions.{NodeState, replica_of, group_of_order, names_after_ticks, ordered_command, untaken, ordered_row, pumped, ReplicaState, name_of}
+use Rattle.sc_sound.specs.Definitions.{Ahead, player_table, node_seat}
 use Rattle.sc_scenario.specs.declared.scenarios.Scenario.{Scenario}
-use Rattle.sc_ring_law.specs.Allowed.{IsAllowed}
-use Rattle.sc_ring_law.specs.Stories.{Stories}
+use Rattle.sc_ring_law.specs.Definitions.{IsAllowed, Stories}
 use Rattle.sc_names_law.specs.Owners.{Rows, Owned, owned_by, waited, wished_at, drawn_at, owner_in}
 
 -- ---- owners

@@ -4,3 +4,4 @@ pub mod Laws
 pub mod Fresh
 pub mod Example
 pub mod Naming
+pub mod Definitions

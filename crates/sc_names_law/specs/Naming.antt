@@ -1,16 +1,10 @@
 -- What the logs of a journal name was drawn, where each command is allowed by the owners of names.
 use Rattle.std.specs.Prelude.{◌≡◌, ℕ, ◌≤◌, ◌++◌, Some}
-use Rattle.sc_base.specs.Among.{Among, Each}
-use Rattle.sc_base.specs.declared.names.Draw.{Draw}
-use Rattle.sc_base.specs.declared.ops.Op.{Op}
-use Rattle.sc_cmd.specs.declared.commands.Command.{Command}
-use Rattle.sc_cmd.specs.declared.cores.Base.{Base}
-use Rattle.sc_sound.specs.Players.{Ahead, Lawful}
-use Rattle.sc_ring_law.specs.Allowed.{IsAllowed}
-use Rattle.sc_ring_law.specs.Laws.{draw_of}
-use Rattle.sc_ring_law.specs.Stories.{Stories}
+use Rattle.sc_base.specs.Definitions.{Among, Each}
+use Rattle.sc_node_table.specs.Values.{Draw, Op, Command, Base}
+use Rattle.sc_sound.specs.Definitions.{Ahead, Lawful, decided_log}
+use Rattle.sc_ring_law.specs.Definitions.{IsAllowed, draw_of, Stories}
 use Rattle.sc_scenario.specs.declared.scenarios.Scenario.{Scenario}
-use Rattle.sc_sound.specs.Logs.{decided_log}
 use Rattle.sc_names_law.specs.Fresh.{BeginsUndrawn}
 use Rattle.sc_names_law.specs.Laws.{IsDrawn}
 use Rattle.sc_names_law.specs.Owners.{Rows, owner_in}

@@ -1,22 +1,11 @@
 -- Whose each name is: the group for which an order or a policy drew it, read off the rows of a journal.
 use Rattle.std.specs.Prelude.{ℕ, nat_le, Bool, ◌&&◌, ◌||◌, not, List, [], ◌∷◌, ◌++◌, if◌then◌else◌, Option, Some, None, is_some, is_none}
-use Rattle.sc_base.specs.Drawing.{Drawer, next_name}
-use Rattle.sc_base.specs.Same.{same_draw}
-use Rattle.sc_base.specs.declared.names.Draw.{Draw}
-use Rattle.sc_cmd.specs.declared.orders.OrderLine.{OrderLine}
-use Rattle.sc_mail.specs.declared.bodies.Mail.{Mail}
-use Rattle.sc_base.specs.Roster.{is_member}
-use Rattle.sc_actor.specs.declared.rows.Row.{Row}
-use Rattle.sc_actor.specs.declared.rows.Event.{Event}
-use Rattle.sc_actor.specs.declared.rows.Event.TheVariants.{Deliver, Drop, Again, Go, Tick, Crash, Told}
-use Rattle.sc_actor.specs.Replay.{value}
-use Rattle.sc_node_table.specs.Node.{replica_of, group_of_order}
-use Rattle.sc_node_table.specs.Ordering.{takes_name, untaken}
-use Rattle.sc_node_table.specs.Policy.{wished_line, names_after_tick}
-use Rattle.sc_node_table.specs.Reminders.{waited_in}
-use Rattle.sc_node_table.specs.Replica.{ReplicaState, members, settled, either}
-use Rattle.sc_sound.specs.Players.{Ahead, Player, player_table, node_seat}
-use Rattle.sc_mail.specs.declared.roles.Role.TheVariants.{Node, Client}
+use Rattle.sc_base.specs.Definitions.{Drawer, next_name, same_draw, is_member}
+use Rattle.sc_node_table.specs.Values.{Draw, OrderLine, Mail, Row, Event, Deliver, Drop, Again, Go, Tick, Crash, Node, Client}
+use Rattle.sc_actor.specs.declared.rows.Event.TheVariants.{Told}
+use Rattle.sc_actor.specs.Definitions.{value}
+use Rattle.sc_node_table.specs.Definitions.{replica_of, group_of_order, takes_name, untaken, wished_line, names_after_tick, waited_in, ReplicaState, members, settled, either}
+use Rattle.sc_sound.specs.Definitions.{Ahead, Player, player_table, node_seat}
 use Rattle.sc_scenario.specs.declared.scenarios.Scenario.{Scenario}
 
 -- rows of a journal

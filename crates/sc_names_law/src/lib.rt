@@ -9,33 +9,11 @@ ghost use Rattle.sc_base.specs.Among.{Each};
 ghost use Rattle.sc_sound.specs.Players.{Lawful};
 ghost use Rattle.sc_scenario.specs.Groups.{lone_name};
 ghost use Rattle.sc_sound.specs.Example.{four};
-ghost use Rattle.sc_names_law.specs.Example.{
-  drawing_rows,
-  drawing_scenario,
-  example_name,
-  second_name,
-  third_name,
-};
+ghost use Rattle.sc_names_law.specs.Example.{drawing_rows, drawing_scenario, example_name, second_name, third_name};
 ghost use Rattle.sc_names_law.specs.Owners.{owner_in};
 ghost use Rattle.sc_names_law.specs.Fresh.{BeginsUndrawn, DrawnNamesAreNew, NamesAreDrawn};
-ghost use Rattle.sc_names_law.specs.Naming.{
-  AllowedNamesAreDrawn,
-  LoggedNamesAreDrawn,
-  MoreOwnersAllow,
-};
-ghost use Rattle.sc_names_law.specs.Laws.{
-  DrawnNamesAreOwned,
-  NodesHaveNames,
-  TakenOrdersAreAllowed,
-  TakenWishesAreAllowed,
-  WishesAreAtPositions,
-  OrdersAreQueued,
-  OtherNamesAreFree,
-  OwnedNamesAreDrawn,
-  OwnedNamesAreOfNodes,
-  OwnersStay,
-  RowsDrawOnce,
-};
+ghost use Rattle.sc_names_law.specs.Naming.{AllowedNamesAreDrawn, LoggedNamesAreDrawn, MoreOwnersAllow};
+ghost use Rattle.sc_names_law.specs.Laws.{DrawnNamesAreOwned, NodesHaveNames, TakenOrdersAreAllowed, TakenWishesAreAllowed, WishesAreAtPositions, OrdersAreQueued, OtherNamesAreFree, OwnedNamesAreDrawn, OwnedNamesAreOfNodes, OwnersStay, RowsDrawOnce};
 
 /// The names that a row draws, for an order or for what policies order, differ and had no owner
 /// before it, and are owned by the orders' groups from then on, whatever rows come later. So one

@@ -4,9 +4,8 @@ use Rattle.std.specs.List.{list_any}
 use Rattle.sc_cmd.specs.declared.commands.Command.{Command}
 use Rattle.sc_paxos_words.specs.declared.answers.Must.{Must}
 use Rattle.sc_paxos_words.specs.declared.answers.Must.TheVariants.{Value, Gap, Free}
-use Rattle.sc_paxos_words.specs.Leaders.{must}
-use Rattle.sc_node_table.specs.Replica.{ReplicaState, Place, next, settled, may_offer, taken_at, under_way, is_idle}
-use Rattle.sc_node_table.specs.Pump.{Found, is_act, from_calls, from_acts, from_queues, found_by, found_for, offered, pumped_from, StaysSettled}
+use Rattle.sc_paxos_words.specs.Definitions.{must}
+use Rattle.sc_node_table.specs.Definitions.{ReplicaState, Place, next, settled, may_offer, taken_at, under_way, is_idle, Found, is_act, from_calls, from_acts, from_queues, found_by, found_for, offered, pumped_from, StaysSettled}
 
 -- a replica but for what is in flight and the queues
 abbrev pub frame : ReplicaState → ReplicaState

@@ -6,3 +6,4 @@ pub mod SamenessLemmas
 pub mod MemberRuns
 pub mod Readiness
 mod Asked
+pub mod Lemmas

@@ -11,22 +11,8 @@ use Rattle.sc_cmd.specs.declared.orders.ToldResult.TheVariants.{Done, Refused}
 use Rattle.sc_mail.specs.declared.bodies.AnswerBody.TheVariants as Says
 use Rattle.sc_mail.specs.declared.bodies.MailBody.TheVariants.{Request, Answer, Accept, Accepted, Learn, Ask, Install, Told as ToldMail}
 use Rattle.sc_node_table.specs.declared.ReplicaInput.TheVariants.{Got, Told}
-use Rattle.sc_machine_table.specs.Group.{group_of, base_of}
-use Rattle.sc_node_table.specs.Replica.{born_replica, forgotten}
-use Rattle.sc_node_table.specs.Mails.{sent_all, sent_others, answered, answered_all, told_order, dismissed, dismissed_all}
-use Rattle.sc_node_table.specs.Install.{install_to, welcomed_all, jumped}
-use Rattle.sc_node_table.specs.Queues.{put_back}
-use Rattle.sc_node_table.specs.Election.{nodes_to, elected, ended, saw}
-use Rattle.sc_node_table.specs.Pump.{next_call, from_calls, from_queues, found_for, offered, pumped_from, pumped}
-use Rattle.sc_node_table.specs.Execute.{entered, announced, told_call, told_effect, learnt_to, welcomed, landed, left, looked, executed_one, executed_ready, executed}
-use Rattle.sc_node_table.specs.Voting.{promised, prepare_row, took, accept_row, promise_row, readied, accepted_row, nack_row}
-use Rattle.sc_node_table.specs.Spoken.{spoken, spoken_mails, told_begun, went_on}
-use Rattle.sc_node_table.specs.Reminders.{reminded}
-use Rattle.sc_node_table.specs.Policy.{wishing}
-use Rattle.sc_node_table.specs.Ordering.{ordered_row}
-use Rattle.sc_node_table.specs.Acts.{act_queued}
-use Rattle.sc_node_table.specs.Transactions.{offer_row, watch_row, vote_row, watched_row, elsewhere_row, outcome_row}
-use Rattle.sc_node_table.specs.Rows.{queued, requested, request_row, learn_row, taught, ask_row, asked_again, told_last, tick_row, looked_up, took_over, install_row, mailed, stepped}
+use Rattle.sc_machine_table.specs.Definitions.{group_of, base_of}
+use Rattle.sc_node_table.specs.Definitions.{born_replica, forgotten, sent_all, sent_others, answered, answered_all, told_order, dismissed, dismissed_all, install_to, welcomed_all, jumped, put_back, nodes_to, elected, ended, saw, next_call, from_calls, from_queues, found_for, offered, pumped_from, pumped, entered, announced, told_call, told_effect, learnt_to, welcomed, landed, left, looked, executed_one, executed_ready, executed, promised, prepare_row, took, accept_row, promise_row, readied, accepted_row, nack_row, spoken, spoken_mails, told_begun, went_on, reminded, wishing, ordered_row, act_queued, offer_row, watch_row, vote_row, watched_row, elsewhere_row, outcome_row, queued, requested, request_row, learn_row, taught, ask_row, asked_again, told_last, tick_row, looked_up, took_over, install_row, mailed, stepped}
 use Rattle.sc_node_table.proofs.Runs.{g, b, mail, core, base, run}
 
 abbrev line : ℕ → Order → OrderLine

@@ -1,19 +1,13 @@
 -- Small runs of a policy, computed: what a node whose policy is on orders at a tick, and when it orders nothing.
 use Rattle.std.proofs.Common.{◌≡◌, ℕ, ◌+◌, ◌^◌, ◌-◌, Bool, true, false, List, [], ◌∷◌, refl}
-use Rattle.sc_base.specs.declared.names.Draw.{Draw}
-use Rattle.sc_base.specs.Drawing.{Drawer}
+use Rattle.sc_base.specs.Definitions.{Drawer}
 use Rattle.sc_cmd.specs.declared.bodies.Body.TheVariants.{Merge}
 use Rattle.sc_cmd.specs.declared.commands.Command.TheVariants.{Split, Begin}
 use Rattle.sc_cmd.specs.declared.cores.Base.{Base}
 use Rattle.sc_cmd.specs.declared.cores.Lock.TheVariants.{Free, Watching}
 use Rattle.sc_mail.specs.declared.bodies.MailBody.TheVariants.{Accept}
 use Rattle.sc_mail.specs.declared.bodies.Mail.{Mail}
-use Rattle.sc_node_table.specs.Mails.{sent_all, sent_others, answered}
-use Rattle.sc_node_table.specs.Pump.{next_call, from_calls, from_queues, found_for, offered, pumped_from, pumped}
-use Rattle.sc_node_table.specs.Reminders.{reminded}
-use Rattle.sc_node_table.specs.Policy.{wishing}
-use Rattle.sc_node_table.specs.Rows.{asked_again, told_last, tick_row}
-use Rattle.sc_node_table.specs.Node.{NodeState, born_node, ticked, names_after_ticks, on_tick}
+use Rattle.sc_node_table.specs.Definitions.{sent_all, sent_others, answered, next_call, from_calls, from_queues, found_for, offered, pumped_from, pumped, reminded, wishing, asked_again, told_last, tick_row, NodeState, born_node, ticked, names_after_ticks, on_tick}
 use Rattle.sc_node_table.proofs.Runs.{g, b, mail, base}
 use Rattle.sc_node_table.proofs.TransactionRuns.{h, tx, left_core, right_core, bare, watch}
 

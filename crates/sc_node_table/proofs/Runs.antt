@@ -1,7 +1,7 @@
 -- Small runs of a replica, computed: what it sends from birth on.
 use Rattle.std.proofs.Common.{◌≡◌, ℕ, ◌^◌, false, List, [], ◌∷◌, map, replicate, Some, None, refl}
 use Rattle.sc_base.specs.declared.names.Draw.{Draw}
-use Rattle.sc_base.specs.Drawing.{Drawer}
+use Rattle.sc_base.specs.Definitions.{Drawer}
 use Rattle.sc_base.specs.declared.names.Ballot.{Ballot}
 use Rattle.sc_base.specs.declared.ops.Op.TheVariants.{Get, Put}
 use Rattle.sc_cmd.specs.declared.commands.Command.TheVariants.{Noop, Call}
@@ -14,23 +14,8 @@ use Rattle.sc_mail.specs.declared.bodies.MailBody.TheVariants.{Request, Answer, 
 use Rattle.sc_mail.specs.declared.bodies.Mail.{Mail}
 use Rattle.sc_node_table.specs.declared.ReplicaInput.{ReplicaInput}
 use Rattle.sc_node_table.specs.declared.ReplicaInput.TheVariants.{Got, Tick}
-use Rattle.sc_node_table.specs.Slots.{numbers_from}
-use Rattle.sc_node_table.specs.Replica.{ReplicaState, Place, born_replica, forgotten}
-use Rattle.sc_paxos_words.specs.Leaders.{first_leader}
-use Rattle.sc_node_table.specs.Mails.{sent_all, sent_others, answered, answered_all, told_order, dismissed, dismissed_all}
-use Rattle.sc_node_table.specs.Install.{install_to, welcomed_all}
-use Rattle.sc_node_table.specs.Queues.{put_back}
-use Rattle.sc_node_table.specs.Election.{nodes_to, elected, ended, saw}
-use Rattle.sc_node_table.specs.Pump.{next_call, from_calls, from_queues, found_for, offered, pumped_from, pumped}
-use Rattle.sc_node_table.specs.Execute.{entered, announced, told_call, told_effect, learnt_to, welcomed, landed, left, looked, executed_one, executed_ready, executed}
-use Rattle.sc_node_table.specs.Voting.{promised, prepare_row, took, accept_row, promise_row, readied, accepted_row, nack_row}
-use Rattle.sc_node_table.specs.Spoken.{spoken, spoken_mails, told_begun, went_on}
-use Rattle.sc_node_table.specs.Reminders.{reminded}
-use Rattle.sc_node_table.specs.Policy.{wishing}
-use Rattle.sc_node_table.specs.Ordering.{ordered_row}
-use Rattle.sc_node_table.specs.Acts.{act_queued}
-use Rattle.sc_node_table.specs.Transactions.{offer_row, watch_row, vote_row, watched_row, elsewhere_row, outcome_row}
-use Rattle.sc_node_table.specs.Rows.{queued, requested, request_row, learn_row, taught, ask_row, asked_again, told_last, tick_row, mailed, stepped}
+use Rattle.sc_node_table.specs.Definitions.{numbers_from, ReplicaState, Place, born_replica, forgotten, sent_all, sent_others, answered, answered_all, told_order, dismissed, dismissed_all, install_to, welcomed_all, put_back, nodes_to, elected, ended, saw, next_call, from_calls, from_queues, found_for, offered, pumped_from, pumped, entered, announced, told_call, told_effect, learnt_to, welcomed, landed, left, looked, executed_one, executed_ready, executed, promised, prepare_row, took, accept_row, promise_row, readied, accepted_row, nack_row, spoken, spoken_mails, told_begun, went_on, reminded, wishing, ordered_row, act_queued, offer_row, watch_row, vote_row, watched_row, elsewhere_row, outcome_row, queued, requested, request_row, learn_row, taught, ask_row, asked_again, told_last, tick_row, mailed, stepped}
+use Rattle.sc_paxos_words.specs.Definitions.{first_leader}
 
 -- the name of the group in these runs
 abbrev pub g : Draw

@@ -6,7 +6,7 @@ use Rattle.std.specs.Option.{option_eq}
 use Rattle.std.proofs.lemmas.Bool.{true≢false}
 use Rattle.std.proofs.lemmas.Bool.Decides.{Decides-eqb, Decides-and}
 use Rattle.sc_base.specs.declared.names.Draw.{Draw}
-use Rattle.sc_base.specs.Same.{same_draw}
+use Rattle.sc_base.specs.Definitions.{same_draw}
 use Rattle.sc_base.specs.declared.ops.Op.{Op}
 use Rattle.sc_base.specs.declared.ops.Op.TheVariants.{Get, Put, Del, Add, Cas}
 use Rattle.sc_cmd.specs.declared.bodies.Body.{Body}
@@ -22,7 +22,7 @@ use Rattle.sc_cmd.specs.declared.votes.Past.{Past}
 use Rattle.sc_cmd.specs.declared.votes.Past.TheVariants as Voted
 use Rattle.sc_cmd.specs.declared.votes.Vote.{Vote}
 use Rattle.sc_cmd.specs.declared.votes.Vote.TheVariants as Says
-use Rattle.sc_node_table.specs.Sameness.{same_numbers, same_op, same_arc, same_link, same_route, same_pair, same_pairs, same_client, same_clients, same_body, same_offer, same_watch, same_no, same_frozen, same_vote, same_past, same_gift, same_outcome, same_command, TellsCommands}
+use Rattle.sc_node_table.specs.Definitions.{same_numbers, same_op, same_arc, same_link, same_route, same_pair, same_pairs, same_client, same_clients, same_body, same_offer, same_watch, same_no, same_frozen, same_vote, same_past, same_gift, same_outcome, same_command, TellsCommands}
 
 -- a test that is true exactly where two values are equal
 abbrev Tells : {X : Type 0} → (X → X → Bool) → Type 0

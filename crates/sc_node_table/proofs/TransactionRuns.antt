@@ -1,7 +1,7 @@
 -- Small runs of the rows of transactions, computed: what is sent, and what is queued. Groups 0.1 and 0.2 make the ring, nodes 1 and 2 are their members, and 0.1 orders a merge.
 use Rattle.std.proofs.Common.{◌≡◌, ℕ, ◌^◌, ◌-◌, true, false, List, [], ◌∷◌, Some, None, refl}
 use Rattle.sc_base.specs.declared.names.Draw.{Draw}
-use Rattle.sc_base.specs.Drawing.{Drawer}
+use Rattle.sc_base.specs.Definitions.{Drawer}
 use Rattle.sc_cmd.specs.declared.bodies.Body.TheVariants.{Merge, Split as Divide}
 use Rattle.sc_cmd.specs.declared.bodies.Offer.{Offer}
 use Rattle.sc_cmd.specs.declared.bodies.Watch.{Watch}
@@ -27,16 +27,8 @@ use Rattle.sc_cmd.specs.declared.votes.Past.{Past}
 use Rattle.sc_cmd.specs.declared.votes.Past.TheVariants as Cast
 use Rattle.sc_cmd.specs.declared.votes.Vote.TheVariants as Says
 use Rattle.sc_mail.specs.declared.bodies.MailBody.TheVariants.{Accept, TxPrepare, TxVote, TxOutcome, TxElsewhere, TxWatch, TxWatched, Told}
-use Rattle.sc_machine_table.specs.Group.{group_of}
-use Rattle.sc_machine_table.specs.Plans.{frozen_of}
-use Rattle.sc_node_table.specs.Replica.{Place, born_replica}
-use Rattle.sc_node_table.specs.Mails.{sent_all, answered, told_order}
-use Rattle.sc_node_table.specs.Pump.{next_call, from_calls, from_queues, found_for, offered, pumped_from, pumped}
-use Rattle.sc_node_table.specs.Acts.{act_queued}
-use Rattle.sc_node_table.specs.Transactions.{offer_row, vote_row, watched_row, elsewhere_row, outcome_row}
-use Rattle.sc_node_table.specs.Reminders.{reminded}
-use Rattle.sc_node_table.specs.Ordering.{ordered_row, names_after}
-use Rattle.sc_node_table.specs.Spoken.{before_of, told_begun, went_on, spoken_mails, spoken}
+use Rattle.sc_machine_table.specs.Definitions.{group_of, frozen_of}
+use Rattle.sc_node_table.specs.Definitions.{Place, born_replica, sent_all, answered, told_order, next_call, from_calls, from_queues, found_for, offered, pumped_from, pumped, act_queued, offer_row, vote_row, watched_row, elsewhere_row, outcome_row, reminded, ordered_row, names_after, before_of, told_begun, went_on, spoken_mails, spoken}
 use Rattle.sc_node_table.proofs.Runs.{g, b, mail}
 
 -- the participant's name, and the transaction's

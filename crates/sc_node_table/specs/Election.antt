@@ -1,16 +1,12 @@
 -- A replica begins to run, or runs no longer.
 use Rattle.std.specs.Prelude.{◌≡◌, ℕ, ◌≤◌, ◌+◌, ◌-◌, ◌^◌, ◌==◌, ◌&&◌, Bool, true, false, List, [], filter, fold, if◌then◌else◌, Option, Some}
 use Rattle.std.specs.List.{list_any}
-use Rattle.sc_base.specs.Among.{Each}
-use Rattle.sc_base.specs.Limits.{most_nodes}
+use Rattle.sc_base.specs.Definitions.{Each, most_nodes, is_member, united}
 use Rattle.sc_base.specs.declared.names.Ballot.{Ballot}
 use Rattle.sc_mail.specs.declared.bodies.AnswerBody.{AnswerBody}
 use Rattle.sc_mail.specs.declared.bodies.AnswerBody.TheVariants as Says
 use Rattle.sc_mail.specs.declared.bodies.MailBody.TheVariants.{Prepare}
-use Rattle.sc_base.specs.Roster.{is_member}
-use Rattle.sc_base.specs.Union.{united}
-use Rattle.sc_paxos_words.specs.Ballots.{below}
-use Rattle.sc_paxos_words.specs.Leaders.{new_leader}
+use Rattle.sc_paxos_words.specs.Definitions.{below, new_leader}
 use Rattle.sc_node_table.specs.Slots.{numbers_from}
 use Rattle.sc_node_table.specs.Replica.{ReplicaState, Place, name_of, next, under_way}
 use Rattle.sc_node_table.specs.Mails.{sent_all, answered_all, dismissed_all}

@@ -10,12 +10,10 @@ use Rattle.sc_mail.specs.declared.bodies.AnswerBody.{AnswerBody}
 use Rattle.sc_mail.specs.declared.bodies.AnswerBody.TheVariants as Says
 use Rattle.sc_mail.specs.declared.bodies.MailBody.TheVariants.{Learn}
 use Rattle.sc_cmd.specs.declared.orders.ToldResult.{ToldResult}
-use Rattle.sc_cmd.specs.Effects.{result_of}
-use Rattle.sc_base.specs.Roster.{is_member, least_of}
-use Rattle.sc_paxos_words.specs.Logs.{LogState, learnt, next_of}
-use Rattle.sc_paxos_words.specs.Leaders.{without_flight_at}
-use Rattle.sc_machine_table.specs.Children.{child_by}
-use Rattle.sc_machine_table.specs.Machine.{applied}
+use Rattle.sc_cmd.specs.Definitions.{result_of}
+use Rattle.sc_base.specs.Definitions.{is_member, least_of}
+use Rattle.sc_paxos_words.specs.Definitions.{LogState, learnt, next_of, without_flight_at}
+use Rattle.sc_machine_table.specs.Definitions.{child_by, applied}
 use Rattle.sc_node_table.specs.Slots.{rest_of, at_slot, without_slot}
 use Rattle.sc_node_table.specs.Replica.{ReplicaState, Place, Executed, childless, name_of, next, members, flying, last_slot, forgotten, waits_in}
 use Rattle.sc_node_table.specs.Mails.{answer_to, sent_others, order_number, told_order}

@@ -3,8 +3,8 @@ use Rattle.std.specs.Prelude.{ℕ, ◌-◌, List, [], ◌∷◌, if◌then◌els
 use Rattle.sc_base.specs.declared.names.Draw.{Draw}
 use Rattle.sc_cmd.specs.declared.cores.Base.{Base}
 use Rattle.sc_mail.specs.declared.bodies.MailBody.TheVariants.{Prepare, Install}
-use Rattle.sc_paxos_words.specs.Logs.{installed}
-use Rattle.sc_machine_table.specs.Group.{group_of, base_of}
+use Rattle.sc_paxos_words.specs.Definitions.{installed}
+use Rattle.sc_machine_table.specs.Definitions.{group_of, base_of}
 use Rattle.sc_node_table.specs.Replica.{ReplicaState, Place, name_of, next, forgotten, waits_in}
 use Rattle.sc_node_table.specs.Mails.{sent}
 

@@ -17,3 +17,5 @@ pub mod Slots
 pub mod Spoken
 pub mod Transactions
 pub mod Voting
+pub mod Values
+pub mod Definitions

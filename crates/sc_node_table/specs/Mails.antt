@@ -1,6 +1,6 @@
 -- Mails of a replica, each put behind those that are there.
 use Rattle.std.specs.Prelude.{ℕ, ◌+◌, ◌==◌, List, [], ◌∷◌, ◌++◌, if◌then◌else◌, Option}
-use Rattle.sc_base.specs.Limits.{client_actor}
+use Rattle.sc_base.specs.Definitions.{client_actor}
 use Rattle.sc_base.specs.declared.names.Draw.{Draw}
 use Rattle.sc_cmd.specs.declared.commands.Command.{Command}
 use Rattle.sc_cmd.specs.declared.commands.Command.TheVariants.{Noop, Call, Join, Leave, Split, Begin, Prepared, RecordVote, GiveUp, Finish, Watched, RecordWatch}
@@ -11,7 +11,7 @@ use Rattle.sc_mail.specs.declared.bodies.AnswerBody.{AnswerBody}
 use Rattle.sc_mail.specs.declared.bodies.MailBody.{MailBody}
 use Rattle.sc_mail.specs.declared.bodies.MailBody.TheVariants.{Answer, Told}
 use Rattle.sc_mail.specs.declared.bodies.Mail.{Mail}
-use Rattle.sc_policy.specs.Wishes.{is_told}
+use Rattle.sc_policy.specs.Definitions.{is_told}
 
 -- one mail more
 abbrev pub sent : ℕ → ℕ → MailBody → List Mail → List Mail

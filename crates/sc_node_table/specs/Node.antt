@@ -1,12 +1,10 @@
 -- A node: its replicas, one a group, and its table.
 use Rattle.std.specs.Prelude.{ℕ, ◌==◌, ◌&&◌, ◌||◌, not, nat_le, nat_lt, length, Bool, true, List, [], ◌∷◌, map, filter, find, if◌then◌else◌, Option, Some, None, is_some}
 use Rattle.std.specs.List.{list_all}
-use Rattle.sc_base.specs.Limits.{most_nodes}
+use Rattle.sc_base.specs.Definitions.{most_nodes, Drawer, same_draw, is_member}
 use Rattle.sc_base.specs.declared.names.Draw.{Draw}
-use Rattle.sc_base.specs.Drawing.{Drawer}
 use Rattle.sc_actor.specs.declared.rows.Input.{Input}
 use Rattle.sc_actor.specs.declared.rows.Input.TheVariants.{Got, Tick, Go, Told}
-use Rattle.sc_base.specs.Same.{same_draw}
 use Rattle.sc_cmd.specs.declared.cores.Base.{Base}
 use Rattle.sc_cmd.specs.declared.orders.Order.{Order}
 use Rattle.sc_cmd.specs.declared.orders.Order.TheVariants as An
@@ -17,7 +15,6 @@ use Rattle.sc_mail.specs.declared.bodies.AnswerBody.TheVariants as Says
 use Rattle.sc_mail.specs.declared.bodies.MailBody.{MailBody}
 use Rattle.sc_mail.specs.declared.bodies.MailBody.TheVariants.{Request, Answer, Prepare, Promise, Accept, Accepted, Nack, Learn, Ask, Install, TxPrepare, TxVote, TxOutcome, TxElsewhere, TxWatch, TxWatched, Told as ToldMail}
 use Rattle.sc_mail.specs.declared.bodies.Mail.{Mail}
-use Rattle.sc_base.specs.Roster.{is_member}
 use Rattle.sc_node_table.specs.Slots.{slots_ahead}
 use Rattle.sc_node_table.specs.Replica.{ReplicaState, Place, name_of, born_replica, last_slot}
 use Rattle.sc_node_table.specs.Mails.{sent, answer_to, told_desk}

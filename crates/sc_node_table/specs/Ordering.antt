@@ -1,6 +1,6 @@
 -- Orders of all kinds: which are taken, and the names that they take of the node.
 use Rattle.std.specs.Prelude.{ℕ, Bool, true, false, ◌-◌, ◌^◌, ◌==◌, ◌&&◌, ◌||◌, not, if◌then◌else◌, Option, Some, None, is_some, is_none}
-use Rattle.sc_base.specs.Drawing.{Drawer, next_name, drawn_on}
+use Rattle.sc_base.specs.Definitions.{Drawer, next_name, drawn_on}
 use Rattle.sc_base.specs.declared.names.Draw.{Draw}
 use Rattle.sc_cmd.specs.declared.bodies.Body.TheVariants as To
 use Rattle.sc_cmd.specs.declared.commands.Command.{Command}
@@ -11,7 +11,7 @@ use Rattle.sc_cmd.specs.declared.orders.OrderLine.{OrderLine}
 use Rattle.sc_cmd.specs.declared.orders.OrderRefusal.{OrderRefusal}
 use Rattle.sc_cmd.specs.declared.orders.OrderRefusal.TheVariants.{NotLeader}
 use Rattle.sc_cmd.specs.declared.orders.ToldResult.TheVariants.{Refused}
-use Rattle.sc_machine_table.specs.Orders.{refusal_of}
+use Rattle.sc_machine_table.specs.Definitions.{refusal_of}
 use Rattle.sc_node_table.specs.Replica.{ReplicaState, Place, settled}
 use Rattle.sc_node_table.specs.Mails.{told_desk}
 use Rattle.sc_node_table.specs.Queues.{with_call}

@@ -1,16 +1,15 @@
 -- Tick, 4: what a policy wishes of a group waits like an order, with the number 0. Nothing is told of it.
-use Rattle.std.specs.Prelude.{ℕ, ◌==◌, ◌&&◌, ◌||◌, not, Bool, true, false, length, if◌then◌else◌, Option, Some, None, is_some}
+use Rattle.std.specs.Prelude.{◌==◌, ◌&&◌, ◌||◌, not, Bool, true, false, length, if◌then◌else◌, Option, Some, None, is_some}
 use Rattle.std.specs.FinMap.{entries}
 use Rattle.std.specs.Option.{option_map}
-use Rattle.sc_base.specs.Drawing.{Drawer, next_name}
+use Rattle.sc_base.specs.Definitions.{Drawer, next_name, is_member}
 use Rattle.sc_cmd.specs.declared.commands.Command.{Command}
 use Rattle.sc_cmd.specs.declared.cores.Lock.{Lock}
 use Rattle.sc_cmd.specs.declared.cores.Lock.TheVariants.{Free, Coordinating, Promised, Watching}
 use Rattle.sc_cmd.specs.declared.orders.Order.{Order}
 use Rattle.sc_cmd.specs.declared.orders.OrderLine.{OrderLine}
 use Rattle.sc_cmd.specs.declared.orders.OrderRefusal.{OrderRefusal}
-use Rattle.sc_base.specs.Roster.{is_member}
-use Rattle.sc_policy.specs.Wishes.{wished_order}
+use Rattle.sc_policy.specs.Definitions.{wished_order}
 use Rattle.sc_node_table.specs.Replica.{ReplicaState, Place, members, settled, is_idle}
 use Rattle.sc_node_table.specs.Queues.{with_call}
 use Rattle.sc_node_table.specs.Reminders.{waited_in}

@@ -14,10 +14,8 @@ use Rattle.sc_cmd.specs.declared.votes.Heard.{Heard}
 use Rattle.sc_mail.specs.declared.bodies.Mail.{Mail}
 use Rattle.sc_mail.specs.declared.bodies.MailBody.{MailBody}
 use Rattle.sc_mail.specs.declared.bodies.MailBody.TheVariants.{TxPrepare, TxWatch}
-use Rattle.sc_base.specs.Roster.{least_of}
-use Rattle.sc_base.specs.Union.{united}
-use Rattle.sc_machine_table.specs.Plans.{can_split, merged_link}
-use Rattle.sc_machine_table.specs.Splits.{right_link}
+use Rattle.sc_base.specs.Definitions.{least_of, united}
+use Rattle.sc_machine_table.specs.Definitions.{can_split, merged_link, right_link}
 use Rattle.sc_node_table.specs.Mails.{sent, sent_all}
 
 -- what a group offers its successor, by a node of its own

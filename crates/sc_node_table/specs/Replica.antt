@@ -9,10 +9,8 @@ use Rattle.sc_cmd.specs.declared.cores.Core.{Core}
 use Rattle.sc_cmd.specs.declared.cores.Lock.{Lock}
 use Rattle.sc_cmd.specs.declared.cores.Lock.TheVariants.{Free, Coordinating, Promised, Watching}
 use Rattle.sc_mail.specs.declared.bodies.Mail.{Mail}
-use Rattle.sc_paxos_words.specs.Logs.{LogState, empty_log, next_of, installed, log_cut}
-use Rattle.sc_paxos_words.specs.Acceptors.{AcceptorState, born_acceptor, after_cut}
-use Rattle.sc_paxos_words.specs.Leaders.{LeaderState, first_leader, flight_at, is_settled}
-use Rattle.sc_machine_table.specs.Group.{Group, group_of}
+use Rattle.sc_paxos_words.specs.Definitions.{LogState, empty_log, next_of, installed, log_cut, AcceptorState, born_acceptor, after_cut, LeaderState, first_leader, flight_at, is_settled}
+use Rattle.sc_machine_table.specs.Definitions.{Group, group_of}
 use Rattle.sc_node_table.specs.Slots.{at_slot, numbers_from}
 
 -- the node's number; the executed state and the log of executed entries; the acceptor; the node that it takes for the leader; the greatest ballot seen; whether it runs, and its leader, which counts only then; the commands of which a majority was counted and that are not yet executed, by slot; the members of the open slots, from the next slot on; the waiting commands of transactions, and the waiting calls and orders; how long a transaction has waited

@@ -3,8 +3,7 @@ use Rattle.std.specs.Prelude.{◌≡◌, ℕ, ◌==◌, ◌&&◌, nat_eq, Bool, 
 use Rattle.std.specs.Bool.{Decides}
 use Rattle.std.specs.Cmp.Lexicographic.{pointwise}
 use Rattle.std.specs.Option.{option_eq}
-use Rattle.sc_base.specs.Arc.{Arc}
-use Rattle.sc_base.specs.Same.{same_draw}
+use Rattle.sc_base.specs.Definitions.{Arc, same_draw}
 use Rattle.sc_base.specs.declared.ops.Noted.{Noted}
 use Rattle.sc_base.specs.declared.ops.Op.{Op}
 use Rattle.sc_base.specs.declared.ops.Op.TheVariants.{Get, Put, Del, Add, Cas}

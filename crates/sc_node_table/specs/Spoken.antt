@@ -12,7 +12,7 @@ use Rattle.sc_cmd.specs.declared.cores.Core.{Core}
 use Rattle.sc_cmd.specs.declared.cores.Lock.{Lock}
 use Rattle.sc_cmd.specs.declared.cores.Lock.TheVariants.{Free, Coordinating, Promised, Watching}
 use Rattle.sc_cmd.specs.declared.effects.Effect.{Effect}
-use Rattle.sc_cmd.specs.Effects.{result_of, refused_result, decided_in, cast_in, is_changed}
+use Rattle.sc_cmd.specs.Definitions.{result_of, refused_result, decided_in, cast_in, is_changed, is_alone}
 use Rattle.sc_cmd.specs.declared.links.Link.{Link}
 use Rattle.sc_cmd.specs.declared.orders.ToldResult.{ToldResult}
 use Rattle.sc_cmd.specs.declared.orders.ToldResult.TheVariants as Tells
@@ -23,11 +23,10 @@ use Rattle.sc_cmd.specs.declared.votes.Past.{Past}
 use Rattle.sc_cmd.specs.declared.votes.Past.TheVariants as Cast
 use Rattle.sc_cmd.specs.declared.votes.Vote.{Vote}
 use Rattle.sc_cmd.specs.declared.votes.Vote.TheVariants as Says
-use Rattle.sc_cmd.specs.Cores.{is_alone}
 use Rattle.sc_mail.specs.declared.bodies.Mail.{Mail}
 use Rattle.sc_mail.specs.declared.bodies.MailBody.TheVariants.{TxPrepare, TxOutcome}
-use Rattle.sc_base.specs.Roster.{least_of}
-use Rattle.sc_machine_table.specs.Group.{Group}
+use Rattle.sc_base.specs.Definitions.{least_of}
+use Rattle.sc_machine_table.specs.Definitions.{Group}
 use Rattle.sc_node_table.specs.Replica.{Place}
 use Rattle.sc_node_table.specs.Mails.{sent, sent_all, told_order}
 use Rattle.sc_node_table.specs.declared.Before.{Before}

@@ -1,7 +1,7 @@
 -- The rows of TxPrepare, TxVote, TxOutcome, TxElsewhere, TxWatch and TxWatched: what the parties of a transaction say to each other. What binds a group is not such a mail, but the entry in its log that is queued for it.
 use Rattle.std.specs.Prelude.{ℕ, Bool, false, ◌&&◌, not, find, List, if◌then◌else◌, Option, Some, None}
 use Rattle.std.specs.Option.{option_map}
-use Rattle.sc_base.specs.Same.{same_draw}
+use Rattle.sc_base.specs.Definitions.{same_draw, next_after}
 use Rattle.sc_base.specs.declared.names.Draw.{Draw}
 use Rattle.sc_cmd.specs.declared.bodies.Offer.{Offer}
 use Rattle.sc_cmd.specs.declared.bodies.Watch.{Watch}
@@ -18,12 +18,7 @@ use Rattle.sc_cmd.specs.declared.votes.Vote.{Vote}
 use Rattle.sc_cmd.specs.declared.votes.Vote.TheVariants as Says
 use Rattle.sc_mail.specs.declared.bodies.Mail.{Mail}
 use Rattle.sc_mail.specs.declared.bodies.MailBody.TheVariants.{TxVote, TxOutcome, TxElsewhere, TxWatched}
-use Rattle.sc_base.specs.Roster.{next_after}
-use Rattle.sc_machine_table.specs.Group.{Group}
-use Rattle.sc_machine_table.specs.Orders.{locked_in}
-use Rattle.sc_machine_table.specs.Plans.{frozen_of}
-use Rattle.sc_machine_table.specs.Splits.{is_locked_in}
-use Rattle.sc_machine_table.specs.Transactions.{asks_watcher}
+use Rattle.sc_machine_table.specs.Definitions.{Group, locked_in, frozen_of, is_locked_in, asks_watcher}
 use Rattle.sc_node_table.specs.Replica.{Place, settled}
 use Rattle.sc_node_table.specs.Mails.{sent}
 use Rattle.sc_node_table.specs.Questions.{asked_link, asked_node}

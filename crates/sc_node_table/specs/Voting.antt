@@ -1,7 +1,7 @@
 -- Promises and votes: the rows of Prepare, Promise, Accept, Accepted and Nack.
 use Rattle.std.specs.Prelude.{ℕ, ◌==◌, ◌&&◌, nat_le, Bool, true, List, if◌then◌else◌, Option, Some, None}
 use Rattle.sc_base.specs.declared.names.Ballot.{Ballot}
-use Rattle.sc_base.specs.Same.{same_ballot}
+use Rattle.sc_base.specs.Definitions.{same_ballot}
 use Rattle.sc_cmd.specs.declared.commands.Command.{Command}
 use Rattle.sc_mail.specs.declared.bodies.MailBody.TheVariants.{Promise, Accepted, Nack}
 use Rattle.sc_paxos_words.specs.declared.reports.Report.{Report}
@@ -11,11 +11,7 @@ use Rattle.sc_paxos_words.specs.declared.answers.AcceptAnswer.{AcceptAnswer}
 use Rattle.sc_paxos_words.specs.declared.answers.AcceptAnswer.TheVariants as Asked
 use Rattle.sc_paxos_words.specs.declared.answers.Counted.{Counted}
 use Rattle.sc_paxos_words.specs.declared.answers.Counted.TheVariants.{Chosen, NotYet}
-use Rattle.sc_paxos_words.specs.Preparing.{prepared}
-use Rattle.sc_paxos_words.specs.Accepting.{accepted as accepted_by}
-use Rattle.sc_paxos_words.specs.Acceptors.{AcceptorState}
-use Rattle.sc_paxos_words.specs.Leaders.{LeaderState, promise_counted}
-use Rattle.sc_paxos_words.specs.Votes.{counted}
+use Rattle.sc_paxos_words.specs.Definitions.{prepared, accepted as accepted_by, AcceptorState, LeaderState, promise_counted, counted}
 use Rattle.sc_node_table.specs.Slots.{with_slot}
 use Rattle.sc_node_table.specs.Replica.{ReplicaState, Place, Executed, childless, name_of, next, set_at}
 use Rattle.sc_node_table.specs.Mails.{sent}

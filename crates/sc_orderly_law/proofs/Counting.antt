@@ -5,20 +5,15 @@ use Rattle.std.proofs.Math.Bool.{or-false}
 use Rattle.std.proofs.lemmas.Bool.{and_left}
 use Rattle.std.proofs.lemmas.List.Folds.{list_any-append}
 use Rattle.std.proofs.lemmas.List.Sums.{sum_by-cons, count_by-le-length}
-use Rattle.sc_base.specs.Among.{Each}
+use Rattle.sc_base.specs.Definitions.{Each}
 use Rattle.sc_actor.specs.declared.actors.Seat.{Seat}
 use Rattle.sc_actor.specs.declared.rows.Row.{Row}
 use Rattle.sc_actor.specs.declared.rows.Event.{Event}
 use Rattle.sc_actor.specs.declared.rows.Event.TheVariants.{Deliver, Tick, Go, Told, Crash, Drop, Again}
 use Rattle.sc_actor.specs.declared.schedules.Line.{Line}
-use Rattle.sc_actor.specs.Mail.{mails, copies, counts_at, is_delivery}
-use Rattle.sc_actor.specs.System.{System, row_of, is_go, has_gone, are_apart}
-use Rattle.sc_actor.specs.Walk.{IsLawful}
-use Rattle.sc_actor.proofs.PendingLemmas.{waiting_one}
-use Rattle.sc_actor.proofs.ReplayLemmas.{mails-snoc}
-use Rattle.sc_orderly_law.specs.Orderly.{IsPlainLine, IsInOrder, IsCalmEvent, IsCalmRow, mail_with, is_born, is_told, deliveries, goes, orders}
-use Rattle.sc_orderly_law.specs.Timely.{AreInTime}
-use Rattle.sc_orderly_law.specs.Owing.{Owing, SendsToActors, under_way, owed}
+use Rattle.sc_actor.specs.Definitions.{mails, copies, counts_at, is_delivery, System, row_of, is_go, has_gone, are_apart, IsLawful}
+use Rattle.sc_actor.proofs.Lemmas.{waiting_one, mails-snoc}
+use Rattle.sc_orderly_law.specs.Definitions.{IsPlainLine, IsInOrder, IsCalmEvent, IsCalmRow, mail_with, is_born, is_told, deliveries, goes, orders, AreInTime, Owing, SendsToActors, under_way, owed}
 use Rattle.sc_orderly_law.proofs.Ordering.{orderly_is_calm, orderly, by_rows}
 use Rattle.sc_orderly_law.proofs.InTime.{by_time, last_in_time}
 use Rattle.sc_orderly_law.proofs.Rests.{count_owes}

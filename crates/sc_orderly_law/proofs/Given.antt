@@ -3,18 +3,15 @@ use Rattle.std.proofs.Common.{◌≡◌, ℕ, ◌+◌, ◌≤◌, List, [], ◌�
 use Rattle.std.specs.List.{flat_map}
 use Rattle.std.proofs.lemmas.Bool.{cond_both}
 use Rattle.std.proofs.lemmas.List.Sums.{fold-append, sum_by-cons}
-use Rattle.sc_base.specs.Among.{Each}
+use Rattle.sc_base.specs.Definitions.{Each}
 use Rattle.sc_actor.specs.declared.rows.Row.{Row}
 use Rattle.sc_actor.specs.declared.rows.Event.{Event}
 use Rattle.sc_actor.specs.declared.rows.Event.TheVariants.{Deliver, Tick, Go, Told, Crash, Drop, Again}
 use Rattle.sc_actor.specs.declared.schedules.Line.{Line}
 use Rattle.sc_actor.specs.declared.schedules.Line.TheVariants.{Go as GoLine, Deliver as DeliverLine, Drop as DropLine, Again as AgainLine, Tick as TickLine, Crash as CrashLine, Told as ToldLine, Settle, Free, Storm}
-use Rattle.sc_actor.specs.Mail.{has_crashed, is_delivery}
-use Rattle.sc_actor.specs.System.{System, acts, has_gone}
-use Rattle.sc_actor.specs.Walk.{Task, Once, Settles, Frees, Storms, WalkPlace, MayAdd, IsLawful, onward, is_over, skips, cuts, after_row, place_after, rest_of_all, tasks_of}
-use Rattle.sc_actor.proofs.WalkLemmas.{lawful-last}
-use Rattle.sc_orderly_law.specs.Orderly.{IsCalmLine, is_told, orders}
-use Rattle.sc_orderly_law.specs.Timely.{Said, Nothing, Goes, AnOrder, AreSpaced, gives_order, orders_given, IsToldSo, AreToldSo, IsGivenSo, AreGivenSo}
+use Rattle.sc_actor.specs.Definitions.{has_crashed, is_delivery, System, acts, has_gone, Task, Once, Settles, Frees, Storms, WalkPlace, MayAdd, IsLawful, onward, is_over, skips, cuts, after_row, place_after, rest_of_all, tasks_of}
+use Rattle.sc_actor.proofs.Lemmas.{lawful-last}
+use Rattle.sc_orderly_law.specs.Definitions.{IsCalmLine, is_told, orders, Said, Nothing, Goes, AnOrder, AreSpaced, gives_order, orders_given, IsToldSo, AreToldSo, IsGivenSo, AreGivenSo}
 use Rattle.sc_orderly_law.proofs.Ordering.{Each-append, IsTaskOf, tasks_after, by_rows}
 use Rattle.sc_orderly_law.proofs.Paying.{count_push}
 use Rattle.sc_orderly_law.proofs.Settling.{acts-event, acts-who, delivery-event, free-event}

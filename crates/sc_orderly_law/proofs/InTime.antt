@@ -3,16 +3,13 @@ use Rattle.std.proofs.Common.{◌≡◌, ℕ, List, [], ◌∷◌, ◌++◌, Boo
 use Rattle.sc_actor.specs.declared.rows.Row.{Row}
 use Rattle.sc_actor.specs.declared.rows.Event.{Event}
 use Rattle.sc_actor.specs.declared.rows.Event.TheVariants.{Deliver, Tick, Go, Told, Crash, Drop, Again}
-use Rattle.sc_actor.specs.Mail.{is_delivery}
-use Rattle.sc_actor.specs.System.{System}
-use Rattle.sc_actor.specs.Walk.{is_quiet}
-use Rattle.sc_orderly_law.specs.Orderly.{IsCalmRow, IsTidy, is_told}
-use Rattle.sc_orderly_law.specs.Timely.{IsClear, ComesInTime, AreInTime}
+use Rattle.sc_actor.specs.Definitions.{is_delivery, System, is_quiet}
+use Rattle.sc_orderly_law.specs.Definitions.{IsCalmRow, IsTidy, is_told, IsClear, ComesInTime, AreInTime}
 use Rattle.sc_orderly_law.proofs.Ordering.{Each-append}
 use Rattle.sc_orderly_law.proofs.Resting.{tidy-row}
 
 -- a list with one more behind ends in it, or goes on behind what stands before
-snoc_parts : {X : Type 0} (xs : List X) (last : X) (before : List X) (x : X) (after : List X) → xs ++ last ∷ [] ≡ before ++ x ∷ after → ((before ≡ xs) × (x ≡ last)) ⊎ ((rest : List X) × (xs ≡ before ++ x ∷ rest))
+pub snoc_parts : {X : Type 0} (xs : List X) (last : X) (before : List X) (x : X) (after : List X) → xs ++ last ∷ [] ≡ before ++ x ∷ after → ((before ≡ xs) × (x ≡ last)) ⊎ ((rest : List X) × (xs ≡ before ++ x ∷ rest))
 snoc_parts [] last [] x after e = inl (refl, cc)
 snoc_parts [] last (b ∷ []) x after e = cc
 snoc_parts [] last (b ∷ c ∷ before) x after e = cc

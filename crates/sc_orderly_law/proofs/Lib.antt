@@ -9,3 +9,4 @@ pub mod Rests
 pub mod Seats
 pub mod Settling
 pub mod Timing
+pub mod Lemmas

@@ -1,26 +1,18 @@
 -- A plain schedule allows only rows that come in order, and a calm one only calm rows.
-use Rattle.std.proofs.Common.{◌≡◌, ℕ, List, [], ◌∷◌, ◌++◌, Bool, true, false, cond, eqb, find, fold, refl, sym, ◌∙◌, ap, subst, append_assoc, append-nil, Option, None, Some}
+use Rattle.std.proofs.Common.{◌≡◌, ℕ, List, [], ◌∷◌, ◌++◌, Bool, false, eqb, find, fold, sym, ◌∙◌, ap, subst, append_assoc, append-nil, None, Some}
 use Rattle.std.specs.List.{flat_map}
 use Rattle.std.proofs.lemmas.Bool.{cond_both}
 use Rattle.std.proofs.lemmas.Option.{same_Some}
-use Rattle.sc_base.specs.Among.{Each}
-use Rattle.sc_base.proofs.CommonLemmas.{and_then-some, map-some}
+use Rattle.sc_base.specs.Definitions.{Each}
+use Rattle.sc_base.proofs.Lemmas.{and_then-some, map-some}
 use Rattle.sc_actor.specs.declared.rows.Row.{Row}
 use Rattle.sc_actor.specs.declared.rows.Event.{Event}
 use Rattle.sc_actor.specs.declared.rows.Event.TheVariants.{Deliver, Tick, Go, Told, Crash, Drop, Again}
 use Rattle.sc_actor.specs.declared.schedules.Line.{Line}
 use Rattle.sc_actor.specs.declared.schedules.Line.TheVariants.{Go as GoLine, Deliver as DeliverLine, Drop as DropLine, Again as AgainLine, Tick as TickLine, Crash as CrashLine, Told as ToldLine, Settle, Free, Storm}
-use Rattle.sc_actor.specs.Mail.{mails, numbered, has_crashed}
-use Rattle.sc_actor.specs.System.{System, acts, row_of, waiting, kth, has_gone}
-use Rattle.sc_actor.specs.Walk.{Task, Once, Settles, Frees, Storms, WalkPlace, Allows, MayAdd, IsLawful, onward, is_over, after_row, place_after, rest_of_all, tasks_of, delivery}
-use Rattle.sc_actor.proofs.Induction.{find-who}
-use Rattle.sc_actor.proofs.PendingLemmas.{first_is}
-use Rattle.sc_actor.proofs.WalkLemmas.{lawful-prefix, lawful-last}
-use Rattle.sc_orderly_law.specs.Orderly.{IsPlainLine, IsCalmLine, IsInOrder, IsOrderly, IsCalmEvent, IsCalmRow}
-
-unless-some : {Y : Type 0} (b : Bool) (o : Option Y) (y : Y) → cond b None o ≡ Some y → (b ≡ false) × (o ≡ Some y)
-unless-some true o y e = cc
-unless-some false o y e = (refl, e)
+use Rattle.sc_actor.specs.Definitions.{mails, numbered, has_crashed, System, acts, row_of, waiting, kth, has_gone, Task, Once, Settles, Frees, Storms, WalkPlace, Allows, MayAdd, IsLawful, onward, is_over, after_row, place_after, rest_of_all, tasks_of, delivery}
+use Rattle.sc_actor.proofs.Lemmas.{find-who, first_is, lawful-prefix, lawful-last, unless-some}
+use Rattle.sc_orderly_law.specs.Definitions.{IsPlainLine, IsCalmLine, IsInOrder, IsOrderly, IsCalmEvent, IsCalmRow}
 
 pub Each-append : {X : Type 0} (P : X → Type 0) (xs ys : List X) → Each P xs → Each P ys → Each P (xs ++ ys)
 Each-append P [] ys e f = f

@@ -7,17 +7,15 @@ use Rattle.std.proofs.Math.Bool.{or-false}
 use Rattle.std.proofs.lemmas.Bool.{or_left, or_right}
 use Rattle.std.proofs.lemmas.List.Folds.{list_any-append}
 use Rattle.std.proofs.lemmas.List.Sums.{fold-append}
-use Rattle.sc_base.specs.Among.{Among}
-use Rattle.sc_base.proofs.CommonLemmas.{map-some}
+use Rattle.sc_base.specs.Definitions.{Among}
+use Rattle.sc_base.proofs.Lemmas.{map-some}
 use Rattle.sc_actor.specs.declared.actors.Seat.{Seat}
 use Rattle.sc_actor.specs.declared.rows.Row.{Row}
 use Rattle.sc_actor.specs.declared.rows.Event.TheVariants.{Go}
 use Rattle.sc_actor.specs.declared.schedules.Line.{Line}
 use Rattle.sc_actor.specs.declared.schedules.Line.TheVariants.{Go as GoLine, Deliver as DeliverLine, Drop as DropLine, Again as AgainLine, Tick as TickLine, Crash as CrashLine, Told as ToldLine, Settle, Free, Storm}
-use Rattle.sc_actor.specs.System.{System, acts, row_of, has_gone, is_go}
-use Rattle.sc_actor.specs.Walk.{Task, Once, Settles, Frees, Storms, WalkPlace, MayAdd, IsLawful, IsWhole, onward, is_over, is_quiet, cuts, skips, after_row, place_after, rest_of_task, rest_of_all, tasks_of, line_row, unsettled}
-use Rattle.sc_actor.proofs.Induction.{find-who}
-use Rattle.sc_actor.proofs.WalkLemmas.{lawful-last, place_after-rows}
+use Rattle.sc_actor.specs.Definitions.{System, acts, row_of, has_gone, is_go, Task, Once, Settles, Frees, Storms, WalkPlace, MayAdd, IsLawful, IsWhole, onward, is_over, is_quiet, cuts, skips, after_row, place_after, rest_of_task, rest_of_all, tasks_of, line_row, unsettled}
+use Rattle.sc_actor.proofs.Lemmas.{find-who, lawful-last, place_after-rows}
 use Rattle.sc_orderly_law.proofs.Ordering.{by_rows}
 
 -- a task of many deliveries

@@ -3,22 +3,16 @@ use Rattle.std.proofs.Common.{◌≡◌, ℕ, zero, suc, ◌+◌, ◌-◌, ◌<�
 use Rattle.std.specs.List.{filter, count_by}
 use Rattle.std.proofs.lemmas.List.Sums.{sum_by_push, sum_by-append}
 use Rattle.std.specs.Option.{option_map}
-use Rattle.sc_base.specs.Among.{Each}
+use Rattle.sc_base.specs.Definitions.{Each}
 use Rattle.sc_actor.specs.declared.actors.Seat.{Seat}
 use Rattle.sc_actor.specs.declared.rows.Row.{Row}
 use Rattle.sc_actor.specs.declared.rows.Event.{Event}
 use Rattle.sc_actor.specs.declared.rows.Event.TheVariants.{Deliver, Tick, Go, Told, Crash, Drop, Again}
 use Rattle.sc_actor.specs.declared.rows.Input.TheVariants.{Got, Go as GoInput}
 use Rattle.sc_actor.specs.declared.schedules.Line.{Line}
-use Rattle.sc_actor.specs.Mail.{mails, copies, counts_at, numbered, is_delivery}
-use Rattle.sc_actor.specs.Replay.{value, acted, input_of}
-use Rattle.sc_actor.specs.Steps.{IsUnderWay}
-use Rattle.sc_actor.specs.System.{System, row_of, are_apart}
-use Rattle.sc_actor.specs.Walk.{IsLawful}
-use Rattle.sc_actor.proofs.PendingLemmas.{waiting_one}
-use Rattle.sc_actor.proofs.ReplayLemmas.{value-snoc}
-use Rattle.sc_orderly_law.specs.Orderly.{IsPlainLine, IsInOrder, mail_with, is_born, deliveries}
-use Rattle.sc_orderly_law.specs.Owing.{Owing, Lowers, under_way, owed, owed_by, owed_at_birth}
+use Rattle.sc_actor.specs.Definitions.{mails, copies, counts_at, numbered, is_delivery, value, acted, input_of, IsUnderWay, System, row_of, are_apart, IsLawful}
+use Rattle.sc_actor.proofs.Lemmas.{waiting_one, value-snoc}
+use Rattle.sc_orderly_law.specs.Definitions.{IsPlainLine, IsInOrder, mail_with, is_born, deliveries, Owing, Lowers, under_way, owed, owed_by, owed_at_birth}
 use Rattle.sc_orderly_law.proofs.Ordering.{orderly, by_rows}
 use Rattle.sc_orderly_law.proofs.Rests.{taken_sum, filter_sum}
 use Rattle.sc_orderly_law.proofs.Resting.{after-row, is_born-from}

@@ -4,20 +4,15 @@ use Rattle.std.specs.Prelude.{slice_get, is_none}
 use Rattle.std.specs.List.{filter, list_any}
 use Rattle.std.proofs.lemmas.Bool.{eqb-true, and_right}
 use Rattle.std.proofs.lemmas.List.Folds.{list_any-append}
-use Rattle.sc_base.specs.Among.{Each}
+use Rattle.sc_base.specs.Definitions.{Each}
 use Rattle.sc_actor.specs.declared.actors.Seat.{Seat}
 use Rattle.sc_actor.specs.declared.rows.Row.{Row}
 use Rattle.sc_actor.specs.declared.rows.Event.{Event}
 use Rattle.sc_actor.specs.declared.rows.Event.TheVariants.{Deliver, Tick, Go, Told, Crash, Drop, Again}
 use Rattle.sc_actor.specs.declared.schedules.Line.{Line}
-use Rattle.sc_actor.specs.Mail.{mails, copies, counts_at, numbers, numbered, may_get, is_for, is_crash, is_delivery}
-use Rattle.sc_actor.specs.System.{System, numbers_of, row_of, waiting, kth}
-use Rattle.sc_actor.specs.Walk.{IsLawful, is_quiet}
-use Rattle.sc_actor.proofs.CountLemmas.{counted, length-counts_at}
-use Rattle.sc_actor.proofs.PendingLemmas.{first_is, wide_none}
-use Rattle.sc_actor.proofs.ReplayLemmas.{mails-snoc, copies-snoc}
-use Rattle.sc_actor.proofs.WalkLemmas.{lawful-prefix}
-use Rattle.sc_orderly_law.specs.Orderly.{IsPlainLine, IsCalmLine, IsOrderly, IsCalmEvent, IsCalmRow, IsTidy, mail_with, rest, mail_for, is_born, taken}
+use Rattle.sc_actor.specs.Definitions.{mails, copies, counts_at, numbers, numbered, may_get, is_for, is_crash, is_delivery, System, numbers_of, row_of, waiting, kth, IsLawful, is_quiet}
+use Rattle.sc_actor.proofs.Lemmas.{counted, length-counts_at, first_is, wide_none, mails-snoc, copies-snoc, lawful-prefix}
+use Rattle.sc_orderly_law.specs.Definitions.{IsPlainLine, IsCalmLine, IsOrderly, IsCalmEvent, IsCalmRow, IsTidy, mail_with, rest, mail_for, is_born, taken}
 use Rattle.sc_orderly_law.proofs.Ordering.{Each-append, plain_are_calm, orderly_is_calm, calm_row, by_rows}
 use Rattle.sc_orderly_law.proofs.Rests.{Foremost, less_at, foremost, mail_with-append, mail_with-ones, mail_with-other, numbers-agree}
 

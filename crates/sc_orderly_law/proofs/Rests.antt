@@ -3,9 +3,9 @@ use Rattle.std.proofs.Common.{◌≡◌, ℕ, zero, suc, ◌+◌, ◌-◌, ◌<�
 use Rattle.std.specs.Prelude.{slice_get}
 use Rattle.std.specs.List.{filter}
 use Rattle.std.proofs.lemmas.List.Sums.{sum_by-append, sum_by-cons}
-use Rattle.sc_base.specs.Among.{Each}
-use Rattle.sc_actor.specs.Mail.{numbers}
-use Rattle.sc_orderly_law.specs.Orderly.{mail_with}
+use Rattle.sc_base.specs.Definitions.{Each}
+use Rattle.sc_actor.specs.Definitions.{numbers}
+use Rattle.sc_orderly_law.specs.Definitions.{mail_with}
 
 -- one copy less than there are at a place
 abbrev pub less_at : List ℕ → ℕ → List ℕ

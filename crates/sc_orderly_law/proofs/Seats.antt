@@ -3,9 +3,9 @@ use Rattle.std.proofs.Common.{◌≡◌, ℕ, ◌+◌, List, [], ◌∷◌, Bool
 use Rattle.std.specs.List.{list_any}
 use Rattle.std.proofs.lemmas.Bool.{eqb-true, and_parts, or_parts, not-true}
 use Rattle.std.proofs.lemmas.List.Sums.{sum_by-cons}
-use Rattle.sc_base.specs.Among.{Among}
+use Rattle.sc_base.specs.Definitions.{Among}
 use Rattle.sc_actor.specs.declared.actors.Seat.{Seat}
-use Rattle.sc_actor.specs.System.{are_apart}
+use Rattle.sc_actor.specs.Definitions.{are_apart}
 
 module _ {A : Type 0} (f g : Seat A → ℕ) (who : ℕ) (others : (seat : Seat A) → eqb who seat.who ≡ false → g seat ≡ f seat) where
   flip : (a b : ℕ) → eqb a b ≡ false → eqb b a ≡ false

@@ -4,21 +4,16 @@ use Rattle.std.specs.Prelude.{slice_get, is_none}
 use Rattle.std.specs.List.{flat_map}
 use Rattle.std.proofs.lemmas.Bool.{ne_eqb}
 use Rattle.std.proofs.lemmas.List.Sums.{fold-append}
-use Rattle.sc_base.specs.Among.{Each}
-use Rattle.sc_base.proofs.CommonLemmas.{and_then-some, map-some}
+use Rattle.sc_base.specs.Definitions.{Each}
+use Rattle.sc_base.proofs.Lemmas.{and_then-some, map-some}
 use Rattle.sc_actor.specs.declared.rows.Row.{Row}
 use Rattle.sc_actor.specs.declared.rows.Event.{Event}
 use Rattle.sc_actor.specs.declared.rows.Event.TheVariants.{Deliver}
 use Rattle.sc_actor.specs.declared.schedules.Line.{Line}
 use Rattle.sc_actor.specs.declared.schedules.Line.TheVariants.{Go as GoLine, Deliver as DeliverLine, Drop as DropLine, Again as AgainLine, Tick as TickLine, Crash as CrashLine, Told as ToldLine, Settle, Free, Storm}
-use Rattle.sc_actor.specs.Mail.{mails, numbered, is_delivery}
-use Rattle.sc_actor.specs.System.{System, acts, row_of, waiting, kth, are_apart}
-use Rattle.sc_actor.specs.Walk.{Task, Once, Settles, Frees, Storms, WalkPlace, Allows, MayAdd, IsLawful, onward, is_over, is_quiet, cuts, skips, after_row, place_after, rest_of_all, tasks_of, delivery, unsettled}
-use Rattle.sc_actor.proofs.Induction.{find-who}
-use Rattle.sc_actor.proofs.PendingLemmas.{waiting_any}
-use Rattle.sc_actor.proofs.WalkLemmas.{lawful-last, place_after-rows}
-use Rattle.sc_orderly_law.specs.Orderly.{IsPlainLine, is_born, deliveries}
-use Rattle.sc_orderly_law.specs.Owing.{Owing, Lowers, HasRoom, owed, owed_at_birth}
+use Rattle.sc_actor.specs.Definitions.{mails, numbered, is_delivery, System, acts, row_of, waiting, kth, are_apart, Task, Once, Settles, Frees, Storms, WalkPlace, Allows, MayAdd, IsLawful, onward, is_over, is_quiet, cuts, skips, after_row, place_after, rest_of_all, tasks_of, delivery, unsettled}
+use Rattle.sc_actor.proofs.Lemmas.{find-who, waiting_any, lawful-last, place_after-rows}
+use Rattle.sc_orderly_law.specs.Definitions.{IsPlainLine, is_born, deliveries, Owing, Lowers, HasRoom, owed, owed_at_birth}
 use Rattle.sc_orderly_law.proofs.Ordering.{Each-append, by_rows}
 use Rattle.sc_orderly_law.proofs.Resting.{tidy, may-born}
 use Rattle.sc_orderly_law.proofs.Paying.{delivered, count_push, deliveries_are_owed}

@@ -4,19 +4,15 @@ use Rattle.std.specs.List.{flat_map}
 use Rattle.std.proofs.lemmas.Bool.{ne_eqb}
 use Rattle.std.proofs.lemmas.List.Sums.{fold-append}
 use Rattle.std.proofs.Math.Nat.{mul-le-mul_left}
-use Rattle.sc_base.specs.Among.{Each}
+use Rattle.sc_base.specs.Definitions.{Each}
 use Rattle.sc_actor.specs.declared.rows.Row.{Row}
 use Rattle.sc_actor.specs.declared.rows.Event.{Event}
 use Rattle.sc_actor.specs.declared.rows.Event.TheVariants.{Go, Told}
 use Rattle.sc_actor.specs.declared.schedules.Line.{Line}
 use Rattle.sc_actor.specs.declared.schedules.Line.TheVariants.{Go as GoLine, Deliver as DeliverLine, Drop as DropLine, Again as AgainLine, Tick as TickLine, Crash as CrashLine, Told as ToldLine, Settle, Free, Storm}
-use Rattle.sc_actor.specs.Mail.{has_crashed, is_delivery}
-use Rattle.sc_actor.specs.System.{System, acts, has_gone}
-use Rattle.sc_actor.specs.Walk.{Task, Once, Settles, Frees, Storms, WalkPlace, Allows, MayAdd, IsLawful, onward, is_over, is_quiet, after_row, place_after, rest_of_all, tasks_of, unsettled}
-use Rattle.sc_actor.proofs.WalkLemmas.{lawful-last, lawful-prefix, place_after-rows}
-use Rattle.sc_orderly_law.specs.Orderly.{IsCalmRow, is_told, deliveries, orders}
-use Rattle.sc_orderly_law.specs.Owing.{HasRoom}
-use Rattle.sc_orderly_law.specs.Timely.{Said, Nothing, Goes, AnOrder, MayGo, MayOrder, AreSpaced, IsClear, ComesInTime, AreInTime, orders_given, IsMeasure}
+use Rattle.sc_actor.specs.Definitions.{has_crashed, is_delivery, System, acts, has_gone, Task, Once, Settles, Frees, Storms, WalkPlace, Allows, MayAdd, IsLawful, onward, is_over, is_quiet, after_row, place_after, rest_of_all, tasks_of, unsettled}
+use Rattle.sc_actor.proofs.Lemmas.{lawful-last, lawful-prefix, place_after-rows}
+use Rattle.sc_orderly_law.specs.Definitions.{IsCalmRow, is_told, deliveries, orders, HasRoom, Said, Nothing, Goes, AnOrder, MayGo, MayOrder, AreSpaced, IsClear, ComesInTime, AreInTime, orders_given, IsMeasure}
 use Rattle.sc_orderly_law.proofs.Ordering.{allows_calm, by_rows}
 use Rattle.sc_orderly_law.proofs.Paying.{count_push}
 use Rattle.sc_orderly_law.proofs.Settling.{acts-event, delivery-event, free-event}

@@ -1,3 +1,4 @@
 pub mod Orderly
 pub mod Owing
 pub mod Timely
+pub mod Definitions

@@ -1,15 +1,14 @@
 -- Rows that come in order: each actor takes its mail in ascending order of number.
 use Rattle.std.specs.Prelude.{◌≡◌, ℕ, ◌==◌, ◌≤◌, ◌&&◌, ◌++◌, List, [], ◌∷◌, Bool, true, false, if◌then◌else◌, find, filter, replicate, count_by, Some}
 use Rattle.std.specs.List.{list_any}
-use Rattle.sc_base.specs.Among.{Each}
+use Rattle.sc_base.specs.Definitions.{Each}
 use Rattle.sc_actor.specs.declared.actors.Seat.{Seat}
 use Rattle.sc_actor.specs.declared.rows.Event.{Event}
 use Rattle.sc_actor.specs.declared.rows.Event.TheVariants.{Deliver, Tick, Go, Told, Crash, Drop, Again}
 use Rattle.sc_actor.specs.declared.rows.Row.{Row}
 use Rattle.sc_actor.specs.declared.schedules.Line.{Line}
 use Rattle.sc_actor.specs.declared.schedules.Line.TheVariants.{Go as GoLine, Deliver as DeliverLine, Drop as DropLine, Again as AgainLine, Tick as TickLine, Crash as CrashLine, Told as ToldLine, Settle, Free, Storm}
-use Rattle.sc_actor.specs.Mail.{mails, copies, has_crashed, is_delivery}
-use Rattle.sc_actor.specs.System.{System, numbers_of, row_of, waiting, kth, has_gone, is_go}
+use Rattle.sc_actor.specs.Definitions.{mails, copies, has_crashed, is_delivery, System, numbers_of, row_of, waiting, kth, has_gone, is_go}
 
 -- a line that tells a client to go, or only delivers
 abbrev pub IsPlainLine : {O : Type 0} → Line O → Type 0

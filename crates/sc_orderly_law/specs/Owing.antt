@@ -1,16 +1,13 @@
 -- What actors and pending mail owe: an upper bound of the deliveries that are still to come.
 use Rattle.std.specs.Prelude.{◌≡◌, ℕ, ◌+◌, ◌==◌, ◌≤◌, List, [], ◌∷◌, ◌++◌, sum_by, find, true, Some}
-use Rattle.sc_base.specs.Among.{Each}
+use Rattle.sc_base.specs.Definitions.{Each}
 use Rattle.sc_actor.specs.declared.actors.Seat.{Seat}
 use Rattle.sc_actor.specs.declared.rows.Event.TheVariants.{Deliver, Go}
 use Rattle.sc_actor.specs.declared.rows.Input.TheVariants.{Got, Go as GoInput}
 use Rattle.sc_actor.specs.declared.rows.Row.{Row}
 use Rattle.sc_actor.specs.declared.schedules.Line.{Line}
 use Rattle.sc_actor.specs.declared.schedules.Line.TheVariants.{Go as GoLine, Deliver as DeliverLine, Drop as DropLine, Again as AgainLine, Tick as TickLine, Crash as CrashLine, Told as ToldLine, Settle, Free, Storm}
-use Rattle.sc_actor.specs.Mail.{mails, copies, numbered}
-use Rattle.sc_actor.specs.Replay.{value}
-use Rattle.sc_actor.specs.System.{System, row_of}
-use Rattle.sc_actor.specs.Walk.{IsLawful}
+use Rattle.sc_actor.specs.Definitions.{mails, copies, numbered, value, System, row_of, IsLawful}
 use Rattle.sc_orderly_law.specs.Orderly.{mail_with, is_born}
 
 -- How much an actor, and how much a mail, owes.

@@ -1,14 +1,12 @@
 -- Orders that begin where nothing is under way, and what is owed between them.
 use Rattle.std.specs.Prelude.{◌≡◌, ℕ, ◌+◌, ◌≤◌, ◌++◌, List, [], ◌∷◌, Bool, true, false, count_by, if◌then◌else◌}
-use Rattle.sc_base.specs.Among.{Each}
+use Rattle.sc_base.specs.Definitions.{Each}
 use Rattle.sc_actor.specs.declared.rows.Event.{Event}
 use Rattle.sc_actor.specs.declared.rows.Event.TheVariants.{Deliver, Tick, Go, Told, Crash, Drop, Again}
 use Rattle.sc_actor.specs.declared.rows.Row.{Row}
 use Rattle.sc_actor.specs.declared.schedules.Line.{Line}
 use Rattle.sc_actor.specs.declared.schedules.Line.TheVariants.{Go as GoLine, Deliver as DeliverLine, Drop as DropLine, Again as AgainLine, Tick as TickLine, Crash as CrashLine, Told as ToldLine, Settle, Free, Storm}
-use Rattle.sc_actor.specs.Mail.{is_delivery}
-use Rattle.sc_actor.specs.System.{System}
-use Rattle.sc_actor.specs.Walk.{IsLawful, is_quiet}
+use Rattle.sc_actor.specs.Definitions.{is_delivery, System, IsLawful, is_quiet}
 use Rattle.sc_orderly_law.specs.Orderly.{IsCalmRow, is_told, deliveries}
 
 -- What lines said since the last line of deliveries: nothing, that actors go, or an order.

@@ -2,11 +2,10 @@
 use Rattle.std.proofs.Common.{◌≡◌, ◌≢◌, ℕ, eqb, List, [], ◌∷◌, ◌++◌, Option, Some, None, inl, inr, refl, sym, ◌∙◌, ap, subst}
 use Rattle.std.proofs.lemmas.Bool.{cases_Bool, cond-true, cond-false, eqb-true, eqb-false, ne_eqb}
 use Rattle.sc_paxos_words.specs.declared.flights.Flight.{Flight}
-use Rattle.sc_base.specs.Among.{Each}
-use Rattle.sc_paxos_words.specs.Leaders.{flight_at, without_flight}
-use Rattle.sc_paxos_words.specs.Votes.{with_voters}
-use Rattle.sc_paxos_words.proofs.ListLemmas.{Each-append}
-use Rattle.sc_paxos.specs.OneEach.{IsOneEach}
+use Rattle.sc_base.specs.Definitions.{Each}
+use Rattle.sc_paxos_words.specs.Definitions.{flight_at, without_flight, with_voters}
+use Rattle.sc_paxos_words.proofs.Lemmas.{Each-append}
+use Rattle.sc_paxos.specs.Definitions.{IsOneEach}
 use Rattle.sc_paxos.proofs.Places.{changed}
 
 abbrev Other : {V : Type 0} → ℕ → Flight V → Type 0

@@ -5,9 +5,9 @@ use Rattle.std.proofs.lemmas.Bool.{cond-true, cond-false, lt-ltb, le-ltb, ltb-tr
 use Rattle.std.proofs.lemmas.List.{set_at, take_at, drop_at, get_or_at, append-nil, length-append}
 use Rattle.std.proofs.lemmas.List.Sums.{length-filter}
 use Rattle.sc_paxos_words.specs.declared.reports.Report.{Report}
-use Rattle.sc_base.specs.Among.{Each}
-use Rattle.sc_paxos_words.proofs.ListLemmas.{Each-weaker, Each-passes}
-use Rattle.sc_paxos_words.specs.Acceptors.{IsBySlot, with_report}
+use Rattle.sc_base.specs.Definitions.{Each}
+use Rattle.sc_paxos_words.proofs.Lemmas.{Each-weaker, Each-passes}
+use Rattle.sc_paxos_words.specs.Definitions.{IsBySlot, with_report}
 
 abbrev low_of : {V : Type 0} → ℕ → List (Report V) → List (Report V)
 low_of slot xs = filter (λ r. ltb r.slot slot) xs

@@ -1,2 +1,3 @@
 pub mod OneEach
 pub mod Roomy
+pub mod Definitions

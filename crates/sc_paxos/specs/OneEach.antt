@@ -1,7 +1,7 @@
 -- What a leader has in flight.
 use Rattle.std.specs.Prelude.{◌≢◌, List, [], ◌∷◌}
 use Rattle.sc_paxos_words.specs.declared.flights.Flight.{Flight}
-use Rattle.sc_base.specs.Among.{Each}
+use Rattle.sc_base.specs.Definitions.{Each}
 
 -- at most one flight a slot
 abbrev pub IsOneEach : {V : Type 0} → List (Flight V) → Type 0

@@ -4,9 +4,8 @@ use Rattle.std.specs.Prelude.{slice_get}
 use Rattle.std.specs.List.{flat_map}
 use Rattle.std.proofs.lemmas.Bool.{cases_Bool, eqb-true, eq-eqb, or_cases, or_left, or_right, cond-true, cond-false, cond_both}
 use Rattle.std.proofs.lemmas.List.Sums.{sum_by-cons}
-use Rattle.sc_base.specs.Roster.{is_member}
-use Rattle.sc_base.specs.Majority.{IsMajority}
-use Rattle.sc_base.specs.Among.{Among}
+use Rattle.sc_base.specs.Definitions.{is_member, IsMajority, Among}
+use Rattle.sc_base.proofs.Lemmas.{at_most_one}
 
 -- what stands in the first of two lists stands in both joined
 pub Among-left : {X : Type 0} (x : X) (xs ys : List X) → Among x xs → Among x (xs ++ ys)
@@ -54,9 +53,6 @@ pub among-member : (nodes : List ℕ) (node : ℕ) → Among node nodes → is_m
 among-member [] node a = absurd a
 among-member (n ∷ ns) node (inl e) = or_left (eqb n node) (is_member ns node) (eq-eqb n node e)
 among-member (n ∷ ns) node (inr a) = or_right (eqb n node) (is_member ns node) (among-member ns node a)
-
-at_most_one : (b : Bool) → cond b 1 0 ≤ 1
-at_most_one b = cond_both b 1 0 (λ n. n ≤ 1) (λ e. omega arith) (λ e. omega arith)
 
 both_at : (p q : ℕ → Bool) (x : ℕ) (xs : List ℕ) → (p x ≡ true) ⊎ (p x ≡ false) → (q x ≡ true) ⊎ (q x ≡ false)
     → length (x ∷ xs) < count_by p (x ∷ xs) + count_by q (x ∷ xs)

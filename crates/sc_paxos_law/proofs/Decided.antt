@@ -2,24 +2,17 @@
 use Rattle.std.proofs.Common.{◌≡◌, ℕ, ◌+◌, ◌*◌, ◌<◌, ◌≤◌, ◌&&◌, zero, suc, true, eqb, List, [], ◌∷◌, ◌++◌, length, take, count_by, Option, Some, None, inl, inr, refl, sym, ◌∙◌, ap, subst, arith}
 use Rattle.std.proofs.lemmas.Bool.{cases_Bool, eqb-true, eq-eqb, ltb-true, lt-ltb, cond-true, cond-false, cond_both, and_parts, and_from, cases_lt}
 use Rattle.std.proofs.lemmas.List.{length_push, take_all}
-use Rattle.sc_base.specs.Among.{Among, Each}
+use Rattle.sc_base.specs.Definitions.{Among, Each, is_member, IsMajority, is_majority, same_ballot}
 use Rattle.sc_base.specs.declared.names.Ballot.{Ballot}
-use Rattle.sc_base.specs.Roster.{is_member}
-use Rattle.sc_base.specs.Majority.{IsMajority, is_majority}
 use Rattle.std.specs.Option.{option_map}
-use Rattle.sc_paxos_words.specs.Ballots.{below, IsAtLeast}
-use Rattle.sc_base.specs.Same.{same_ballot}
+use Rattle.sc_paxos_words.specs.Definitions.{below, IsAtLeast}
 use Rattle.sc_paxos_words.specs.declared.reports.Report.{Report}
-use Rattle.sc_paxos_words.proofs.BallotLemmas.{at_least_itself, at_least_trans, at_least_from_below}
-use Rattle.sc_paxos_words.proofs.ListLemmas.{Each-among, Each-weaker}
-use Rattle.sc_paxos_law.specs.Steps.{Step, Prepared, Promised, Offered, Accepted, Cut}
-use Rattle.sc_paxos_law.specs.Chosen.{Rule, needed, members_of, IsChosen, IsChosenAfter, IsLog}
-use Rattle.sc_paxos_law.specs.Lawful.{IsLawfulHistory}
-use Rattle.sc_paxos_law.specs.Decided.{voters_of, lesser_of, found_in, chosen_at, top_slot, with_next_entries, log_of}
+use Rattle.sc_paxos_words.proofs.Lemmas.{at_least_itself, at_least_trans, at_least_from_below, Each-among, Each-weaker}
+use Rattle.sc_paxos_law.specs.Definitions.{Step, Prepared, Promised, Offered, Accepted, Cut, Rule, needed, members_of, IsChosen, IsChosenAfter, IsLog, IsLawfulHistory, voters_of, lesser_of, found_in, chosen_at, top_slot, with_next_entries, log_of}
 use Rattle.sc_paxos_law.proofs.Among.{shared_member, member-among, among-member, count_by-le}
 use Rattle.sc_paxos_law.proofs.History.{was_offered, one_offer}
 use Rattle.sc_paxos_law.proofs.Law.{earlier, agree_members, logs_agree, element, chosen_by, later_log, longer_log}
-use Rattle.sc_base.proofs.NameLemmas.{ballot_is, ballot_itself}
+use Rattle.sc_base.proofs.Lemmas.{ballot_is, ballot_itself}
 
 -- ---- voters
 

@@ -1,11 +1,8 @@
 -- A lawful history with a lost message and an election, so that the law is not about nothing.
 use Rattle.std.proofs.Common.{ℕ, List, [], ◌∷◌, inl, inr, refl, ap, arith, lit<, lit≤}
 use Rattle.sc_paxos_words.specs.declared.reports.Report.{Report}
-use Rattle.sc_base.specs.Among.{Among}
-use Rattle.sc_paxos_law.specs.Steps.{Step, Prepared, Promised, Offered, Accepted}
-use Rattle.sc_paxos_law.specs.Chosen.{IsLog}
-use Rattle.sc_paxos_law.specs.Lawful.{CountedPromise, MayOffer, IsLawfulHistory}
-use Rattle.sc_paxos_law.specs.Example.{three, first, second, example_steps}
+use Rattle.sc_base.specs.Definitions.{Among}
+use Rattle.sc_paxos_law.specs.Definitions.{Step, Prepared, Promised, Offered, Accepted, IsLog, CountedPromise, MayOffer, IsLawfulHistory, three, first, second, example_steps}
 
 nothing_yet : (h : List (Step ℕ)) → IsLog three h []
 nothing_yet h k v e = cc

@@ -3,16 +3,11 @@ use Rattle.std.proofs.Common.{◌≡◌, ◌≢◌, ℕ, ◌<◌, ◌≤◌, tru
 use Rattle.std.proofs.lemmas.Bool.{cases_order, eqb-true, eq-eqb, cond-true, cond_both, lt-ltb, le-leb}
 use Rattle.sc_base.specs.declared.names.Ballot.{Ballot}
 use Rattle.sc_paxos_words.specs.declared.reports.Report.{Report}
-use Rattle.sc_base.specs.Among.{Among}
-use Rattle.sc_paxos_words.specs.Ballots.{below, IsAtLeast}
-use Rattle.sc_paxos_words.specs.Acceptors.{AcceptorState, with_report, may_promise, may_accept, after_promise, after_accept, after_cut}
-use Rattle.sc_paxos_words.proofs.BallotLemmas.{at_least_trans, at_least_itself, at_least_from_below, at_least_below, not_both}
-use Rattle.sc_paxos_words.proofs.ListLemmas.{Among-filter, from_filter}
-use Rattle.sc_paxos_law.specs.Steps.{Step, Prepared, Promised, Offered, Accepted, Cut, state_of}
-use Rattle.sc_paxos_law.specs.Chosen.{Rule}
-use Rattle.sc_paxos_law.specs.Lawful.{IsLawfulStep, IsLawfulHistory}
+use Rattle.sc_base.specs.Definitions.{Among}
+use Rattle.sc_paxos_words.specs.Definitions.{below, IsAtLeast, AcceptorState, with_report, may_promise, may_accept, after_promise, after_accept, after_cut}
+use Rattle.sc_paxos_words.proofs.Lemmas.{at_least_trans, at_least_itself, at_least_from_below, at_least_below, not_both, Among-filter, from_filter, may_is}
+use Rattle.sc_paxos_law.specs.Definitions.{Step, Prepared, Promised, Offered, Accepted, Cut, state_of, Rule, IsLawfulStep, IsLawfulHistory}
 use Rattle.sc_paxos_law.proofs.Among.{Among-left, Among-right, Among-either}
-use Rattle.sc_paxos_words.proofs.AcceptorLemmas.{may_is}
 
 abbrev pub promise_of : {V : Type 0} → Ballot → ℕ → List (Step V) → Ballot
 promise_of first node h = (state_of first node h).promised

@@ -4,17 +4,12 @@ use Rattle.std.specs.List.{flat_map, slice_get}
 use Rattle.std.proofs.lemmas.Bool.{cases_lt}
 use Rattle.std.proofs.lemmas.Option.{slice_get_cases, slice_get_within}
 use Rattle.std.proofs.lemmas.List.{take_more, take-take, take-append-le, take_all}
-use Rattle.sc_base.specs.Among.{Among, Each}
-use Rattle.sc_base.specs.Majority.{IsMajority}
+use Rattle.sc_base.specs.Definitions.{Among, Each, IsMajority}
 use Rattle.sc_base.specs.declared.names.Ballot.{Ballot}
 use Rattle.sc_paxos_words.specs.declared.reports.Report.{Report}
-use Rattle.sc_paxos_words.specs.Ballots.{below, IsAtLeast}
-use Rattle.sc_paxos_words.proofs.BallotLemmas.{below_parts, at_least_trans, at_least_from_below, cases_below, same_from_at_least, not_both}
-use Rattle.sc_paxos_words.proofs.ListLemmas.{Each-among, Each-weaker}
-use Rattle.sc_paxos_words.proofs.ChoiceLemmas.{choice_among, choice_best}
-use Rattle.sc_paxos_law.specs.Steps.{Step, Offered, Accepted}
-use Rattle.sc_paxos_law.specs.Chosen.{Rule, needed, members_of, IsChosen, IsChosenAfter, IsLog}
-use Rattle.sc_paxos_law.specs.Lawful.{CountedPromise, IsElected, IsLawfulStep, IsLawfulHistory}
+use Rattle.sc_paxos_words.specs.Definitions.{below, IsAtLeast}
+use Rattle.sc_paxos_words.proofs.Lemmas.{below_parts, at_least_trans, at_least_from_below, cases_below, same_from_at_least, not_both, Each-among, Each-weaker, choice_among, choice_best}
+use Rattle.sc_paxos_law.specs.Definitions.{Step, Offered, Accepted, Rule, needed, members_of, IsChosen, IsChosenAfter, IsLog, CountedPromise, IsElected, IsLawfulStep, IsLawfulHistory}
 use Rattle.sc_paxos_law.proofs.Among.{Among-flat_map, from_flat_map, from_map, shared_member, get_pushed}
 use Rattle.sc_paxos_law.proofs.History.{first_is_least, was_offered, one_offer, reported, report_accepted}
 

@@ -4,15 +4,11 @@ use Rattle.std.specs.List.{flat_map}
 use Rattle.std.specs.Option.{option_map}
 use Rattle.std.proofs.lemmas.Bool.{ltb-true, cond-true, cond_both}
 use Rattle.std.proofs.lemmas.List.Sums.{sum_by-cons}
-use Rattle.sc_base.specs.Roster.{is_member}
-use Rattle.sc_base.specs.Majority.{IsMajority, is_majority}
+use Rattle.sc_base.specs.Definitions.{is_member, IsMajority, is_majority, Among, Each}
 use Rattle.sc_paxos_words.specs.declared.reports.Report.{Report}
-use Rattle.sc_base.specs.Among.{Among, Each}
-use Rattle.sc_paxos_words.specs.Choice.{choice, names_above}
-use Rattle.sc_paxos_words.specs.Leaders.{LeaderState, Obeys, must, must_without}
-use Rattle.sc_paxos_words.proofs.ListLemmas.{Among-filter}
-use Rattle.sc_paxos_law.specs.Steps.{Step, Promised}
-use Rattle.sc_paxos_law.specs.Lawful.{CountedPromise, IsElected}
+use Rattle.sc_paxos_words.specs.Definitions.{choice, names_above, LeaderState, Obeys, must, must_without}
+use Rattle.sc_paxos_words.proofs.Lemmas.{Among-filter}
+use Rattle.sc_paxos_law.specs.Definitions.{Step, Promised, CountedPromise, IsElected}
 use Rattle.sc_paxos_law.proofs.Among.{member-among, among-member}
 
 obeys : {V : Type 0} (above : Bool) (o : Option (Report V)) (value : V) → Obeys (must_without above (option_map (λ (r : Report V). r.value) o)) value → IfSome o (λ (best : Report V). best.value ≡ value)

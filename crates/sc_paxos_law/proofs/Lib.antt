@@ -4,3 +4,4 @@ pub mod Example
 pub mod History
 pub mod Law
 pub mod Leading
+pub mod Lemmas

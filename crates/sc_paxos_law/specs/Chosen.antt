@@ -1,8 +1,7 @@
 -- Chosen values and logs (Paxos Made Simple, sections 2.2 and 3).
 use Rattle.std.specs.Prelude.{◌≡◌, ℕ, ◌+◌, ◌-◌, ◌≤◌, List, length, take, slice_get, Some}
 use Rattle.sc_base.specs.declared.names.Ballot.{Ballot}
-use Rattle.sc_base.specs.Majority.{IsMajority}
-use Rattle.sc_base.specs.Among.{Among, Each}
+use Rattle.sc_base.specs.Definitions.{IsMajority, Among, Each}
 use Rattle.sc_paxos_law.specs.Steps.{Step, Accepted}
 
 -- who decides: the members in the state after some entries, and how many slots ahead of the entries they decide

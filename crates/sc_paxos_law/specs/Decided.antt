@@ -1,10 +1,9 @@
 -- The decided log of a history, computed.
 use Rattle.std.specs.Prelude.{ℕ, zero, suc, ◌+◌, ◌==◌, ◌&&◌, max, List, [], ◌∷◌, ◌++◌, length, if◌then◌else◌, Option, Some, None}
 use Rattle.sc_base.specs.declared.names.Ballot.{Ballot}
-use Rattle.sc_base.specs.Majority.{is_majority}
+use Rattle.sc_base.specs.Definitions.{is_majority, same_ballot}
 use Rattle.std.specs.Option.{option_map}
-use Rattle.sc_paxos_words.specs.Ballots.{below}
-use Rattle.sc_base.specs.Same.{same_ballot}
+use Rattle.sc_paxos_words.specs.Definitions.{below}
 use Rattle.sc_paxos_words.specs.declared.reports.Report.{Report}
 use Rattle.sc_paxos_law.specs.Steps.{Step, Prepared, Promised, Offered, Accepted, Cut}
 use Rattle.sc_paxos_law.specs.Chosen.{Rule, members_of}

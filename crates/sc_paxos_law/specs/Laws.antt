@@ -1,18 +1,12 @@
 -- What holds of every lawful history.
 use Rattle.std.specs.Prelude.{◌≡◌, ℕ, ◌+◌, ◌<◌, ◌≤◌, true, List, ◌∷◌, ◌++◌, length, take, map, filter, Some}
 use Rattle.std.specs.List.{flat_map}
-use Rattle.sc_base.specs.Roster.{is_member}
-use Rattle.sc_base.specs.Majority.{IsMajority, is_majority}
+use Rattle.sc_base.specs.Definitions.{is_member, IsMajority, is_majority, Among, Each}
 use Rattle.sc_base.specs.declared.names.Ballot.{Ballot}
 use Rattle.sc_paxos_words.specs.declared.reports.Report.{Report}
 use Rattle.sc_paxos_words.specs.declared.answers.PrepareAnswer.TheVariants.{Promise}
 use Rattle.sc_paxos_words.specs.declared.answers.AcceptAnswer.TheVariants.{Accepted as Yes}
-use Rattle.sc_paxos_words.specs.Ballots.{IsAtLeast}
-use Rattle.sc_base.specs.Among.{Among, Each}
-use Rattle.sc_paxos_words.specs.Acceptors.{AcceptorState, after_cut}
-use Rattle.sc_paxos_words.specs.Preparing.{prepared}
-use Rattle.sc_paxos_words.specs.Accepting.{accepted}
-use Rattle.sc_paxos_words.specs.Leaders.{LeaderState, Obeys, must}
+use Rattle.sc_paxos_words.specs.Definitions.{IsAtLeast, AcceptorState, after_cut, prepared, accepted, LeaderState, Obeys, must}
 use Rattle.sc_paxos_law.specs.Steps.{Step, Promised, Offered, Accepted, Cut, state_of}
 use Rattle.sc_paxos_law.specs.Chosen.{Rule, IsChosen, IsChosenAfter, IsLog}
 use Rattle.sc_paxos_law.specs.Lawful.{CountedPromise, IsElected, IsLawfulStep, IsLawfulHistory}

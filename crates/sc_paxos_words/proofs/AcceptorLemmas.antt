@@ -4,9 +4,8 @@ use Rattle.std.specs.List.{find}
 use Rattle.std.proofs.lemmas.Bool.{cases_Bool, cond-true, cond-false, ltb-true, lt-ltb, eqb-true, eq-eqb, ne_eqb, cases_order, not-true}
 use Rattle.sc_base.specs.declared.names.Ballot.{Ballot}
 use Rattle.sc_paxos_words.specs.declared.reports.Report.{Report}
-use Rattle.sc_base.specs.Among.{Each}
-use Rattle.sc_paxos_words.specs.Ballots.{below, IsAtLeast}
-use Rattle.sc_paxos_words.specs.Acceptors.{AcceptorState, IsBySlot, IsWholeAcceptor, born_acceptor, last_at, with_report, may_promise, may_accept, after_promise, after_accept, after_cut}
+use Rattle.sc_base.specs.Definitions.{Each}
+use Rattle.sc_paxos_words.specs.Definitions.{below, IsAtLeast, AcceptorState, IsBySlot, IsWholeAcceptor, born_acceptor, last_at, with_report, may_promise, may_accept, after_promise, after_accept, after_cut}
 use Rattle.sc_paxos_words.proofs.BallotLemmas.{at_least_trans, at_least_itself, at_least_from_below}
 use Rattle.sc_paxos_words.proofs.ListLemmas.{Each-among, Each-weaker, Each-append, Each-filter, Each-passes, find_found, find_nothing, find_past, find_within, find_filter}
 

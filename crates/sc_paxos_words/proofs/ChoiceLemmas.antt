@@ -3,10 +3,8 @@ use Rattle.std.proofs.Common.{◌≡◌, ℕ, true, false, eqb, List, [], ◌∷
 use Rattle.std.specs.List.{fold}
 use Rattle.std.proofs.lemmas.Bool.{cases_Bool, cond-true, cond-false, and_parts, and_cases, eqb-true, eqb-false}
 use Rattle.sc_paxos_words.specs.declared.reports.Report.{Report}
-use Rattle.sc_base.specs.Among.{Among, Each}
-use Rattle.sc_paxos_words.specs.Ballots.{below, IsAtLeast}
-use Rattle.sc_paxos_words.specs.Choice.{beats, is_better, better_of, choice}
-use Rattle.sc_paxos_words.specs.Laws.{IsFirstHighest}
+use Rattle.sc_base.specs.Definitions.{Among, Each}
+use Rattle.sc_paxos_words.specs.Definitions.{below, IsAtLeast, beats, is_better, better_of, choice, IsFirstHighest}
 use Rattle.sc_paxos_words.proofs.BallotLemmas.{below_trans, at_least_below, at_least_from_below, at_least_itself}
 use Rattle.sc_paxos_words.proofs.ListLemmas.{Each-among}
 

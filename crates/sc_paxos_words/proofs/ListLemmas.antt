@@ -3,8 +3,8 @@ use Rattle.std.proofs.Common.{◌≡◌, ◌≢◌, Bool, true, false, cond, Lis
 use Rattle.std.specs.List.{All, AllPairs, find}
 use Rattle.std.proofs.lemmas.List.Elements.{All-tail}
 use Rattle.std.proofs.lemmas.Bool.{cases_Bool, cond-true, cond-false}
-use Rattle.sc_base.specs.Among.{Among, Each}
-use Rattle.sc_base.proofs.Pairs.{AllPairs-head, AllPairs-tail}
+use Rattle.sc_base.specs.Definitions.{Among, Each}
+use Rattle.sc_base.proofs.Lemmas.{AllPairs-head, AllPairs-tail}
 
 -- what holds of each holds of one among them
 pub Each-among : {X : Type 0} (P : X → Type 0) (xs : List X) (x : X) → Each P xs → Among x xs → P x

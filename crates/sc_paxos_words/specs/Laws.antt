@@ -2,7 +2,7 @@
 use Rattle.std.specs.Prelude.{◌≡◌, ◌≢◌, ℕ, ◌<◌, true, false, List, ◌∷◌, ◌++◌, Some, None}
 use Rattle.sc_base.specs.declared.names.Ballot.{Ballot}
 use Rattle.sc_paxos_words.specs.declared.reports.Report.{Report}
-use Rattle.sc_base.specs.Among.{Each}
+use Rattle.sc_base.specs.Definitions.{Each}
 use Rattle.sc_paxos_words.specs.Ballots.{below, IsAtLeast}
 use Rattle.sc_paxos_words.specs.Choice.{choice}
 use Rattle.sc_paxos_words.specs.Acceptors.{AcceptorState, IsWholeAcceptor, born_acceptor, last_at, may_promise, may_accept, after_promise, after_accept, after_cut}

@@ -1,14 +1,12 @@
 -- What a leader holds, when it may propose, and what (Paxos Made Simple, sections 2.2 and 3).
 use Rattle.std.specs.Prelude.{◌≡◌, ℕ, Bool, true, false, ◌==◌, ◌&&◌, ◌||◌, not, List, [], ◌∷◌, ◌++◌, Option, Some, None, find, if◌then◌else◌}
 use Rattle.sc_base.specs.declared.names.Ballot.{Ballot}
-use Rattle.sc_base.specs.Roster.{is_member}
-use Rattle.sc_base.specs.Majority.{is_majority}
+use Rattle.sc_base.specs.Definitions.{is_member, is_majority, same_ballot}
 use Rattle.sc_paxos_words.specs.declared.reports.Report.{Report}
 use Rattle.sc_paxos_words.specs.declared.flights.Flight.{Flight}
 use Rattle.sc_paxos_words.specs.declared.answers.Must.{Must}
 use Rattle.sc_paxos_words.specs.declared.answers.Must.TheVariants.{Value, Gap, Free}
 use Rattle.sc_paxos_words.specs.Ballots.{below}
-use Rattle.sc_base.specs.Same.{same_ballot}
 use Rattle.sc_paxos_words.specs.Choice.{chosen_value, names_above}
 
 -- its ballot, whether that is the group's first, the next slot when it was elected, who promised it, their reports in the order in which they were counted, and what is in flight

@@ -7,3 +7,4 @@ pub mod Leaders
 pub mod Logs
 pub mod Preparing
 pub mod Votes
+pub mod Definitions

@@ -1,12 +1,10 @@
 -- How a leader counts votes (Paxos Made Simple, section 2.2).
 use Rattle.std.specs.Prelude.{ℕ, Bool, ◌==◌, ◌||◌, List, [], ◌∷◌, length, Option, Some, None, if◌then◌else◌}
 use Rattle.sc_base.specs.declared.names.Ballot.{Ballot}
-use Rattle.sc_base.specs.Roster.{is_member, with_member}
-use Rattle.sc_base.specs.Majority.{is_majority}
+use Rattle.sc_base.specs.Definitions.{is_member, with_member, is_majority, same_ballot}
 use Rattle.sc_paxos_words.specs.declared.flights.Flight.{Flight}
 use Rattle.sc_paxos_words.specs.declared.answers.Counted.{Counted}
 use Rattle.sc_paxos_words.specs.declared.answers.Counted.TheVariants.{Chosen, NotYet}
-use Rattle.sc_base.specs.Same.{same_ballot}
 use Rattle.sc_paxos_words.specs.Leaders.{LeaderState, flight_at, without_flight_at}
 
 -- the nodes whose votes are kept

@@ -7,7 +7,7 @@ use Rattle.std.specs.Ordering.{nat_cmp, ordering_then}
 use Rattle.std.specs.Cmp.Lexicographic.{slice_cmp}
 use Rattle.std.proofs.lemmas.Bool.{and_parts, ltb-true, eqb-true, leb-true}
 use Rattle.std.proofs.Math.Nat.{mul-le-mul_right, suc-mul}
-use Rattle.sc_base.specs.Text.{is_visible, pos_of}
+use Rattle.sc_base.specs.Definitions.{is_visible, pos_of}
 
 -- the weight of a digit before n others
 abbrev weight : ℕ → ℕ

@@ -10,14 +10,10 @@ use Rattle.std.proofs.lemmas.Bool.Decides.{nat_tests}
 use Rattle.std.proofs.lemmas.List.Kept.{AllPairs-cons, AllPairs-filter}
 use Rattle.std.proofs.lemmas.List.Elements.{All-nil, All-cons, All-tail, All-head, All-append, All-weaker, All-filter, filter_passes}
 use Rattle.std.proofs.Math.Nat.{add-mod_left, mod-eq_of_lt}
-use Rattle.sc_base.specs.Ascending.{IsAscending}
-use Rattle.sc_base.specs.Limits.{longest_key}
-use Rattle.sc_base.specs.Text.{IsText, pos_of}
-use Rattle.sc_base.proofs.AscendingLemmas.{is_less}
-use Rattle.sc_policy.specs.Wishes.{positions}
-use Rattle.sc_policy.specs.Laws.{far_from, KeysRiseFromTheStart}
+use Rattle.sc_base.specs.Definitions.{IsAscending, longest_key, IsText, pos_of}
+use Rattle.sc_base.proofs.Lemmas.{is_less, AllPairs-head, AllPairs-tail}
+use Rattle.sc_policy.specs.Definitions.{positions, far_from, KeysRiseFromTheStart}
 use Rattle.sc_policy.proofs.Fronts.{are_bytes, pos_le, pos_small}
-use Rattle.sc_base.proofs.Pairs.{AllPairs-head, AllPairs-tail}
 
 abbrev HasKey : List ℕ × List ℕ → Type 0
 HasKey pair = IsText longest_key pair.0

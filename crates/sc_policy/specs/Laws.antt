@@ -3,9 +3,7 @@ use Rattle.std.specs.Prelude.{◌≡◌, ℕ, ◌+◌, ◌-◌, ◌%◌, ◌^◌
 use Rattle.std.specs.List.{AllPairs}
 use Rattle.std.specs.Ordering.{nat_cmp}
 use Rattle.std.specs.Cmp.Lexicographic.{slice_cmp}
-use Rattle.sc_base.specs.Ascending.{IsAscending}
-use Rattle.sc_base.specs.Limits.{longest_key}
-use Rattle.sc_base.specs.Text.{IsText}
+use Rattle.sc_base.specs.Definitions.{IsAscending, longest_key, IsText}
 use Rattle.sc_policy.specs.Wishes.{positions_from}
 
 -- how far a position lies after another, round the ring

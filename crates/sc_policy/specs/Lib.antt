@@ -1,2 +1,3 @@
 pub mod Wishes
 pub mod Laws
+pub mod Definitions

@@ -1,10 +1,8 @@
 -- What a policy wishes of a group, by its members and its pairs. Whether the order is accepted is not looked at here.
 use Rattle.std.specs.Prelude.{ℕ, ◌+◌, ◌/◌, ◌%◌, ◌^◌, ◌==◌, Bool, ◌&&◌, not, nat_lt, nat_le, List, ◌++◌, length, map, filter, slice_index, if◌then◌else◌, Option, Some, None}
 use Rattle.std.specs.Option.{option_map}
-use Rattle.sc_base.specs.Arc.{Arc}
+use Rattle.sc_base.specs.Definitions.{Arc, same_draw, pos_of}
 use Rattle.sc_base.specs.declared.names.Draw.{Draw}
-use Rattle.sc_base.specs.Same.{same_draw}
-use Rattle.sc_base.specs.Text.{pos_of}
 use Rattle.sc_cmd.specs.declared.cores.Core.{Core}
 use Rattle.sc_cmd.specs.declared.orders.Order.{Order}
 use Rattle.sc_cmd.specs.declared.orders.Order.TheVariants as An

@@ -1,19 +1,14 @@
 -- The pump leaves no act waiting where nothing is in flight.
-use Rattle.std.proofs.Common.{◌≡◌, ◌⊎◌, inl, inr, ℕ, ◌+◌, ◌≤◌, ◌&&◌, nat_le, Bool, true, false, true≢false, cond, List, [], ◌∷◌, ◌++◌, length, Option, Some, None, refl, sym, ◌∙◌, ap, subst, arith}
+use Rattle.std.proofs.Common.{◌≡◌, ◌⊎◌, inl, inr, ℕ, ◌+◌, ◌≤◌, ◌&&◌, nat_le, Bool, true, false, true≢false, cond, List, [], ◌∷◌, ◌++◌, length, Some, None, refl, sym, ◌∙◌, ap, arith}
 use Rattle.std.specs.Prelude.{is_some, ◌==◌}
 use Rattle.std.specs.Option.{option_map}
 use Rattle.std.specs.List.{list_any}
-use Rattle.std.proofs.lemmas.Bool.{cases_Bool, cond-true, cond-false, and_parts}
-use Rattle.sc_cmd.specs.declared.commands.Command.{Command}
-use Rattle.sc_mail.specs.declared.bodies.Mail.{Mail}
-use Rattle.sc_paxos_words.specs.declared.answers.Must.{Must}
-use Rattle.sc_paxos_words.specs.declared.answers.Must.TheVariants.{Value, Gap, Free as Open}
-use Rattle.sc_paxos_words.specs.declared.flights.Flight.{Flight}
-use Rattle.sc_paxos_words.specs.Leaders.{LeaderState, flight_at, must}
-use Rattle.sc_node_table.specs.Pump.{Found, is_act, from_calls, from_acts, from_queues, found_by, found_for, offered, pumped_from, pumped}
-use Rattle.sc_node_table.specs.Replica.{ReplicaState, Place, either, flying, listed, next, settled, may_offer, first_set, taken_at, taken_from, open_slots, under_way, is_idle, last_slot}
-use Rattle.sc_node_table.specs.Slots.{at_slot}
-use Rattle.sc_law_lemmas.proofs.Ways.{either_way}
+use Rattle.std.proofs.lemmas.Bool.{and_parts}
+use Rattle.sc_node_table.specs.Values.{Command, Mail, Must, Gap, Flight}
+use Rattle.sc_paxos_words.specs.declared.answers.Must.TheVariants.{Value, Free as Open}
+use Rattle.sc_paxos_words.specs.Definitions.{LeaderState, flight_at, must}
+use Rattle.sc_node_table.specs.Definitions.{Found, is_act, from_calls, from_acts, from_queues, found_by, found_for, offered, pumped_from, pumped, ReplicaState, Place, either, flying, listed, next, settled, may_offer, first_set, taken_at, taken_from, open_slots, under_way, is_idle, last_slot, at_slot}
+use Rattle.sc_law_lemmas.proofs.Lemmas.{either_way}
 use Rattle.sc_pump_law.specs.Waiting.{HasNoneWaiting, PumpsLeaveNone}
 
 -- something is in flight or ready
@@ -34,12 +29,12 @@ snoc_none : {X : Type 0} (xs : List X) (x : X) → xs ++ x ∷ [] ≡ [] → ⊥
 snoc_none [] x e = cc
 snoc_none (y ∷ xs) x e = cc
 
-none_at : (r : ReplicaState) (slot : ℕ) → r.leader.flights ≡ [] → r.ready ≡ [] → taken_at r slot ≡ None
+pub none_at : (r : ReplicaState) (slot : ℕ) → r.leader.flights ≡ [] → r.ready ≡ [] → taken_at r slot ≡ None
 none_at r slot f e =
     let free : flying r slot ≡ None = ap (λ fs. option_map (λ (flight : Flight Command). flight.value) (flight_at slot fs)) f in
     ap (λ o. either o (at_slot r.ready slot)) free ∙ ap (λ l. at_slot l slot) e
 
-none_from : (r : ReplicaState) (slots : List ℕ) → r.leader.flights ≡ [] → r.ready ≡ [] → taken_from r slots ≡ []
+pub none_from : (r : ReplicaState) (slots : List ℕ) → r.leader.flights ≡ [] → r.ready ≡ [] → taken_from r slots ≡ []
 none_from r [] f e = refl
 none_from r (slot ∷ slots) f e = ap (λ o. listed o ++ taken_from r slots) (none_at r slot f e) ∙ none_from r slots f e
 
@@ -151,6 +146,7 @@ sets_done : (r : ReplicaState) (mails : List Mail) (sets : List (List ℕ)) → 
 sets_done r mails [] some may = absurd (omega (arith, some))
 sets_done r mails (set ∷ sets) some may = first_done (next r) set sets r mails may
 
+-- After the pump a replica that may offer has an act waiting only while something is in flight or ready.
 pub pumps_leave : PumpsLeaveNone
 unfolding pumped
 pumps_leave (r, mails) some = by (settled r && nat_le (next r) last_slot) refl

@@ -1,7 +1,6 @@
 -- That no act waits behind the pump where nothing is in flight.
-use Rattle.std.specs.Prelude.{◌≡◌, ℕ, ◌≤◌, nat_le, true, [], length}
-use Rattle.sc_node_table.specs.Pump.{pumped}
-use Rattle.sc_node_table.specs.Replica.{ReplicaState, Place, next, settled, last_slot}
+use Rattle.std.specs.Prelude.{◌≡◌, ◌≤◌, nat_le, true, [], length}
+use Rattle.sc_node_table.specs.Definitions.{pumped, ReplicaState, Place, next, settled, last_slot}
 
 -- one that may offer at its next slot, with nothing in flight or ready, has no act waiting
 abbrev pub HasNoneWaiting : ReplicaState → Type 0

@@ -11,8 +11,7 @@ use Rattle.crossbeam_queue.specs.Fifo.{Held}
 use Rattle.sc_queue.specs.declared.rule.Item.{Item}
 use Rattle.sc_queue.specs.declared.rule.Hand.{Hand}
 use Rattle.sc_queue.proofs.Keeps.{worked_append}
-use Rattle.sc_queue.specs.Hands.{all_parts, hand, with_all, weigh, numbered, AllPlaced, KnowsWhole, IsWorkedOff}
-use Rattle.sc_queue.specs.Working.{AllWorked, AllInside, AllGiven, IsRight, AllFree, Did, Gathers, filled}
+use Rattle.sc_queue.specs.Definitions.{all_parts, hand, with_all, weigh, numbered, AllPlaced, KnowsWhole, IsWorkedOff, AllWorked, AllInside, AllGiven, IsRight, AllFree, Did, Gathers, filled}
 
 -- 1 for an item with this place
 abbrev pub at_place : {X : Type 0} → ℕ → Item X → ℕ

@@ -1,22 +1,13 @@
 -- The queue of calls while entries are executed.
 use Rattle.std.proofs.Common.{ℕ, eqb, Bool, true, cond, List, Option, Some, None}
-use Rattle.sc_cmd.specs.declared.commands.Command.{Command}
-use Rattle.sc_cmd.specs.declared.commands.Command.TheVariants.{Call}
-use Rattle.sc_cmd.specs.declared.effects.Effect.{Effect}
-use Rattle.sc_cmd.specs.declared.links.Route.{Route}
-use Rattle.sc_cmd.specs.declared.orders.ToldResult.{ToldResult}
-use Rattle.sc_mail.specs.declared.bodies.AnswerBody.{AnswerBody}
+use Rattle.sc_node_table.specs.Values.{Command, Call, Effect, Route, ToldResult, AnswerBody}
 use Rattle.sc_mail.specs.declared.bodies.AnswerBody.TheVariants as Says
-use Rattle.sc_base.specs.Roster.{is_member, least_of}
-use Rattle.sc_machine_table.specs.Machine.{applied}
+use Rattle.sc_base.specs.Definitions.{is_member, least_of}
+use Rattle.sc_machine_table.specs.Definitions.{applied}
 use Rattle.sc_node_table.specs.declared.Before.{Before}
-use Rattle.sc_node_table.specs.Election.{elected, stopped}
-use Rattle.sc_node_table.specs.Execute.{entered, answer_of, told_call, order_result, told_effect, announced, learnt_to, welcomed, landed, left_gone, left, is_among, looked_for, looked, executed_one, executed}
-use Rattle.sc_node_table.specs.Replica.{ReplicaState, Place, next, members, forgotten}
-use Rattle.sc_node_table.specs.Spoken.{before_of, spoken}
+use Rattle.sc_node_table.specs.Definitions.{elected, stopped, entered, answer_of, told_call, order_result, told_effect, announced, learnt_to, welcomed, landed, left_gone, left, is_among, looked_for, looked, executed_one, executed, ReplicaState, Place, next, members, forgotten, before_of, spoken}
 use Rattle.sc_queue_law.specs.OneCall.{KeepsOneCall}
-use Rattle.sc_law_lemmas.proofs.Places.{welcomed_place, executed_place, landed_place}
-use Rattle.sc_law_lemmas.proofs.Ways.{either_way}
+use Rattle.sc_law_lemmas.proofs.Lemmas.{welcomed_place, executed_place, landed_place, either_way}
 use Rattle.sc_queue_law.proofs.Queueing.{Keeps, back_keeps, pumped_keeps, ended_keeps, elected_keeps, welcomed_keeps}
 
 entered_keeps : (command : Command) (r : ReplicaState) → KeepsOneCall r → KeepsOneCall (entered command r)

@@ -1,11 +1,9 @@
 -- How many calls of a client are in a list: what one command more, or one less, makes of it.
 use Rattle.std.proofs.Common.{◌≡◌, ℕ, ◌+◌, ◌≤◌, ◌++◌, refl, sym, ap, arith, eqb, Bool, true, false, cond, List, [], ◌∷◌, length, filter, Option, Some, None}
 use Rattle.std.proofs.lemmas.Bool.{cond_both, eqb-true}
-use Rattle.sc_base.specs.declared.ops.Op.{Op}
-use Rattle.sc_cmd.specs.declared.commands.Command.{Command}
-use Rattle.sc_cmd.specs.declared.commands.Command.TheVariants.{Call}
-use Rattle.sc_node_table.specs.Queues.{call_of, is_call_of, without_call}
-use Rattle.sc_law_lemmas.proofs.Ways.{either_way}
+use Rattle.sc_node_table.specs.Values.{Op, Command, Call}
+use Rattle.sc_node_table.specs.Definitions.{call_of, is_call_of, without_call}
+use Rattle.sc_law_lemmas.proofs.Lemmas.{either_way}
 use Rattle.sc_queue_law.specs.OneCall.{calls_of}
 
 -- at most one call of each client

@@ -1,31 +1,15 @@
 -- The queues of all replicas of a node, in each of its steps and after any rows.
 use Rattle.std.proofs.Common.{ℕ, ◌||◌, not, nat_lt, eqb, subst, Bool, cond, List, [], ◌∷◌, ◌++◌, length, map, Option, Some, None}
 use Rattle.std.specs.Prelude.{is_some}
-use Rattle.sc_base.specs.Among.{Each}
-use Rattle.sc_base.specs.Drawing.{Drawer}
-use Rattle.sc_base.specs.Same.{same_draw}
-use Rattle.sc_base.specs.declared.names.Draw.{Draw}
-use Rattle.sc_actor.specs.declared.rows.Input.{Input}
-use Rattle.sc_actor.specs.declared.rows.Input.TheVariants.{Got, Tick, Go, Told}
-use Rattle.sc_actor.specs.declared.rows.Row.{Row}
-use Rattle.sc_actor.specs.Replay.{acted, input_of, replay}
-use Rattle.sc_cmd.specs.declared.cores.Base.{Base}
-use Rattle.sc_cmd.specs.declared.orders.OrderLine.{OrderLine}
-use Rattle.sc_mail.specs.declared.bodies.Mail.{Mail}
-use Rattle.sc_mail.specs.declared.bodies.MailBody.{MailBody}
-use Rattle.sc_mail.specs.declared.bodies.MailBody.TheVariants.{Install}
-use Rattle.sc_base.specs.Roster.{is_member}
-use Rattle.sc_node_table.specs.Node.{NodeState, born_replicas, born_node, replica_of, with_replica, is_before, with_new, group_of_mail, with_made, unknown, may_come, with_born, with_children, taken_by, routed, on_mail, group_of_order, ordered_of, ticked}
-use Rattle.sc_node_table.specs.Ordering.{ordered_row}
-use Rattle.sc_node_table.specs.Policy.{names_after_tick}
-use Rattle.sc_node_table.specs.Replica.{ReplicaState, Place, Executed, name_of, born_replica, last_slot}
-use Rattle.sc_node_table.specs.Rows.{tick_row, made_by, mailed}
-use Rattle.sc_node_table.specs.Slots.{slots_ahead}
-use Rattle.sc_sound.specs.Players.{Player, player_table}
-use Rattle.sc_mail.specs.declared.roles.Role.TheVariants.{Node, Client}
+use Rattle.sc_base.specs.Definitions.{Each, Drawer, same_draw, is_member}
+use Rattle.sc_node_table.specs.Values.{Draw, Input, Got, Row, Base, OrderLine, Mail, MailBody, Install, Node, Client}
+use Rattle.sc_actor.specs.declared.rows.Input.TheVariants.{Tick, Go, Told}
+use Rattle.sc_actor.specs.Definitions.{acted, input_of, replay}
+use Rattle.sc_node_table.specs.Definitions.{NodeState, born_replicas, born_node, replica_of, with_replica, is_before, with_new, group_of_mail, with_made, unknown, may_come, with_born, with_children, taken_by, routed, on_mail, group_of_order, ordered_of, ticked, ordered_row, names_after_tick, ReplicaState, Place, Executed, name_of, born_replica, last_slot, tick_row, made_by, mailed, slots_ahead}
+use Rattle.sc_sound.specs.Definitions.{Player, player_table}
 use Rattle.sc_queue_law.specs.OneCall.{KeepsOneCall, EachKeepsOneCall, StepsKeepOneCall, QueuesKeepOneCall}
 use Rattle.sc_queue_law.proofs.Lists.{one_none}
-use Rattle.sc_law_lemmas.proofs.Ways.{either_way}
+use Rattle.sc_law_lemmas.proofs.Lemmas.{either_way}
 use Rattle.sc_queue_law.proofs.Queueing.{Keeps}
 use Rattle.sc_queue_law.proofs.Rows.{order_keeps, tick_keeps, mailed_keeps, made_keeps}
 

@@ -2,26 +2,14 @@
 use Rattle.std.proofs.Common.{◌≡◌, ℕ, ◌+◌, ◌-◌, ◌^◌, ◌&&◌, nat_le, nat_lt, eqb, refl, List, [], ◌∷◌, ◌++◌, Option, Some, None}
 use Rattle.std.specs.Prelude.{is_some}
 use Rattle.std.specs.List.{list_any}
-use Rattle.sc_base.specs.declared.names.Ballot.{Ballot}
-use Rattle.sc_base.specs.declared.ops.Op.{Op}
-use Rattle.sc_cmd.specs.declared.commands.Command.{Command}
-use Rattle.sc_cmd.specs.declared.commands.Command.TheVariants.{Call}
-use Rattle.sc_mail.specs.declared.bodies.AnswerBody.{AnswerBody}
+use Rattle.sc_node_table.specs.Values.{Ballot, Op, Command, Call, AnswerBody, Must, Gap}
 use Rattle.sc_mail.specs.declared.bodies.AnswerBody.TheVariants as Says
-use Rattle.sc_paxos_words.specs.declared.answers.Must.{Must}
-use Rattle.sc_paxos_words.specs.declared.answers.Must.TheVariants.{Value, Gap, Free as Open}
-use Rattle.sc_paxos_words.specs.Ballots.{below}
-use Rattle.sc_paxos_words.specs.Leaders.{must}
-use Rattle.sc_node_table.specs.Acts.{has_act, with_act, act_queued}
-use Rattle.sc_node_table.specs.Election.{elected, ended, saw}
-use Rattle.sc_node_table.specs.Install.{install_to, asked_to_promise, welcomed_all}
-use Rattle.sc_node_table.specs.Pump.{Found, is_act, from_calls, from_acts, from_queues, found_by, found_for, offered, pumped_from, pumped}
-use Rattle.sc_node_table.specs.Queues.{call_of, without_call, call_before, put_back}
-use Rattle.sc_node_table.specs.Replica.{ReplicaState, Place, next, settled, may_offer, taken_at, under_way, is_idle, last_slot}
+use Rattle.sc_paxos_words.specs.declared.answers.Must.TheVariants.{Value, Free as Open}
+use Rattle.sc_paxos_words.specs.Definitions.{below, must}
+use Rattle.sc_node_table.specs.Definitions.{has_act, with_act, act_queued, elected, ended, saw, install_to, asked_to_promise, welcomed_all, Found, is_act, from_calls, from_acts, from_queues, found_by, found_for, offered, pumped_from, pumped, call_of, without_call, call_before, put_back, ReplicaState, Place, next, settled, may_offer, taken_at, under_way, is_idle, last_slot}
 use Rattle.sc_queue_law.specs.OneCall.{KeepsOneCall}
 use Rattle.sc_queue_law.proofs.Lists.{One, one_none, one_rest, one_first, one_without, none_left, none_found}
-use Rattle.sc_law_lemmas.proofs.Ways.{either_way}
-use Rattle.sc_law_lemmas.proofs.Calls.{next_found}
+use Rattle.sc_law_lemmas.proofs.Lemmas.{either_way, next_found}
 
 -- a place whose replica keeps at most one call of each client
 abbrev pub Keeps : Place → Type 0

@@ -2,34 +2,16 @@
 use Rattle.std.proofs.Common.{◌≡◌, ◌<◌, ℕ, nat_lt, eqb, true, List, [], ◌∷◌, ◌++◌, Option, Some, None, refl, sym, ap, subst, ◌∙◌, arith, append-nil, append_assoc}
 use Rattle.std.specs.FinMap.{get}
 use Rattle.std.proofs.lemmas.Bool.{cond_both, ltb-false, eqb-false}
-use Rattle.sc_base.specs.Among.{Each}
-use Rattle.sc_base.specs.Limits.{client_actor}
-use Rattle.sc_base.specs.declared.names.Draw.{Draw}
-use Rattle.sc_base.specs.declared.ops.Noted.{Noted}
-use Rattle.sc_base.specs.declared.ops.Op.{Op}
-use Rattle.sc_ideal.specs.IdealStore.{key_of, reply_of, holds_key}
-use Rattle.sc_cmd.specs.declared.commands.Command.{Command}
-use Rattle.sc_cmd.specs.declared.commands.Command.TheVariants.{Call}
-use Rattle.sc_cmd.specs.declared.cores.Lock.{Lock}
-use Rattle.sc_cmd.specs.declared.cores.Lock.TheVariants.{Free, Coordinating, Promised, Watching}
-use Rattle.sc_cmd.specs.declared.effects.Effect.{Effect}
+use Rattle.sc_base.specs.Definitions.{Each, client_actor}
+use Rattle.sc_node_table.specs.Values.{Draw, Noted, Op, Command, Call, Lock, Free, Coordinating, Promised, Watching, Effect, Route, AnswerBody, Mail, Answer}
+use Rattle.sc_ideal.specs.Definitions.{key_of, reply_of, holds_key}
 use Rattle.sc_cmd.specs.declared.effects.Effect.TheVariants as Was
-use Rattle.sc_cmd.specs.declared.links.Route.{Route}
-use Rattle.sc_mail.specs.declared.bodies.AnswerBody.{AnswerBody}
 use Rattle.sc_mail.specs.declared.bodies.AnswerBody.TheVariants as Says
-use Rattle.sc_mail.specs.declared.bodies.Mail.{Mail}
-use Rattle.sc_mail.specs.declared.bodies.MailBody.TheVariants.{Answer}
-use Rattle.sc_machine_table.specs.Group.{Group}
-use Rattle.sc_machine_table.specs.Logs.{state_after}
-use Rattle.sc_machine_table.specs.Machine.{applied, called, served, served_by_note}
-use Rattle.sc_machine_table.proofs.LogLemmas.{state_push}
-use Rattle.sc_paxos_words.proofs.ListLemmas.{Each-append}
-use Rattle.sc_node_table.specs.Execute.{answer_of, told_call}
-use Rattle.sc_node_table.specs.Mails.{answered}
-use Rattle.sc_node_table.specs.Pump.{serves_calls}
-use Rattle.sc_node_table.specs.Queues.{put_back}
-use Rattle.sc_node_table.specs.Replica.{Place, name_of}
-use Rattle.sc_refusal_law.specs.Causes.{HasCauseAtEntry, RefusesCall, answers_in, effect_answers, entry_answers}
+use Rattle.sc_machine_table.specs.Definitions.{Group, state_after, applied, called, served, served_by_note}
+use Rattle.sc_machine_table.proofs.Lemmas.{state_push}
+use Rattle.sc_paxos_words.proofs.Lemmas.{Each-append}
+use Rattle.sc_node_table.specs.Definitions.{answer_of, told_call, answered, serves_calls, put_back, Place, name_of}
+use Rattle.sc_refusal_law.specs.Definitions.{HasCauseAtEntry, RefusesCall, answers_in, effect_answers, entry_answers}
 use Rattle.sc_refusal_law.proofs.Plain.{answer_adds}
 
 -- ---- the effect of a call

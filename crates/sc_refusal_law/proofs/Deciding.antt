@@ -1,22 +1,10 @@
 -- Until a slot is decided its leader is as it was, and so are the acts that wait.
 use Rattle.std.proofs.Common.{◌≡◌, ℕ, Bool, cond, List, [], ◌∷◌, Option, Some, None, refl}
-use Rattle.sc_paxos_words.specs.Leaders.{LeaderState}
-use Rattle.sc_node_table.specs.Install.{install_to, asked_to_promise, welcomed_all}
-use Rattle.sc_cmd.specs.declared.commands.Command.{Command}
-use Rattle.sc_cmd.specs.declared.commands.Command.TheVariants.{Call}
-use Rattle.sc_cmd.specs.declared.effects.Effect.{Effect}
-use Rattle.sc_cmd.specs.declared.orders.ToldResult.{ToldResult}
-use Rattle.sc_mail.specs.declared.bodies.AnswerBody.{AnswerBody}
-use Rattle.sc_mail.specs.declared.bodies.Mail.{Mail}
-use Rattle.sc_mail.specs.declared.bodies.MailBody.TheVariants.{Learn, Prepare}
+use Rattle.sc_paxos_words.specs.Definitions.{LeaderState}
+use Rattle.sc_node_table.specs.Definitions.{install_to, asked_to_promise, welcomed_all, entered, answer_of, told_call, order_result, told_effect, announced, learnt_to, welcomed, sent, sent_others, put_back, ReplicaState, Place, name_of, next, members, forgotten, before_of, spoken}
+use Rattle.sc_node_table.specs.Values.{Command, Call, Effect, ToldResult, AnswerBody, Mail, Learn, Prepare}
 use Rattle.sc_node_table.specs.declared.Before.{Before}
-use Rattle.sc_node_table.specs.Execute.{entered, answer_of, told_call, order_result, told_effect, announced, learnt_to, welcomed}
-use Rattle.sc_node_table.specs.Mails.{sent, sent_others}
-use Rattle.sc_node_table.specs.Queues.{put_back}
-use Rattle.sc_node_table.specs.Replica.{ReplicaState, Place, name_of, next, members, forgotten}
-use Rattle.sc_node_table.specs.Spoken.{before_of, spoken}
-use Rattle.sc_law_lemmas.proofs.Places.{welcomed_place}
-use Rattle.sc_law_lemmas.proofs.Ways.{either_way}
+use Rattle.sc_law_lemmas.proofs.Lemmas.{welcomed_place, either_way}
 
 module _ (leader : LeaderState Command) (acts : List Command) where
   abbrev pub Stays : Place → Type 0

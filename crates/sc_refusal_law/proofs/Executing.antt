@@ -2,39 +2,18 @@
 use Rattle.std.proofs.Common.{◌≡◌, ◌≤◌, ℕ, ◌&&◌, ◌||◌, eqb, Bool, true, false, cond, List, [], ◌∷◌, ◌++◌, Option, Some, None, refl, sym, ap, subst, ◌∙◌, arith}
 use Rattle.std.specs.List.{list_any}
 use Rattle.std.specs.Option.{option_map}
-use Rattle.sc_paxos_words.specs.Leaders.{LeaderState, flight_at}
-use Rattle.sc_paxos_words.specs.declared.flights.Flight.{Flight}
-use Rattle.sc_node_table.specs.Sameness.{same_command}
+use Rattle.sc_paxos_words.specs.Definitions.{LeaderState, flight_at, LogState}
+use Rattle.sc_node_table.specs.Values.{Flight, Ballot, Draw, Command, Noop, Call, Join, Leave, Split, Begin, Prepared, RecordVote, GiveUp, Finish, Watched, RecordWatch, Effect, Route, ToldResult, AnswerBody, Mail, Learn}
+use Rattle.sc_node_table.specs.Definitions.{same_command, elected, ended, stopped, entered, answer_of, told_call, order_result, told_effect, announced, learnt_to, welcomed, slot_lost, landed, left_gone, left, is_among, looked_for, looked, executed_one, next_child, has_room, next_ready, ending, executed_ready, all_ready, executed, sent_others, answer_to, order_number, put_back, ReplicaState, Place, Executed, childless, name_of, next, members, flying, forgotten, at_slot, before_of, spoken}
 use Rattle.std.proofs.lemmas.Bool.{cond_both, eqb-true, eq-eqb, or_parts, or_left, and_parts, true≢false}
-use Rattle.sc_base.specs.declared.names.Ballot.{Ballot}
-use Rattle.sc_base.specs.declared.names.Draw.{Draw}
-use Rattle.sc_cmd.specs.declared.commands.Command.{Command}
-use Rattle.sc_cmd.specs.declared.commands.Command.TheVariants.{Noop, Call, Join, Leave, Split, Begin, Prepared, RecordVote, GiveUp, Finish, Watched, RecordWatch}
-use Rattle.sc_cmd.specs.declared.effects.Effect.{Effect}
-use Rattle.sc_cmd.specs.declared.links.Route.{Route}
-use Rattle.sc_cmd.specs.declared.orders.ToldResult.{ToldResult}
-use Rattle.sc_mail.specs.declared.bodies.AnswerBody.{AnswerBody}
 use Rattle.sc_mail.specs.declared.bodies.AnswerBody.TheVariants as Says
-use Rattle.sc_mail.specs.declared.bodies.Mail.{Mail}
-use Rattle.sc_mail.specs.declared.bodies.MailBody.TheVariants.{Learn}
-use Rattle.sc_base.specs.Roster.{is_member, least_of}
-use Rattle.sc_machine_table.specs.Group.{Group}
-use Rattle.sc_machine_table.specs.Logs.{state_after}
-use Rattle.sc_machine_table.specs.Machine.{applied}
-use Rattle.sc_machine_table.proofs.LogLemmas.{state_push}
-use Rattle.sc_paxos_words.specs.Logs.{LogState}
+use Rattle.sc_base.specs.Definitions.{is_member, least_of}
+use Rattle.sc_machine_table.specs.Definitions.{Group, state_after, applied}
+use Rattle.sc_machine_table.proofs.Lemmas.{state_push}
 use Rattle.sc_node_table.specs.declared.Before.{Before}
-use Rattle.sc_node_table.specs.Election.{elected, ended, stopped}
-use Rattle.sc_node_table.specs.Execute.{entered, answer_of, told_call, order_result, told_effect, announced, learnt_to, welcomed, slot_lost, landed, left_gone, left, is_among, looked_for, looked, executed_one, next_child, has_room, next_ready, ending, executed_ready, all_ready, executed}
-use Rattle.sc_node_table.specs.Mails.{sent_others, answer_to, order_number}
-use Rattle.sc_node_table.specs.Queues.{put_back}
-use Rattle.sc_node_table.specs.Replica.{ReplicaState, Place, Executed, childless, name_of, next, members, flying, forgotten}
-use Rattle.sc_node_table.specs.Slots.{at_slot}
-use Rattle.sc_node_table.specs.Spoken.{before_of, spoken}
-use Rattle.sc_names_law.proofs.Lists.{opt_slot, slot_without, flight_without}
-use Rattle.sc_law_lemmas.proofs.Places.{welcomed_place, cleared}
-use Rattle.sc_law_lemmas.proofs.Ways.{either_way}
-use Rattle.sc_refusal_law.specs.Causes.{answers_in, effect_answers, log_with, log_after}
+use Rattle.sc_names_law.proofs.Lemmas.{opt_slot, slot_without, flight_without}
+use Rattle.sc_law_lemmas.proofs.Lemmas.{welcomed_place, cleared, either_way}
+use Rattle.sc_refusal_law.specs.Definitions.{answers_in, effect_answers, log_with, log_after}
 use Rattle.sc_refusal_law.proofs.Keeping.{Kept, KeptOne, Due, Holds, back_kept, flying_kept}
 use Rattle.sc_refusal_law.proofs.Plain.{others_plain, told_plain, spoken_plain}
 use Rattle.sc_refusal_law.proofs.Answering.{told_answers}

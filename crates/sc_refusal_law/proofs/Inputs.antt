@@ -1,34 +1,17 @@
 -- All inputs of a replica: each answer has its cause, and a replica that runs takes a request.
 use Rattle.std.proofs.Common.{◌≡◌, ℕ, ◌+◌, ◌≤◌, nat_lt, eqb, Bool, true, false, List, [], ◌∷◌, Option, Some, None, refl, sym, ap, ◌∙◌, subst, inl, inr, arith, true≢false}
 use Rattle.std.proofs.lemmas.Bool.{cond_both, eqb-true}
-use Rattle.sc_base.specs.Among.{Each}
-use Rattle.sc_base.specs.Drawing.{Drawer}
-use Rattle.sc_base.specs.Limits.{client_actor}
-use Rattle.sc_base.specs.declared.names.Ballot.{Ballot}
-use Rattle.sc_base.specs.declared.names.Draw.{Draw}
-use Rattle.sc_actor.specs.declared.rows.Input.{Input}
-use Rattle.sc_actor.specs.declared.rows.Input.TheVariants.{Got, Tick, Told as Tells}
-use Rattle.sc_base.specs.declared.ops.Op.{Op}
-use Rattle.sc_cmd.specs.declared.commands.Command.{Command}
-use Rattle.sc_cmd.specs.declared.commands.Command.TheVariants.{Noop, Call, Join, Leave, Split, Begin, Prepared, RecordVote, GiveUp, Finish, Watched, RecordWatch}
-use Rattle.sc_cmd.specs.declared.orders.OrderLine.{OrderLine}
-use Rattle.sc_mail.specs.declared.bodies.AnswerBody.{AnswerBody}
+use Rattle.sc_base.specs.Definitions.{Each, Drawer, client_actor}
+use Rattle.sc_node_table.specs.Values.{Ballot, Draw, Input, Got, Op, Command, Noop, Call, Join, Leave, Split, Begin, Prepared, RecordVote, GiveUp, Finish, Watched, RecordWatch, OrderLine, AnswerBody, Mail, MailBody, Request, Answer, Prepare, Promise, Accept, Accepted, Nack, Learn, Ask, Install, TxPrepare, TxVote, TxOutcome, TxElsewhere, TxWatch, TxWatched, Told}
+use Rattle.sc_actor.specs.declared.rows.Input.TheVariants.{Tick, Told as Tells}
 use Rattle.sc_mail.specs.declared.bodies.AnswerBody.TheVariants as Says
-use Rattle.sc_mail.specs.declared.bodies.Mail.{Mail}
-use Rattle.sc_mail.specs.declared.bodies.MailBody.{MailBody}
-use Rattle.sc_mail.specs.declared.bodies.MailBody.TheVariants.{Request, Answer, Prepare, Promise, Accept, Accepted, Nack, Learn, Ask, Install, TxPrepare, TxVote, TxOutcome, TxElsewhere, TxWatch, TxWatched, Told}
-use Rattle.sc_paxos_words.proofs.ListLemmas.{Each-append, Each-from, Each-weaker}
-use Rattle.sc_machine_table.specs.Machine.{applied}
-use Rattle.sc_node_table.specs.Sameness.{same_command}
+use Rattle.sc_paxos_words.proofs.Lemmas.{Each-append, Each-from, Each-weaker}
+use Rattle.sc_machine_table.specs.Definitions.{applied}
+use Rattle.sc_node_table.specs.Definitions.{same_command, call_of, ReplicaState, Place, Executed, childless, name_of, next, flying, last_slot, listed, settled, refused_at, queued, requested, request_row, learn_row, mailed, stepped, entered, announced, executed, sent}
 use Rattle.sc_node_table.specs.declared.ReplicaInput.{ReplicaInput}
 use Rattle.sc_node_table.specs.declared.ReplicaInput.TheVariants as Given
-use Rattle.sc_node_table.specs.Queues.{call_of}
-use Rattle.sc_node_table.specs.Replica.{ReplicaState, Place, Executed, childless, name_of, next, flying, last_slot, listed, settled}
-use Rattle.sc_node_table.specs.Rows.{refused_at, queued, requested, request_row, learn_row, mailed, stepped}
-use Rattle.sc_node_table.specs.Execute.{entered, announced, executed}
-use Rattle.sc_node_table.specs.Mails.{sent}
-use Rattle.sc_law_lemmas.proofs.Ways.{either_way}
-use Rattle.sc_refusal_law.specs.Causes.{IsBroughtBy, HasCauseAtEntry, StepHasCauses, StepsHaveCauses, IsNotLeader, RunningReplicasTakeRequests, at_node, ends_queued, entry_answers, is_answer, taught_by}
+use Rattle.sc_law_lemmas.proofs.Lemmas.{either_way}
+use Rattle.sc_refusal_law.specs.Definitions.{IsBroughtBy, HasCauseAtEntry, StepHasCauses, StepsHaveCauses, IsNotLeader, RunningReplicasTakeRequests, at_node, ends_queued, entry_answers, is_answer, taught_by}
 use Rattle.sc_refusal_law.proofs.Keeping.{Kept, Due}
 use Rattle.sc_refusal_law.proofs.Locking.{allowed}
 use Rattle.sc_refusal_law.proofs.Standing.{Caused, CausedBody, AllCaused, none_caused, plain_caused, FineAs, Fine}

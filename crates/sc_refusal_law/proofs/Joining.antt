@@ -2,35 +2,14 @@
 use Rattle.std.proofs.Common.{◌≡◌, ℕ, ◌+◌, ◌-◌, ◌^◌, ◌&&◌, ◌||◌, not, nat_le, eqb, Bool, true, false, cond, List, [], ◌∷◌, ◌++◌, Option, Some, None, refl, ap, ◌∙◌, append_assoc}
 use Rattle.std.specs.Prelude.{is_some}
 use Rattle.std.specs.List.{list_any}
-use Rattle.sc_base.specs.Drawing.{Drawer}
-use Rattle.sc_base.specs.declared.names.Ballot.{Ballot}
-use Rattle.sc_base.specs.declared.names.Draw.{Draw}
-use Rattle.sc_cmd.specs.declared.commands.Command.{Command}
-use Rattle.sc_cmd.specs.declared.commands.Command.TheVariants.{Call}
-use Rattle.sc_cmd.specs.declared.cores.Core.{Core}
-use Rattle.sc_cmd.specs.declared.cores.Lock.{Lock}
-use Rattle.sc_cmd.specs.declared.cores.Lock.TheVariants.{Free, Coordinating, Promised, Watching}
+use Rattle.sc_base.specs.Definitions.{Drawer, is_member}
+use Rattle.sc_node_table.specs.Values.{Ballot, Draw, Command, Call, Core, Lock, Free, Coordinating, Promised, Watching, AnswerBody, Mail, MailBody, Answer, Prepare, Accept, Learn, TxVote, TxWatched, Must, Gap}
 use Rattle.sc_cmd.specs.declared.votes.Past.TheVariants as Cast
 use Rattle.sc_cmd.specs.declared.votes.Vote.TheVariants as Vows
-use Rattle.sc_mail.specs.declared.bodies.AnswerBody.{AnswerBody}
-use Rattle.sc_mail.specs.declared.bodies.Mail.{Mail}
-use Rattle.sc_mail.specs.declared.bodies.MailBody.{MailBody}
-use Rattle.sc_mail.specs.declared.bodies.MailBody.TheVariants.{Answer, Prepare, Accept, Learn, TxVote, TxWatched}
-use Rattle.sc_base.specs.Roster.{is_member}
-use Rattle.sc_machine_table.specs.Group.{Group}
-use Rattle.sc_machine_table.specs.Plans.{frozen_of}
-use Rattle.sc_paxos_words.specs.declared.answers.Must.{Must}
-use Rattle.sc_paxos_words.specs.declared.answers.Must.TheVariants.{Value, Gap, Free as Open}
-use Rattle.sc_paxos_words.specs.Leaders.{must, new_leader, with_flight_at}
-use Rattle.sc_paxos_words.specs.Logs.{entry_at}
-use Rattle.sc_node_table.specs.Election.{open_nodes, elected}
-use Rattle.sc_node_table.specs.Mails.{sent, sent_all, sent_others, answered}
-use Rattle.sc_node_table.specs.Policy.{wishing}
-use Rattle.sc_node_table.specs.Pump.{Found, is_act, waits, turned_down, next_call, from_calls, from_acts, from_queues, found_by, found_for, offered, pumped_from, pumped}
-use Rattle.sc_node_table.specs.Questions.{asked_link, question}
-use Rattle.sc_node_table.specs.Reminders.{waited_in, reminders, reminded}
-use Rattle.sc_node_table.specs.Replica.{ReplicaState, Place, name_of, next, members, settled, may_offer, taken_at, flying, under_way, is_idle, last_slot}
-use Rattle.sc_node_table.specs.Rows.{uncounted, asked_again, told_last, tick_row}
+use Rattle.sc_machine_table.specs.Definitions.{Group, frozen_of}
+use Rattle.sc_paxos_words.specs.declared.answers.Must.TheVariants.{Value, Free as Open}
+use Rattle.sc_paxos_words.specs.Definitions.{must, new_leader, with_flight_at, entry_at}
+use Rattle.sc_node_table.specs.Definitions.{open_nodes, elected, sent, sent_all, sent_others, answered, wishing, Found, is_act, waits, turned_down, next_call, from_calls, from_acts, from_queues, found_by, found_for, offered, pumped_from, pumped, asked_link, question, waited_in, reminders, reminded, ReplicaState, Place, name_of, next, members, settled, may_offer, taken_at, flying, under_way, is_idle, last_slot, uncounted, asked_again, told_last, tick_row}
 
 -- a choice between two of one kind
 either_of : {A B : Type 0} (f : A → B) (b : Bool) (x y : A) (p q : B) → p ≡ f x → q ≡ f y → cond b p q ≡ f (cond b x y)

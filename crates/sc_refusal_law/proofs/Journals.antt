@@ -3,45 +3,23 @@ use Rattle.std.proofs.Common.{◌≡◌, zero, suc, ◌≤◌, ◌+◌, ℕ, ◌
 use Rattle.std.specs.List.{find}
 use Rattle.std.specs.Option.{option_map}
 use Rattle.std.proofs.lemmas.Bool.{cond_both, cond-true, eqb-true, eq-eqb, and_from, true≢false}
-use Rattle.sc_base.specs.Among.{Among, Each}
-use Rattle.sc_base.specs.declared.names.Draw.{Draw}
-use Rattle.sc_actor.specs.declared.actors.Seat.{Seat}
-use Rattle.sc_actor.specs.declared.rows.Event.{Event}
+use Rattle.sc_base.specs.Definitions.{Among, Each}
+use Rattle.sc_node_table.specs.Values.{Draw, Seat, Event, Input, Got, Row, Base, Route, OrderLine, Mail, Node, Client, Lock}
 use Rattle.sc_actor.specs.declared.rows.Event.TheVariants as event
-use Rattle.sc_actor.specs.declared.rows.Input.{Input}
-use Rattle.sc_actor.specs.declared.rows.Input.TheVariants.{Got, Go}
-use Rattle.sc_actor.specs.declared.rows.Row.{Row}
-use Rattle.sc_actor.specs.Mail.{mails, numbered}
-use Rattle.sc_actor.specs.Replay.{acted, input_of, value}
-use Rattle.sc_actor.specs.Steps.{IsStep, IsOpen, IsLoose}
-use Rattle.sc_actor.specs.System.{has_gone, is_go}
-use Rattle.sc_actor.specs.Walk.{place_after}
-use Rattle.sc_actor.proofs.Induction.{MayAdd-step, lawful-induction}
-use Rattle.sc_actor.proofs.ReplayLemmas.{value-snoc}
-use Rattle.sc_actor.proofs.WalkLemmas.{lawful-prefix, lawful-last}
-use Rattle.sc_cmd.specs.declared.cores.Base.{Base}
-use Rattle.sc_cmd.specs.declared.links.Route.{Route}
-use Rattle.sc_cmd.specs.declared.orders.OrderLine.{OrderLine}
-use Rattle.sc_mail.specs.declared.bodies.Mail.{Mail}
-use Rattle.sc_client_table.specs.Client.{Client as ClientState}
-use Rattle.sc_client_table.specs.Table.{table}
-use Rattle.sc_node_table.specs.Node.{NodeState, node_table}
-use Rattle.sc_node_table.specs.Replica.{ReplicaState, name_of}
-use Rattle.sc_node_table.specs.Slots.{numbers_from}
-use Rattle.sc_paxos_words.proofs.ListLemmas.{Each-among, Each-append, Each-weaker, find_found}
+use Rattle.sc_actor.specs.declared.rows.Input.TheVariants.{Go}
+use Rattle.sc_actor.specs.Definitions.{mails, numbered, acted, input_of, value, IsStep, IsOpen, IsLoose, has_gone, is_go, place_after}
+use Rattle.sc_actor.proofs.Lemmas.{MayAdd-step, lawful-induction, value-snoc, lawful-prefix, lawful-last}
+use Rattle.sc_client_table.specs.Definitions.{Client as ClientState, table}
+use Rattle.sc_node_table.specs.Definitions.{NodeState, node_table, ReplicaState, name_of, numbers_from}
+use Rattle.sc_paxos_words.proofs.Lemmas.{Each-among, Each-append, Each-weaker, find_found}
 use Rattle.sc_scenario.specs.declared.scenarios.Asks.{Asks}
 use Rattle.sc_scenario.specs.declared.scenarios.Scenario.{Scenario}
-use Rattle.sc_sound.specs.Players.{Ahead, Lawful, Player, births, client_seat, client_seats, node_seat, player_table, route_of, schedule, system_of}
-use Rattle.sc_mail.specs.declared.roles.Role.TheVariants.{Node, Client}
+use Rattle.sc_sound.specs.Definitions.{Ahead, Lawful, Player, births, client_seat, client_seats, node_seat, player_table, route_of, schedule, system_of}
 use Rattle.sc_queue_law.specs.OneCall.{QueuesKeepOneCall}
-use Rattle.sc_refusal_law.specs.Causes.{MayGiveUp, IsImpatient, ends_queued}
-use Rattle.sc_refusal_law.specs.ClientTurns.{KeepsTurn}
-use Rattle.sc_refusal_law.specs.Journals.{Rows, Acts, ticks_in, RowHasCauses, ValidJournalsRefuseWithCause}
-use Rattle.sc_refusal_law.specs.NodeCauses.{AnswersHaveCauses, ActsHaveCauses, NodeHasCauses, TakesRequests, counted_ticks}
+use Rattle.sc_refusal_law.specs.Definitions.{MayGiveUp, IsImpatient, ends_queued, KeepsTurn, Rows, Acts, ticks_in, RowHasCauses, ValidJournalsRefuseWithCause, AnswersHaveCauses, ActsHaveCauses, NodeHasCauses, TakesRequests, counted_ticks}
 use Rattle.sc_refusal_law.proofs.NodeSteps.{Keeps, running_of, nodes_have_causes}
 use Rattle.sc_refusal_law.proofs.Locking.{allowed}
-use Rattle.sc_sound.proofs.Rows.{any_push}
-use Rattle.sc_cmd.specs.declared.cores.Lock.{Lock}
+use Rattle.sc_sound.proofs.Lemmas.{any_push}
 use Rattle.sc_refusal_law.proofs.Ticking.{IsKnown, counts, node_known, no_client}
 use Rattle.sc_refusal_law.proofs.Turning.{InPlace, keeps_turn, in_place}
 

@@ -2,27 +2,17 @@
 use Rattle.std.proofs.Common.{◌≡◌, ◌≤◌, ◌+◌, ℕ, nat_lt, eqb, Bool, true, false, cond, List, [], ◌∷◌, ◌++◌, filter, length, length-append, Option, Some, None, sym, ap, ◌∙◌, subst, arith}
 use Rattle.std.proofs.lemmas.Bool.{cond_both}
 use Rattle.std.proofs.lemmas.List.Elements.{filter-append}
-use Rattle.sc_base.specs.Same.{same_draw}
-use Rattle.sc_base.proofs.NameLemmas.{draw_is}
-use Rattle.sc_node_table.specs.Acts.{is_giving_up}
-use Rattle.sc_refusal_law.specs.Causes.{ends_queued}
-use Rattle.sc_base.specs.Among.{Each}
-use Rattle.sc_base.specs.declared.names.Draw.{Draw}
-use Rattle.sc_cmd.specs.declared.commands.Command.{Command}
-use Rattle.sc_cmd.specs.declared.commands.Command.TheVariants.{Noop, Call, Join, Leave, Split, Begin, Prepared, RecordVote, GiveUp, Finish, Watched, RecordWatch}
-use Rattle.sc_paxos_words.proofs.ListLemmas.{Each-append}
-use Rattle.sc_paxos_words.specs.declared.answers.Must.{Must}
-use Rattle.sc_paxos_words.specs.declared.answers.Must.TheVariants.{Value, Gap, Free as Open}
-use Rattle.sc_paxos_words.specs.declared.flights.Flight.{Flight}
-use Rattle.sc_paxos_words.specs.declared.reports.Report.{Report}
-use Rattle.sc_paxos_words.specs.Choice.{choice, chosen_value, names_above}
-use Rattle.sc_paxos_words.specs.Leaders.{flight_at, must, must_without}
-use Rattle.sc_node_table.specs.Queues.{call_of, is_call_of, without_call, call_before, put_back}
-use Rattle.sc_node_table.specs.Replica.{ReplicaState, flying, taken_at, listed, taken_from, open_slots, under_way}
-use Rattle.sc_node_table.specs.Slots.{at_slot}
-use Rattle.sc_names_law.specs.Names.{Opt}
-use Rattle.sc_names_law.proofs.Lists.{opt_find, opt_map, opt_either, opt_slot, opt_choice}
-use Rattle.sc_law_lemmas.proofs.Ways.{either_way}
+use Rattle.sc_base.specs.Definitions.{same_draw, Each}
+use Rattle.sc_base.proofs.Lemmas.{draw_is}
+use Rattle.sc_node_table.specs.Definitions.{is_giving_up, call_of, is_call_of, without_call, call_before, put_back, ReplicaState, flying, taken_at, listed, taken_from, open_slots, under_way, at_slot}
+use Rattle.sc_refusal_law.specs.Definitions.{ends_queued}
+use Rattle.sc_node_table.specs.Values.{Draw, Command, Noop, Call, Join, Leave, Split, Begin, Prepared, RecordVote, GiveUp, Finish, Watched, RecordWatch, Must, Gap, Flight, Report}
+use Rattle.sc_paxos_words.proofs.Lemmas.{Each-append}
+use Rattle.sc_paxos_words.specs.declared.answers.Must.TheVariants.{Value, Free as Open}
+use Rattle.sc_paxos_words.specs.Definitions.{choice, chosen_value, names_above, flight_at, must, must_without}
+use Rattle.sc_names_law.specs.Definitions.{Opt}
+use Rattle.sc_names_law.proofs.Lemmas.{opt_find, opt_map, opt_either, opt_slot, opt_choice}
+use Rattle.sc_law_lemmas.proofs.Lemmas.{either_way}
 
 -- one more at the front, and one more at the end
 counted_in : (b : Bool) (command : Command) (others : List Command) → length (cond b (command ∷ others) others) ≡ length others + length (cond b (command ∷ []) [])

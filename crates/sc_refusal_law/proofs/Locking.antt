@@ -2,43 +2,17 @@
 use Rattle.std.proofs.Common.{◌≡◌, ℕ, ◌≤◌, ◌⊎◌, inl, inr, refl, sym, ap, subst, ◌∙◌, arith, Bool, true, false, ◌&&◌, not, cond, Option, Some, None}
 use Rattle.std.proofs.lemmas.Bool.{cond_both}
 use Rattle.std.specs.FinMap.{get}
-use Rattle.sc_base.specs.Same.{same_draw}
-use Rattle.sc_base.specs.declared.names.Ballot.{Ballot}
-use Rattle.sc_base.specs.declared.names.Draw.{Draw}
-use Rattle.sc_base.specs.declared.ops.Noted.{Noted}
-use Rattle.sc_base.specs.declared.ops.Op.{Op}
-use Rattle.sc_base.proofs.NameLemmas.{draw_is}
-use Rattle.sc_ideal.specs.IdealStore.{key_of, holds_key}
-use Rattle.sc_cmd.specs.declared.bodies.Body.{Body}
+use Rattle.sc_base.specs.Definitions.{same_draw, holds}
+use Rattle.sc_node_table.specs.Values.{Ballot, Draw, Noted, Op, Body, Offer, Command, Noop, Call, Join, Leave, Split, Begin, Prepared, RecordVote, GiveUp, Finish, Watched, RecordWatch, Lock, Free, Coordinating, Promised, Watching, Effect, Route, OrderRefusal, Frozen, Heard, No, Outcome, Past, Vote}
+use Rattle.sc_base.proofs.Lemmas.{draw_is}
+use Rattle.sc_ideal.specs.Definitions.{key_of, holds_key}
 use Rattle.sc_cmd.specs.declared.bodies.Body.TheVariants as At
-use Rattle.sc_cmd.specs.declared.bodies.Offer.{Offer}
-use Rattle.sc_cmd.specs.declared.commands.Command.{Command}
-use Rattle.sc_cmd.specs.declared.commands.Command.TheVariants.{Noop, Call, Join, Leave, Split, Begin, Prepared, RecordVote, GiveUp, Finish, Watched, RecordWatch}
-use Rattle.sc_cmd.specs.declared.cores.Lock.{Lock}
-use Rattle.sc_cmd.specs.declared.cores.Lock.TheVariants.{Free, Coordinating, Promised, Watching}
-use Rattle.sc_cmd.specs.declared.effects.Effect.{Effect}
-use Rattle.sc_cmd.specs.declared.links.Route.{Route}
-use Rattle.sc_cmd.specs.declared.orders.OrderRefusal.{OrderRefusal}
-use Rattle.sc_cmd.specs.declared.votes.Frozen.{Frozen}
-use Rattle.sc_cmd.specs.declared.votes.Heard.{Heard}
-use Rattle.sc_cmd.specs.declared.votes.No.{No}
-use Rattle.sc_cmd.specs.declared.votes.Outcome.{Outcome}
 use Rattle.sc_cmd.specs.declared.votes.Outcome.TheVariants as Is
-use Rattle.sc_cmd.specs.declared.votes.Past.{Past}
 use Rattle.sc_cmd.specs.declared.votes.Past.TheVariants as Cast
-use Rattle.sc_cmd.specs.declared.votes.Vote.{Vote}
 use Rattle.sc_cmd.specs.declared.votes.Vote.TheVariants as Vows
-use Rattle.sc_machine_table.specs.Group.{Group}
-use Rattle.sc_machine_table.specs.Machine.{served_by_note, served, called, ordered_by, split_group, applied}
-use Rattle.sc_cmd.specs.Cores.{is_alone}
-use Rattle.sc_machine_table.specs.Orders.{locked_in, refusal_of, ordered}
-use Rattle.sc_machine_table.specs.Plans.{Plan, may_merge, closing_group, closing_plan, merged_route, merged_group, giving_plan, taking_plan, can_repart, giving_group, taking_group, part_gift, has_key_of, taken, can_migrate, migrated_group, can_split}
-use Rattle.sc_machine_table.specs.Splits.{left_group}
-use Rattle.sc_base.specs.Arc.{holds}
-use Rattle.sc_machine_table.specs.Finishes.{participant_after, settled_in, finished}
-use Rattle.sc_machine_table.specs.Transactions.{committed, granted, participant_answered, vote_recorded, released, watch_answered, watch_recorded}
-use Rattle.sc_machine_table.specs.Votes.{offer_no, watch_no, no_of, vote_of, watch_vote_of, voted_on, bound_by}
-use Rattle.sc_node_table.specs.Replica.{waits_in}
+use Rattle.sc_machine_table.specs.Definitions.{Group, served_by_note, served, called, ordered_by, split_group, applied, locked_in, refusal_of, ordered, Plan, may_merge, closing_group, closing_plan, merged_route, merged_group, giving_plan, taking_plan, can_repart, giving_group, taking_group, part_gift, has_key_of, taken, can_migrate, migrated_group, can_split, left_group, participant_after, settled_in, finished, committed, granted, participant_answered, vote_recorded, released, watch_answered, watch_recorded, offer_no, watch_no, no_of, vote_of, watch_vote_of, voted_on, bound_by}
+use Rattle.sc_cmd.specs.Definitions.{is_alone}
+use Rattle.sc_node_table.specs.Definitions.{waits_in}
 
 -- ---- what a lock allows
 

@@ -1,42 +1,17 @@
 -- A node's whole step: each of its mails has its cause at a replica, and so has each end of waiting that is queued after it.
 use Rattle.std.proofs.Common.{◌≡◌, ◌≤◌, ◌+◌, arith, ◌∙◌, ℕ, ◌-◌, ◌^◌, inl, inr, ◌||◌, not, nat_lt, eqb, Bool, true, false, cond, List, [], ◌∷◌, ◌++◌, length, Option, Some, None, refl, sym, ap, subst, append-nil, append_assoc}
 use Rattle.std.specs.Prelude.{is_some}
-use Rattle.sc_base.specs.Among.{Among, Each}
-use Rattle.sc_base.specs.Drawing.{Drawer}
+use Rattle.sc_base.specs.Definitions.{Among, Each, Drawer, same_draw, is_member, least_of}
 use Rattle.std.proofs.lemmas.Bool.{and_parts}
 use Rattle.std.specs.Prelude.{⊤}
-use Rattle.sc_base.specs.Same.{same_draw}
-use Rattle.sc_cmd.specs.declared.bodies.Body.{Body}
-use Rattle.sc_cmd.specs.declared.cores.Lock.{Lock}
-use Rattle.sc_cmd.specs.declared.cores.Lock.TheVariants.{Free, Coordinating, Promised, Watching}
-use Rattle.sc_cmd.specs.declared.votes.Heard.{Heard}
-use Rattle.sc_base.specs.declared.names.Ballot.{Ballot}
-use Rattle.sc_base.specs.declared.names.Draw.{Draw}
-use Rattle.sc_actor.specs.declared.rows.Input.{Input}
-use Rattle.sc_actor.specs.declared.rows.Input.TheVariants.{Got, Tick, Told, Go}
-use Rattle.sc_cmd.specs.declared.commands.Command.TheVariants.{GiveUp}
-use Rattle.sc_cmd.specs.declared.cores.Base.{Base}
-use Rattle.sc_cmd.specs.declared.links.Route.{Route}
-use Rattle.sc_cmd.specs.declared.orders.OrderLine.{OrderLine}
-use Rattle.sc_mail.specs.declared.bodies.Mail.{Mail}
-use Rattle.sc_mail.specs.declared.bodies.MailBody.{MailBody}
-use Rattle.sc_mail.specs.declared.bodies.MailBody.TheVariants.{Install}
-use Rattle.sc_base.specs.Roster.{is_member, least_of}
-use Rattle.sc_paxos_words.proofs.ListLemmas.{Each-among, Each-from, Each-weaker, find_found}
+use Rattle.sc_node_table.specs.Values.{Body, Lock, Free, Coordinating, Promised, Watching, Heard, Ballot, Draw, Input, Got, GiveUp, Base, Route, OrderLine, Mail, MailBody, Install}
+use Rattle.sc_actor.specs.declared.rows.Input.TheVariants.{Tick, Told, Go}
+use Rattle.sc_paxos_words.proofs.Lemmas.{Each-among, Each-from, Each-weaker, find_found}
 use Rattle.sc_node_table.specs.declared.ReplicaInput.{ReplicaInput}
 use Rattle.sc_node_table.specs.declared.ReplicaInput.TheVariants as Given
-use Rattle.sc_node_table.specs.Election.{elected}
-use Rattle.sc_node_table.specs.Execute.{is_among, looked_for, looked}
-use Rattle.sc_node_table.specs.Install.{named}
-use Rattle.sc_node_table.specs.Node.{NodeState, node_table, replica_of, with_replica, is_before, with_new, group_of_mail, with_made, unknown, may_come, with_born, with_children, taken_by, routed, group_of_order, ordered_of, ticked, on_tick}
-use Rattle.sc_node_table.specs.Ordering.{ordered_row}
-use Rattle.sc_node_table.specs.Policy.{names_after_tick}
-use Rattle.sc_node_table.specs.Replica.{ReplicaState, Place, settled, may_offer, first_set, name_of, listed, members, born_replica, installed_replica, last_slot, forgotten}
-use Rattle.sc_node_table.specs.Rows.{tick_row, looked_up, made_by, mailed, stepped}
-use Rattle.sc_node_table.specs.Slots.{slots_ahead}
-use Rattle.sc_law_lemmas.proofs.Ways.{either_way}
-use Rattle.sc_refusal_law.specs.Causes.{at_node}
-use Rattle.sc_refusal_law.specs.NodeCauses.{AnswersHaveCauses, AreSentBy, IsSentBy, MayGiveUpAt, ActsHaveCauses, NodesHaveCauses, counted_ticks, replica_for, takers}
+use Rattle.sc_node_table.specs.Definitions.{elected, is_among, looked_for, looked, named, NodeState, node_table, replica_of, with_replica, is_before, with_new, group_of_mail, with_made, unknown, may_come, with_born, with_children, taken_by, routed, group_of_order, ordered_of, ticked, on_tick, ordered_row, names_after_tick, ReplicaState, Place, settled, may_offer, first_set, name_of, listed, members, born_replica, installed_replica, last_slot, forgotten, tick_row, looked_up, made_by, mailed, stepped, slots_ahead}
+use Rattle.sc_law_lemmas.proofs.Lemmas.{either_way}
+use Rattle.sc_refusal_law.specs.Definitions.{at_node, AnswersHaveCauses, AreSentBy, IsSentBy, MayGiveUpAt, ActsHaveCauses, NodesHaveCauses, counted_ticks, replica_for, takers}
 use Rattle.sc_refusal_law.proofs.Joining.{tick_behind}
 use Rattle.sc_refusal_law.proofs.Steps.{Shows}
 use Rattle.sc_refusal_law.proofs.Inputs.{still_step, step_shown}

@@ -1,27 +1,14 @@
 -- Where a step of a replica stands: what it has executed so far, how long it has waited, and that each answer that it has sent has its cause.
 use Rattle.std.proofs.Common.{◌≡◌, ℕ, ◌≤◌, refl, sym, ap, ◌∙◌, Bool, true, false, List, [], ◌∷◌, ◌++◌, append-nil, append_assoc}
 use Rattle.std.proofs.lemmas.Bool.{true≢false}
-use Rattle.sc_base.specs.Among.{Each}
-use Rattle.sc_base.specs.Limits.{client_actor}
-use Rattle.sc_base.specs.declared.names.Ballot.{Ballot}
-use Rattle.sc_base.specs.declared.names.Draw.{Draw}
-use Rattle.sc_base.specs.declared.ops.Op.{Op}
-use Rattle.sc_cmd.specs.declared.commands.Command.{Command}
-use Rattle.sc_cmd.specs.declared.commands.Command.TheVariants.{Call}
-use Rattle.sc_mail.specs.declared.bodies.AnswerBody.{AnswerBody}
+use Rattle.sc_base.specs.Definitions.{Each, client_actor}
+use Rattle.sc_node_table.specs.Values.{Ballot, Draw, Op, Command, Call, AnswerBody, Mail, MailBody, Answer}
 use Rattle.sc_mail.specs.declared.bodies.AnswerBody.TheVariants as Says
-use Rattle.sc_mail.specs.declared.bodies.Mail.{Mail}
-use Rattle.sc_mail.specs.declared.bodies.MailBody.{MailBody}
-use Rattle.sc_mail.specs.declared.bodies.MailBody.TheVariants.{Answer}
-use Rattle.sc_machine_table.specs.Group.{Group}
-use Rattle.sc_machine_table.specs.Logs.{state_after}
-use Rattle.sc_machine_table.specs.Machine.{applied}
-use Rattle.sc_paxos_words.proofs.ListLemmas.{Each-append, Each-weaker}
-use Rattle.sc_paxos_words.specs.Logs.{LogState}
-use Rattle.sc_node_table.specs.Execute.{answer_of}
-use Rattle.sc_node_table.specs.Replica.{ReplicaState, Place, name_of}
-use Rattle.sc_node_table.specs.Mails.{sent, sent_all}
-use Rattle.sc_refusal_law.specs.Causes.{IfAnswer, LacksKey, answers_in, effect_answers, entry_answers, log_after}
+use Rattle.sc_machine_table.specs.Definitions.{Group, state_after, applied}
+use Rattle.sc_paxos_words.proofs.Lemmas.{Each-append, Each-weaker}
+use Rattle.sc_paxos_words.specs.Definitions.{LogState}
+use Rattle.sc_node_table.specs.Definitions.{answer_of, ReplicaState, Place, name_of, sent, sent_all}
+use Rattle.sc_refusal_law.specs.Definitions.{IfAnswer, LacksKey, answers_in, effect_answers, entry_answers, log_after}
 use Rattle.sc_refusal_law.proofs.Keeping.{Holds, Kept}
 use Rattle.sc_refusal_law.proofs.Answering.{entries_push}
 use Rattle.sc_refusal_law.proofs.Locking.{allowed}

@@ -1,34 +1,15 @@
 -- What a step shows, and a state that is taken over: each answer has its cause.
 use Rattle.std.proofs.Common.{◌≡◌, ◌<◌, ℕ, ◌+◌, ◌-◌, ◌≤◌, ◌^◌, ◌⊎◌, ◌||◌, not, nat_lt, eqb, Bool, true, false, List, [], ◌∷◌, ◌++◌, length, map, Option, Some, None, refl, sym, ap, ◌∙◌, subst, inl, inr, arith, true≢false}
 use Rattle.std.proofs.lemmas.Bool.{cond_both}
-use Rattle.sc_base.specs.Among.{Among, Each}
-use Rattle.sc_base.specs.declared.names.Ballot.{Ballot}
-use Rattle.sc_base.specs.declared.names.Draw.{Draw}
-use Rattle.sc_actor.specs.declared.rows.Input.{Input}
-use Rattle.sc_base.specs.declared.ops.Op.{Op}
-use Rattle.sc_cmd.specs.declared.commands.Command.{Command}
-use Rattle.sc_cmd.specs.declared.commands.Command.TheVariants.{Noop, Call, Join, Leave, Split, Begin, Prepared, RecordVote, GiveUp, Finish, Watched, RecordWatch}
-use Rattle.sc_cmd.specs.declared.cores.Base.{Base}
-use Rattle.sc_cmd.specs.declared.links.Route.{Route}
-use Rattle.sc_cmd.specs.declared.orders.OrderLine.{OrderLine}
-use Rattle.sc_mail.specs.declared.bodies.AnswerBody.{AnswerBody}
+use Rattle.sc_base.specs.Definitions.{Among, Each, is_member, least_of}
+use Rattle.sc_node_table.specs.Values.{Ballot, Draw, Input, Op, Command, Noop, Call, Join, Leave, Split, Begin, Prepared, RecordVote, GiveUp, Finish, Watched, RecordWatch, Base, Route, OrderLine, AnswerBody, Mail, MailBody, Prepare}
 use Rattle.sc_mail.specs.declared.bodies.AnswerBody.TheVariants as Says
-use Rattle.sc_mail.specs.declared.bodies.Mail.{Mail}
-use Rattle.sc_mail.specs.declared.bodies.MailBody.{MailBody}
-use Rattle.sc_mail.specs.declared.bodies.MailBody.TheVariants.{Prepare}
-use Rattle.sc_base.specs.Roster.{is_member, least_of}
-use Rattle.sc_paxos_words.proofs.ListLemmas.{Each-weaker}
-use Rattle.sc_machine_table.specs.Group.{Group}
-use Rattle.sc_machine_table.specs.Logs.{state_after}
-use Rattle.sc_machine_table.specs.Machine.{applied}
-use Rattle.sc_paxos_words.specs.Logs.{LogState}
-use Rattle.sc_node_table.specs.Election.{open_nodes, elected, ended, stopped}
-use Rattle.sc_node_table.specs.Execute.{entered, is_among, looked_for, looked}
-use Rattle.sc_node_table.specs.Install.{jumped}
-use Rattle.sc_node_table.specs.Replica.{ReplicaState, Place, name_of, next, listed, members, last_slot, forgotten}
-use Rattle.sc_node_table.specs.Rows.{looked_up, took_over, install_row}
-use Rattle.sc_law_lemmas.proofs.Ways.{either_way}
-use Rattle.sc_refusal_law.specs.Causes.{IsHeldOrBrought, LeadsNoMore, HasCauseAtEntry, HasCauseAfter, AnswersCall, AnswersInTurn, IfAnswer, LacksKey, MayGiveUp, IsTakenOver, StepHasCauses, ends_queued, entry_answers, log_with, log_after, taught}
+use Rattle.sc_paxos_words.proofs.Lemmas.{Each-weaker}
+use Rattle.sc_machine_table.specs.Definitions.{Group, state_after, applied}
+use Rattle.sc_paxos_words.specs.Definitions.{LogState}
+use Rattle.sc_node_table.specs.Definitions.{open_nodes, elected, ended, stopped, entered, is_among, looked_for, looked, jumped, ReplicaState, Place, name_of, next, listed, members, last_slot, forgotten, looked_up, took_over, install_row}
+use Rattle.sc_law_lemmas.proofs.Lemmas.{either_way}
+use Rattle.sc_refusal_law.specs.Definitions.{IsHeldOrBrought, LeadsNoMore, HasCauseAtEntry, HasCauseAfter, AnswersCall, AnswersInTurn, IfAnswer, LacksKey, MayGiveUp, IsTakenOver, StepHasCauses, ends_queued, entry_answers, log_with, log_after, taught}
 use Rattle.sc_refusal_law.proofs.Keeping.{Kept, DueAll, Holds}
 use Rattle.sc_refusal_law.proofs.Answering.{IfCall, entries_each}
 use Rattle.sc_refusal_law.proofs.Executing.{entered_me, entered_name}

@@ -1,25 +1,14 @@
 -- A replica that stops answers all calls that it keeps, each with its cause; one that is elected has waited for nothing yet.
 use Rattle.std.proofs.Common.{◌≡◌, ℕ, ◌+◌, ◌-◌, ◌^◌, refl, arith, ◌&&◌, eqb, Bool, true, false, cond, List, [], ◌∷◌, Option, Some}
-use Rattle.sc_base.specs.Limits.{client_actor}
-use Rattle.sc_base.specs.declared.names.Ballot.{Ballot}
-use Rattle.sc_base.specs.declared.names.Draw.{Draw}
-use Rattle.sc_base.specs.declared.ops.Op.{Op}
-use Rattle.sc_cmd.specs.declared.commands.Command.{Command}
-use Rattle.sc_cmd.specs.declared.commands.Command.TheVariants.{Noop, Call, Join, Leave, Split, Begin, Prepared, RecordVote, GiveUp, Finish, Watched, RecordWatch}
+use Rattle.sc_base.specs.Definitions.{client_actor}
+use Rattle.sc_node_table.specs.Values.{Ballot, Draw, Op, Command, Noop, Call, Join, Leave, Split, Begin, Prepared, RecordVote, GiveUp, Finish, Watched, RecordWatch, AnswerBody, Mail, Answer, Prepare, Install}
 use Rattle.sc_cmd.specs.declared.orders.OrderRefusal.TheVariants as Why
 use Rattle.sc_cmd.specs.declared.orders.ToldResult.TheVariants as Tells
-use Rattle.sc_mail.specs.declared.bodies.AnswerBody.{AnswerBody}
 use Rattle.sc_mail.specs.declared.bodies.AnswerBody.TheVariants as Says
-use Rattle.sc_mail.specs.declared.bodies.Mail.{Mail}
-use Rattle.sc_mail.specs.declared.bodies.MailBody.TheVariants.{Answer, Prepare, Install}
-use Rattle.sc_machine_table.specs.Group.{base_of}
-use Rattle.sc_paxos_words.specs.Ballots.{below}
-use Rattle.sc_paxos_words.specs.Leaders.{new_leader}
-use Rattle.sc_node_table.specs.Election.{open_nodes, elected, ended, stopped, saw}
-use Rattle.sc_node_table.specs.Install.{install_to, asked_to_promise, welcomed_all}
-use Rattle.sc_node_table.specs.Mails.{sent, answered, answered_all, told_order, dismissed, dismissed_all}
-use Rattle.sc_node_table.specs.Replica.{ReplicaState, Place, name_of, next, under_way}
-use Rattle.sc_law_lemmas.proofs.Ways.{either_way}
+use Rattle.sc_machine_table.specs.Definitions.{base_of}
+use Rattle.sc_paxos_words.specs.Definitions.{below, new_leader}
+use Rattle.sc_node_table.specs.Definitions.{open_nodes, elected, ended, stopped, saw, install_to, asked_to_promise, welcomed_all, sent, answered, answered_all, told_order, dismissed, dismissed_all, ReplicaState, Place, name_of, next, under_way}
+use Rattle.sc_law_lemmas.proofs.Lemmas.{either_way}
 use Rattle.sc_refusal_law.proofs.Keeping.{Kept, KeptAll, way_kept, fewer_due}
 use Rattle.sc_refusal_law.proofs.Plain.{told_plain}
 use Rattle.sc_refusal_law.proofs.Standing.{CauseSo, AllCaused, plain_caused, answer_caused, stopped_caused, Stands, FineAs, Fine, with_plain, with_all}

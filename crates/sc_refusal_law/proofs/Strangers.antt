@@ -1,27 +1,11 @@
 -- A node without a replica of a mail's group: what it answers is to the request that came, and names no leader.
 use Rattle.std.proofs.Common.{◌≡◌, ℕ, ◌+◌, ◌-◌, ◌^◌, ◌||◌, not, nat_lt, eqb, List, [], ◌∷◌, length, Option, Some, None, refl, sym, subst}
-use Rattle.sc_base.specs.Among.{Each}
-use Rattle.sc_base.specs.declared.names.Draw.{Draw}
-use Rattle.sc_cmd.specs.declared.cores.Base.{Base}
-use Rattle.sc_cmd.specs.declared.links.Route.{Route}
-use Rattle.sc_actor.specs.declared.rows.Input.TheVariants.{Got}
-use Rattle.sc_mail.specs.declared.bodies.AnswerBody.{AnswerBody}
-use Rattle.sc_mail.specs.declared.bodies.Mail.{Mail}
-use Rattle.sc_mail.specs.declared.bodies.MailBody.{MailBody}
-use Rattle.sc_mail.specs.declared.bodies.MailBody.TheVariants.{Request, Answer, Prepare, Promise, Accept, Accepted, Nack, Learn, Ask, Install, TxPrepare, TxVote, TxOutcome, TxElsewhere, TxWatch, TxWatched, Told}
-use Rattle.sc_base.specs.Roster.{is_member, least_of}
-use Rattle.sc_paxos_words.proofs.ListLemmas.{Each-append}
-use Rattle.sc_node_table.specs.Election.{open_nodes, elected}
-use Rattle.sc_node_table.specs.Execute.{is_among, looked_for, looked}
-use Rattle.sc_node_table.specs.Install.{named}
-use Rattle.sc_node_table.specs.Mails.{sent}
-use Rattle.sc_node_table.specs.Node.{NodeState, replica_of, group_of_mail, with_made, unknown}
-use Rattle.sc_node_table.specs.Replica.{ReplicaState, Place, name_of, next, members, last_slot, installed_replica}
-use Rattle.sc_node_table.specs.Rows.{looked_up, made_by}
-use Rattle.sc_node_table.specs.Slots.{slots_ahead}
-use Rattle.sc_law_lemmas.proofs.Ways.{either_way}
-use Rattle.sc_refusal_law.specs.Causes.{IfAnswer}
-use Rattle.sc_refusal_law.specs.NodeCauses.{TurnsAway}
+use Rattle.sc_base.specs.Definitions.{Each, is_member, least_of}
+use Rattle.sc_node_table.specs.Values.{Draw, Base, Route, Got, AnswerBody, Mail, MailBody, Request, Answer, Prepare, Promise, Accept, Accepted, Nack, Learn, Ask, Install, TxPrepare, TxVote, TxOutcome, TxElsewhere, TxWatch, TxWatched, Told}
+use Rattle.sc_paxos_words.proofs.Lemmas.{Each-append}
+use Rattle.sc_node_table.specs.Definitions.{open_nodes, elected, is_among, looked_for, looked, named, sent, NodeState, replica_of, group_of_mail, with_made, unknown, ReplicaState, Place, name_of, next, members, last_slot, installed_replica, looked_up, made_by, slots_ahead}
+use Rattle.sc_law_lemmas.proofs.Lemmas.{either_way}
+use Rattle.sc_refusal_law.specs.Definitions.{IfAnswer, TurnsAway}
 use Rattle.sc_refusal_law.proofs.Plain.{IsPlain, plain_has, all_plain}
 
 module _ (node : NodeState) (mail : Mail) (group : Draw) (missing : replica_of group node.replicas ≡ None) where

@@ -1,18 +1,9 @@
 -- A node's step takes a request for a replica that runs: it sends no answer NotLeader.
 use Rattle.std.proofs.Common.{◌≡◌, ℕ, true, inl, inr, Option, Some, None, List, sym, ap, subst, ◌∙◌}
-use Rattle.sc_base.specs.Among.{Among, Each}
-use Rattle.sc_base.specs.declared.names.Draw.{Draw}
-use Rattle.sc_base.specs.declared.ops.Op.{Op}
-use Rattle.sc_actor.specs.declared.rows.Input.{Input}
-use Rattle.sc_cmd.specs.declared.orders.OrderLine.{OrderLine}
-use Rattle.sc_mail.specs.declared.bodies.Mail.{Mail}
-use Rattle.sc_mail.specs.declared.bodies.MailBody.{MailBody}
-use Rattle.sc_mail.specs.declared.bodies.MailBody.TheVariants.{Request}
-use Rattle.sc_node_table.specs.Node.{NodeState, group_of_mail, node_table, on_mail, replica_of, taken_by}
-use Rattle.sc_node_table.specs.Replica.{ReplicaState, listed}
-use Rattle.sc_node_table.specs.Rows.{stepped}
-use Rattle.sc_refusal_law.specs.Causes.{IsNotLeader}
-use Rattle.sc_refusal_law.specs.NodeCauses.{TakesRequests, replica_for, takers}
+use Rattle.sc_base.specs.Definitions.{Among, Each}
+use Rattle.sc_node_table.specs.Values.{Draw, Op, Input, OrderLine, Mail, MailBody, Request}
+use Rattle.sc_node_table.specs.Definitions.{NodeState, group_of_mail, node_table, on_mail, replica_of, taken_by, ReplicaState, listed, stepped}
+use Rattle.sc_refusal_law.specs.Definitions.{IsNotLeader, TakesRequests, replica_for, takers}
 use Rattle.sc_refusal_law.proofs.Inputs.{requests_are_taken}
 
 -- no mail is an answer NotLeader

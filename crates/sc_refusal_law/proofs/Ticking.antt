@@ -4,41 +4,20 @@ use Rattle.std.specs.List.{list_any}
 use Rattle.std.proofs.lemmas.Bool.{cond_both, cond-true, or_left, or_right, eq-eqb, eqb-true}
 use Rattle.std.specs.Prelude.{is_some}
 use Rattle.std.specs.Option.{option_map}
-use Rattle.sc_base.specs.Among.{Among, Each}
-use Rattle.sc_base.specs.Same.{same_ballot, same_draw}
-use Rattle.sc_base.specs.declared.names.Ballot.{Ballot}
-use Rattle.sc_base.specs.declared.names.Draw.{Draw}
-use Rattle.sc_base.proofs.NameLemmas.{ballot_itself, same_name}
-use Rattle.sc_actor.specs.declared.actors.Seat.{Seat}
-use Rattle.sc_actor.specs.declared.rows.Event.{Event}
+use Rattle.sc_base.specs.Definitions.{Among, Each, same_ballot, same_draw, is_member}
+use Rattle.sc_node_table.specs.Values.{Ballot, Draw, Seat, Event, Input, Got, Row, Body, Base, Lock, Coordinating, OrderLine, Heard, Mail, MailBody, Install, Node, Client}
+use Rattle.sc_base.proofs.Lemmas.{ballot_itself, same_name}
 use Rattle.sc_actor.specs.declared.rows.Event.TheVariants as event
-use Rattle.sc_actor.specs.declared.rows.Input.{Input}
-use Rattle.sc_actor.specs.declared.rows.Input.TheVariants.{Got, Tick, Go, Told}
-use Rattle.sc_actor.specs.declared.rows.Row.{Row}
-use Rattle.sc_actor.specs.Mail.{mails, numbered}
-use Rattle.sc_actor.specs.Replay.{acted, input_of, value}
-use Rattle.sc_actor.proofs.ReplayLemmas.{value-snoc}
-use Rattle.sc_cmd.specs.declared.bodies.Body.{Body}
-use Rattle.sc_cmd.specs.declared.cores.Base.{Base}
-use Rattle.sc_cmd.specs.declared.cores.Lock.{Lock}
-use Rattle.sc_cmd.specs.declared.cores.Lock.TheVariants.{Coordinating}
-use Rattle.sc_cmd.specs.declared.orders.OrderLine.{OrderLine}
-use Rattle.sc_cmd.specs.declared.votes.Heard.{Heard}
-use Rattle.sc_mail.specs.declared.bodies.Mail.{Mail}
-use Rattle.sc_machine_table.specs.Transactions.{is_coordinating}
-use Rattle.sc_base.specs.Roster.{is_member}
-use Rattle.sc_mail.specs.declared.bodies.MailBody.{MailBody}
-use Rattle.sc_mail.specs.declared.bodies.MailBody.TheVariants.{Install}
-use Rattle.sc_client_table.specs.Client.{Client as ClientState}
-use Rattle.sc_node_table.specs.Rows.{made_by, mailed}
-use Rattle.sc_node_table.specs.Slots.{slots_ahead}
-use Rattle.sc_node_table.specs.Node.{NodeState, born_replicas, node_table, replica_of, with_replica, with_new, with_born, with_children, with_made, unknown, taken_by, routed, may_come, group_of_mail, ordered_of, group_of_order}
-use Rattle.sc_node_table.specs.Replica.{ReplicaState, born_replica, name_of, settled, last_slot}
+use Rattle.sc_actor.specs.declared.rows.Input.TheVariants.{Tick, Go, Told}
+use Rattle.sc_actor.specs.Definitions.{mails, numbered, acted, input_of, value}
+use Rattle.sc_actor.proofs.Lemmas.{value-snoc}
+use Rattle.sc_machine_table.specs.Definitions.{is_coordinating}
+use Rattle.sc_client_table.specs.Definitions.{Client as ClientState}
+use Rattle.sc_node_table.specs.Definitions.{made_by, mailed, slots_ahead, NodeState, born_replicas, node_table, replica_of, with_replica, with_new, with_born, with_children, with_made, unknown, taken_by, routed, may_come, group_of_mail, ordered_of, group_of_order, ReplicaState, born_replica, name_of, settled, last_slot}
 use Rattle.sc_scenario.specs.declared.scenarios.Scenario.{Scenario}
-use Rattle.sc_sound.specs.Players.{Ahead, Player, node_seat, player_table}
-use Rattle.sc_mail.specs.declared.roles.Role.TheVariants.{Node, Client}
-use Rattle.sc_law_lemmas.proofs.Ways.{either_way}
-use Rattle.sc_refusal_law.specs.Journals.{Rows, coordinates, node_coordinates, is_tick, is_counted, ticks_from}
+use Rattle.sc_sound.specs.Definitions.{Ahead, Player, node_seat, player_table}
+use Rattle.sc_law_lemmas.proofs.Lemmas.{either_way}
+use Rattle.sc_refusal_law.specs.Definitions.{Rows, coordinates, node_coordinates, is_tick, is_counted, ticks_from}
 use Rattle.sc_refusal_law.proofs.NodeSteps.{Keeps, still_all, node_keeps}
 
 module _ (seat : Seat Player) where

@@ -2,22 +2,12 @@
 use Rattle.std.proofs.Common.{◌≡◌, ℕ, ◌+◌, nat_le, Bool, true, false, cond, List, [], ◌∷◌, ◌++◌, length, Option, Some, None, inl, inr, refl, sym, ap, subst, ◌∙◌, arith}
 use Rattle.std.proofs.lemmas.Bool.{cond_both, cond-true, eq-eqb}
 use Rattle.std.proofs.lemmas.List.{length-append}
-use Rattle.sc_base.specs.declared.names.Draw.{Draw}
-use Rattle.sc_base.specs.declared.ops.Op.{Op}
-use Rattle.sc_base.specs.declared.ops.Reply.{Reply}
-use Rattle.sc_actor.specs.declared.rows.Input.{Input}
+use Rattle.sc_node_table.specs.Values.{Draw, Op, Reply, Input, OrderLine, Value, Mail, MailBody, Answer}
 use Rattle.sc_actor.specs.declared.rows.Input.TheVariants.{Go}
-use Rattle.sc_cmd.specs.declared.orders.OrderLine.{OrderLine}
-use Rattle.sc_mail.specs.declared.bodies.AnswerBody.TheVariants.{Value}
-use Rattle.sc_mail.specs.declared.bodies.Mail.{Mail}
-use Rattle.sc_mail.specs.declared.bodies.MailBody.{MailBody}
-use Rattle.sc_mail.specs.declared.bodies.MailBody.TheVariants.{Answer}
-use Rattle.sc_lookup.specs.Known.{target_in}
-use Rattle.sc_client_table.specs.Client.{Client, waiting_request}
-use Rattle.sc_client_table.specs.Table.{ClientStep, asked_of, sent_where, chosen_for, request_sent, started, waits_for, got, table}
-use Rattle.sc_client_table.specs.Turns.{IsReplyTo, InTurn}
+use Rattle.sc_lookup.specs.Definitions.{target_in}
+use Rattle.sc_client_table.specs.Definitions.{Client, waiting_request, ClientStep, asked_of, sent_where, chosen_for, request_sent, started, waits_for, got, table, IsReplyTo, InTurn}
 use Rattle.sc_client_table.proofs.TurnLemmas.{sends_in_turn}
-use Rattle.sc_refusal_law.specs.ClientTurns.{number_in, Starts, GoesOn, KeepsTurn}
+use Rattle.sc_refusal_law.specs.Definitions.{number_in, Starts, GoesOn, KeepsTurn}
 
 -- ---- the number that is begun
 

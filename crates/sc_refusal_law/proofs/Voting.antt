@@ -1,41 +1,15 @@
 -- The rows of Paxos: what a replica makes of promises, votes and executed entries that it is sent.
 use Rattle.std.proofs.Common.{◌≡◌, ◌≤◌, ℕ, ◌&&◌, not, nat_le, eqb, Bool, true, false, List, Option, Some, None, refl, sym, subst}
-use Rattle.sc_base.specs.Among.{Each}
-use Rattle.sc_base.specs.Same.{same_ballot}
-use Rattle.sc_base.specs.declared.names.Ballot.{Ballot}
-use Rattle.sc_base.specs.declared.names.Draw.{Draw}
-use Rattle.sc_cmd.specs.declared.commands.Command.{Command}
-use Rattle.sc_mail.specs.declared.bodies.Mail.{Mail}
-use Rattle.sc_mail.specs.declared.bodies.MailBody.TheVariants.{Promise, Accepted, Nack}
-use Rattle.sc_base.specs.Roster.{is_member}
-use Rattle.sc_base.specs.Majority.{is_majority}
-use Rattle.sc_paxos_words.proofs.ListLemmas.{Each-append}
-use Rattle.sc_paxos_words.specs.declared.reports.Report.{Report}
-use Rattle.sc_paxos_words.specs.declared.flights.Flight.{Flight}
-use Rattle.sc_paxos_words.specs.declared.answers.PrepareAnswer.{PrepareAnswer}
+use Rattle.sc_base.specs.Definitions.{Each, same_ballot, is_member, is_majority}
+use Rattle.sc_node_table.specs.Values.{Ballot, Draw, Command, Mail, Promise, Accepted, Nack, Report, Flight, PrepareAnswer, AcceptAnswer, Counted, Chosen, NotYet}
+use Rattle.sc_paxos_words.proofs.Lemmas.{Each-append}
 use Rattle.sc_paxos_words.specs.declared.answers.PrepareAnswer.TheVariants as Prepared
-use Rattle.sc_paxos_words.specs.declared.answers.AcceptAnswer.{AcceptAnswer}
 use Rattle.sc_paxos_words.specs.declared.answers.AcceptAnswer.TheVariants as Asked
-use Rattle.sc_paxos_words.specs.declared.answers.Counted.{Counted}
-use Rattle.sc_paxos_words.specs.declared.answers.Counted.TheVariants.{Chosen, NotYet}
-use Rattle.sc_paxos_words.specs.Preparing.{prepared}
-use Rattle.sc_paxos_words.specs.Accepting.{accepted as accepted_by}
-use Rattle.sc_paxos_words.specs.Acceptors.{AcceptorState}
-use Rattle.sc_paxos_words.specs.Leaders.{LeaderState, flight_at, promise_counted}
-use Rattle.sc_paxos_words.specs.Votes.{kept_voters, voters_after, tallied, vote_at, counted}
-use Rattle.sc_node_table.specs.Slots.{with_slot}
-use Rattle.sc_node_table.specs.Replica.{ReplicaState, Place, Executed, childless, name_of, next, set_at}
-use Rattle.sc_node_table.specs.Mails.{sent}
-use Rattle.sc_node_table.specs.Election.{saw}
-use Rattle.sc_node_table.specs.Execute.{executed, has_room}
-use Rattle.sc_node_table.specs.Install.{install_to}
-use Rattle.sc_node_table.specs.Pump.{pumped}
-use Rattle.sc_node_table.specs.Rows.{most_taught, ask_row}
-use Rattle.sc_node_table.specs.Voting.{hinted, promise_to, prepare_row, accepted_to, took, accept_row, leads, promise_row, readied, vote_tallied, voted, accepted_row, nack_row}
-use Rattle.sc_names_law.specs.Names.{Opt}
-use Rattle.sc_names_law.proofs.Lists.{opt_find, slot_with, flight_without, voters_with}
-use Rattle.sc_law_lemmas.proofs.Places.{promised_place, asked_place}
-use Rattle.sc_law_lemmas.proofs.Ways.{either_way}
+use Rattle.sc_paxos_words.specs.Definitions.{prepared, accepted as accepted_by, AcceptorState, LeaderState, flight_at, promise_counted, kept_voters, voters_after, tallied, vote_at, counted}
+use Rattle.sc_node_table.specs.Definitions.{with_slot, ReplicaState, Place, Executed, childless, name_of, next, set_at, sent, saw, executed, has_room, install_to, pumped, most_taught, ask_row, hinted, promise_to, prepare_row, accepted_to, took, accept_row, leads, promise_row, readied, vote_tallied, voted, accepted_row, nack_row}
+use Rattle.sc_names_law.specs.Definitions.{Opt}
+use Rattle.sc_names_law.proofs.Lemmas.{opt_find, slot_with, flight_without, voters_with}
+use Rattle.sc_law_lemmas.proofs.Lemmas.{promised_place, asked_place, either_way}
 use Rattle.sc_refusal_law.proofs.Keeping.{Kept, Flying, Reported, Holds}
 use Rattle.sc_refusal_law.proofs.Plain.{taught_plain}
 use Rattle.sc_refusal_law.proofs.Standing.{AllCaused, plain_caused, Stands, FineAs, Fine, turned_fine, resent, with_plain}

@@ -1,13 +1,8 @@
 -- A client over a lawful journal: it sends its requests one after another, and ends with the last.
 use Rattle.std.specs.Prelude.{◌≡◌, ℕ, ◌+◌, nat_le, List, [], ◌∷◌, ◌++◌, length, Option, Some, None, ◌⊎◌, if◌then◌else◌}
-use Rattle.sc_base.specs.declared.ops.Op.{Op}
-use Rattle.sc_base.specs.declared.ops.Reply.{Reply}
-use Rattle.sc_actor.specs.declared.rows.Input.{Input}
+use Rattle.sc_node_table.specs.Values.{Op, Reply, Input, OrderLine, Mail}
 use Rattle.sc_actor.specs.declared.rows.Input.TheVariants.{Go}
-use Rattle.sc_cmd.specs.declared.orders.OrderLine.{OrderLine}
-use Rattle.sc_mail.specs.declared.bodies.Mail.{Mail}
-use Rattle.sc_client_table.specs.Client.{Client}
-use Rattle.sc_client_table.specs.Turns.{InTurn, IsReplyTo, Waits}
+use Rattle.sc_client_table.specs.Definitions.{Client, InTurn, IsReplyTo, Waits}
 
 -- a number, where there is a request with it
 abbrev pub number_in : List Op → ℕ → Option ℕ

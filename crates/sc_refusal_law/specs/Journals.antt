@@ -1,28 +1,16 @@
 -- What every lawful journal says of refusals: each answer of a node has its cause, and so has each end of waiting; a replica that runs takes requests; a queue has at most one call of a client; and clients ask in turn.
 use Rattle.std.specs.Prelude.{◌≡◌, ℕ, ◌+◌, ◌==◌, ◌&&◌, Bool, true, false, List, [], ◌∷◌, ◌++◌, Some, if◌then◌else◌}
 use Rattle.std.specs.List.{list_any, find}
-use Rattle.sc_base.specs.Among.{Among}
-use Rattle.sc_base.specs.Same.{same_ballot, same_draw}
-use Rattle.sc_base.specs.declared.names.Ballot.{Ballot}
-use Rattle.sc_base.specs.declared.names.Draw.{Draw}
-use Rattle.sc_actor.specs.declared.actors.Seat.{Seat}
-use Rattle.sc_actor.specs.declared.rows.Event.{Event}
-use Rattle.sc_actor.specs.declared.rows.Event.TheVariants.{Deliver, Tick, Go, Told, Crash, Drop, Again}
-use Rattle.sc_actor.specs.declared.rows.Input.{Input}
-use Rattle.sc_actor.specs.declared.rows.Row.{Row}
-use Rattle.sc_actor.specs.Mail.{mails}
-use Rattle.sc_actor.specs.Replay.{input_of, value}
-use Rattle.sc_cmd.specs.declared.orders.OrderLine.{OrderLine}
-use Rattle.sc_mail.specs.declared.bodies.Mail.{Mail}
-use Rattle.sc_machine_table.specs.Transactions.{is_coordinating}
-use Rattle.sc_client_table.specs.Client.{Client as ClientState}
-use Rattle.sc_node_table.specs.Node.{NodeState}
-use Rattle.sc_node_table.specs.Replica.{ReplicaState, name_of, settled}
-use Rattle.sc_node_table.specs.Slots.{slots_ahead}
-use Rattle.sc_scenario.specs.Valid.{IsValid}
+use Rattle.sc_base.specs.Definitions.{Among, same_ballot, same_draw}
+use Rattle.sc_node_table.specs.Values.{Ballot, Draw, Seat, Event, Deliver, Tick, Go, Crash, Drop, Again, Input, Row, OrderLine, Mail, Node, Client}
+use Rattle.sc_actor.specs.declared.rows.Event.TheVariants.{Told}
+use Rattle.sc_actor.specs.Definitions.{mails, input_of, value}
+use Rattle.sc_machine_table.specs.Definitions.{is_coordinating}
+use Rattle.sc_client_table.specs.Definitions.{Client as ClientState}
+use Rattle.sc_node_table.specs.Definitions.{NodeState, ReplicaState, name_of, settled, slots_ahead}
+use Rattle.sc_scenario.specs.Definitions.{IsValid}
 use Rattle.sc_scenario.specs.declared.scenarios.Scenario.{Scenario}
-use Rattle.sc_sound.specs.Players.{Ahead, Lawful, Player, births, player_table}
-use Rattle.sc_mail.specs.declared.roles.Role.TheVariants.{Node, Client}
+use Rattle.sc_sound.specs.Definitions.{Ahead, Lawful, Player, births, player_table}
 use Rattle.sc_queue_law.specs.OneCall.{EachKeepsOneCall}
 use Rattle.sc_refusal_law.specs.ClientTurns.{KeepsTurn}
 use Rattle.sc_refusal_law.specs.NodeCauses.{AnswersHaveCauses, ActsHaveCauses, TakesRequests}

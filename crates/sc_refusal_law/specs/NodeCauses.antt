@@ -1,19 +1,9 @@
 -- A node's whole step: each answer that it sends has its cause at one of its replicas, and so has each end of waiting that is queued after it.
 use Rattle.std.specs.Prelude.{◌≡◌, ℕ, ◌≤◌, true, Option, None, Some, List, [], ◌∷◌, ◌++◌, ◌⊎◌}
-use Rattle.sc_base.specs.Among.{Among, Each}
-use Rattle.sc_base.specs.Limits.{client_actor}
-use Rattle.sc_base.specs.declared.names.Draw.{Draw}
-use Rattle.sc_base.specs.declared.ops.Op.{Op}
-use Rattle.sc_actor.specs.declared.rows.Input.{Input}
-use Rattle.sc_actor.specs.declared.rows.Input.TheVariants.{Got, Tick, Go, Told}
-use Rattle.sc_cmd.specs.declared.commands.Command.TheVariants.{GiveUp}
-use Rattle.sc_cmd.specs.declared.orders.OrderLine.{OrderLine}
-use Rattle.sc_mail.specs.declared.bodies.AnswerBody.{AnswerBody}
-use Rattle.sc_mail.specs.declared.bodies.AnswerBody.TheVariants.{NotLeader}
-use Rattle.sc_mail.specs.declared.bodies.Mail.{Mail}
-use Rattle.sc_mail.specs.declared.bodies.MailBody.TheVariants.{Request}
-use Rattle.sc_node_table.specs.Node.{NodeState, group_of_mail, group_of_order, replica_of, node_table}
-use Rattle.sc_node_table.specs.Replica.{ReplicaState, name_of, listed}
+use Rattle.sc_base.specs.Definitions.{Among, Each, client_actor}
+use Rattle.sc_node_table.specs.Values.{Draw, Op, Input, Got, GiveUp, OrderLine, AnswerBody, NotLeader, Mail, Request}
+use Rattle.sc_actor.specs.declared.rows.Input.TheVariants.{Tick, Go, Told}
+use Rattle.sc_node_table.specs.Definitions.{NodeState, group_of_mail, group_of_order, replica_of, node_table, ReplicaState, name_of, listed}
 use Rattle.sc_refusal_law.specs.Causes.{IfAnswer, IsNotLeader, MayGiveUp, StepHasCauses, ends_queued}
 
 -- the replica of a group that an input is for, if it is for one and there is a replica

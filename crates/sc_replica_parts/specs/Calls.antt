@@ -1,7 +1,6 @@
 -- Calls among commands.
 use Rattle.std.specs.Prelude.{Bool, true, false}
-use Rattle.sc_cmd.specs.declared.commands.Command.{Command}
-use Rattle.sc_cmd.specs.declared.commands.Command.TheVariants.{Call}
+use Rattle.sc_node_table.specs.Values.{Command, Call}
 
 -- whether a command is a call
 abbrev pub is_call : Command → Bool

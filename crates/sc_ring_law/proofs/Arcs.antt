@@ -1,7 +1,7 @@
 -- Arcs, as arithmetic round the circle.
 use Rattle.std.proofs.Common.{◌≡◌, ℕ, ◌+◌, ◌-◌, ◌%◌, ◌^◌, ◌<◌, ◌≤◌, ◌⊎◌, inl, inr, subst, sym, arith}
 use Rattle.std.proofs.lemmas.Bool.{cases_lt}
-use Rattle.sc_base.specs.Arc.{Arc, end_of, before, from, joined}
+use Rattle.sc_base.specs.Definitions.{Arc, end_of, before, from, joined}
 use Rattle.sc_ring_law.proofs.View.{IsOnRing, Holds}
 
 -- how far a position lies behind another, in two cases

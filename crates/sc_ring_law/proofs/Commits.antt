@@ -2,10 +2,9 @@
 use Rattle.std.proofs.Common.{◌≡◌, ℕ, ◌+◌, ◌^◌, ◌<◌, ◌≤◌, true, inl, inr, Option, Some, None, refl, sym, ◌∙◌, ap, subst}
 use Rattle.std.proofs.lemmas.Bool.{cond-true}
 use Rattle.std.proofs.lemmas.Option.{same_Some}
-use Rattle.sc_base.specs.Arc.{Arc, before, from, joined}
-use Rattle.sc_base.specs.Same.{same_draw}
+use Rattle.sc_base.specs.Definitions.{Arc, before, from, joined, same_draw}
 use Rattle.sc_base.specs.declared.names.Draw.{Draw}
-use Rattle.sc_base.proofs.NameLemmas.{same_name}
+use Rattle.sc_base.proofs.Lemmas.{same_name}
 use Rattle.sc_cmd.specs.declared.bodies.Body.{Body}
 use Rattle.sc_cmd.specs.declared.bodies.Offer.{Offer}
 use Rattle.sc_cmd.specs.declared.bodies.Watch.{Watch}
@@ -20,16 +19,11 @@ use Rattle.sc_cmd.specs.declared.votes.Frozen.{Frozen}
 use Rattle.sc_cmd.specs.declared.votes.Heard.{Heard}
 use Rattle.sc_cmd.specs.declared.votes.Outcome.{Outcome}
 use Rattle.sc_cmd.specs.declared.votes.Outcome.TheVariants.{Abort, Merged, Moved, Migrated, Divided}
-use Rattle.sc_machine_table.specs.Group.{Group}
-use Rattle.sc_machine_table.specs.Finishes.{participant_after, settled_in, finished, party_freed, watcher_after}
-use Rattle.sc_machine_table.specs.Machine.{applied}
-use Rattle.sc_log_entries.specs.Births.{division_of}
-use Rattle.sc_log_entries.specs.Effective.{after_outcome, is_commit}
-use Rattle.sc_log_entries.specs.Rings.{both_arcs, decided_by}
+use Rattle.sc_machine_table.specs.Definitions.{Group, participant_after, settled_in, finished, party_freed, watcher_after, applied}
+use Rattle.sc_log_entries.specs.Definitions.{division_of, after_outcome, is_commit, both_arcs, decided_by}
 use Rattle.sc_log_entries.specs.declared.Division.{Division}
-use Rattle.sc_ring_law.specs.Stories.{Story, Stories, put, unsigned, unsigned_watch, offer_for, watch_for}
-use Rattle.sc_ring_law.specs.Invariant.{Groups, LockOk, IsOwnBody, IsFrozen, IsAgreed, Facts}
-use Rattle.sc_log_entries.proofs.Names.{draw_cases}
+use Rattle.sc_ring_law.specs.Definitions.{Story, Stories, put, unsigned, unsigned_watch, offer_for, watch_for, Groups, LockOk, IsOwnBody, IsFrozen, IsAgreed, Facts}
+use Rattle.sc_log_entries.proofs.Lemmas.{draw_cases}
 use Rattle.sc_ring_law.proofs.View.{Ring, HeldBy, Holds, merge_view, move_view, split_view, IsOnRing}
 use Rattle.sc_ring_law.proofs.Cover.{at-same, at-is, at-other}
 use Rattle.sc_ring_law.proofs.Links.{IsPair, pair_meets}

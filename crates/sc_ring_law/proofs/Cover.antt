@@ -1,12 +1,11 @@
 -- A ring with two places edited covers where the two hold together what they held before.
 use Rattle.std.proofs.Common.{◌≡◌, ℕ, ◌^◌, ◌<◌, ◌⊎◌, inl, inr, Option, Some, refl, sym, ◌∙◌, ap, subst}
 use Rattle.std.proofs.lemmas.Bool.{cond-true, cond-false}
-use Rattle.sc_base.specs.Same.{same_draw}
+use Rattle.sc_base.specs.Definitions.{same_draw, Arc}
 use Rattle.sc_base.specs.declared.names.Draw.{Draw}
-use Rattle.sc_base.proofs.NameLemmas.{same_name}
-use Rattle.sc_ring_law.specs.Stories.{put}
-use Rattle.sc_log_entries.proofs.Names.{draw_cases, other_name}
-use Rattle.sc_base.specs.Arc.{Arc}
+use Rattle.sc_base.proofs.Lemmas.{same_name}
+use Rattle.sc_ring_law.specs.Definitions.{put}
+use Rattle.sc_log_entries.proofs.Lemmas.{draw_cases, other_name}
 use Rattle.sc_ring_law.proofs.View.{IsOnRing, HeldBy, Ring, CoversBy}
 
 pub at-same : {X : Type 0} (f : Draw → X) (g : Draw) (x : X) → put f g x g ≡ x

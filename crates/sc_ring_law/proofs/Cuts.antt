@@ -4,18 +4,17 @@ use Rattle.std.specs.List.{filter, flat_map}
 use Rattle.std.specs.Option.{option_map}
 use Rattle.std.proofs.Common.{◌≡◌, ◌≢◌, true, false, cond, List, [], ◌∷◌, inl, inr, Option, Some, None, refl, sym, ◌∙◌, ap, subst}
 use Rattle.std.proofs.lemmas.Bool.{cases_Bool, cond-true, cond-false, cond_both}
-use Rattle.sc_base.specs.Among.{Among, Each}
-use Rattle.sc_base.specs.Arc.{Arc, before, from}
+use Rattle.sc_base.specs.Definitions.{Among, Each, Arc, before, from}
 use Rattle.sc_base.specs.declared.names.Draw.{Draw}
-use Rattle.sc_base.proofs.NameLemmas.{draw_is, same_name}
+use Rattle.sc_base.proofs.Lemmas.{draw_is, same_name}
 use Rattle.sc_log_entries.specs.declared.Cut.{Cut}
 use Rattle.sc_log_entries.specs.declared.Division.{Division}
-use Rattle.sc_log_entries.specs.Rings.{is_cut_of, arc_in, recut, parts_of}
-use Rattle.sc_ring_law.specs.Stories.{put}
-use Rattle.sc_log_entries.proofs.Names.{draw_cases, other_name}
+use Rattle.sc_log_entries.specs.Definitions.{is_cut_of, arc_in, recut, parts_of}
+use Rattle.sc_ring_law.specs.Definitions.{put}
+use Rattle.sc_log_entries.proofs.Lemmas.{draw_cases, other_name}
 use Rattle.sc_ring_law.proofs.Cover.{at-is, at-other}
 use Rattle.sc_ring_law.proofs.View.{Ring}
-use Rattle.sc_paxos_words.proofs.ListLemmas.{Each-among, find_found}
+use Rattle.sc_paxos_words.proofs.Lemmas.{Each-among, find_found}
 use Rattle.sc_ring_law.proofs.Finds.{find_map, find_first, find_skips, each_map, Pairwise, some_none}
 use Rattle.std.proofs.lemmas.Option.{none-some, same_Some}
 

@@ -4,12 +4,9 @@ use Rattle.std.specs.List.{list_any}
 use Rattle.std.proofs.Common.{◌≡◌, ℕ, true, false, cond, [], ◌∷◌, Option, Some, None, refl, sym, ◌∙◌, ap, subst}
 use Rattle.std.proofs.lemmas.Bool.{cond_both, and_parts, cond-true, cond-false}
 use Rattle.std.proofs.lemmas.Option.{same_Some}
-use Rattle.sc_base.specs.Arc.{holds, before}
-use Rattle.sc_base.specs.Same.{same_draw}
+use Rattle.sc_base.specs.Definitions.{holds, before, same_draw, is_member, united}
 use Rattle.sc_base.specs.declared.names.Draw.{Draw}
-use Rattle.sc_base.proofs.NameLemmas.{same_name}
-use Rattle.sc_base.specs.Roster.{is_member}
-use Rattle.sc_base.specs.Union.{united}
+use Rattle.sc_base.proofs.Lemmas.{same_name}
 use Rattle.sc_cmd.specs.declared.bodies.Body.{Body}
 use Rattle.sc_cmd.specs.declared.bodies.Body.TheVariants as At
 use Rattle.sc_cmd.specs.declared.cores.Lock.{Lock}
@@ -24,17 +21,12 @@ use Rattle.sc_cmd.specs.declared.votes.Past.{Past}
 use Rattle.sc_cmd.specs.declared.votes.Past.TheVariants as Cast
 use Rattle.sc_cmd.specs.declared.votes.Vote.{Vote}
 use Rattle.sc_cmd.specs.declared.votes.Vote.TheVariants as Ballot
-use Rattle.sc_cmd.specs.Effects.{is_divided, decided_in}
-use Rattle.sc_machine_table.specs.Group.{Group, group_of}
-use Rattle.sc_machine_table.specs.Plans.{Plan, can_cut, can_join, can_split, can_repart, can_migrate, has_key_of, may_merge, merged_route, merged_group, closing_group, part_gift, giving_group, giving_plan, repart_plan, split_plan, taken, taking_group, taking_plan, migrated_group}
-use Rattle.sc_machine_table.specs.Splits.{left_group, child_of}
-use Rattle.sc_machine_table.specs.Transactions.{decided_group, aborted, committed, heard_group, granted, participant_answered, asks_watcher, vote_recorded, released, watch_answered, watch_recorded, is_coordinating}
-use Rattle.sc_log_entries.specs.Births.{division_in}
+use Rattle.sc_cmd.specs.Definitions.{is_divided, decided_in}
+use Rattle.sc_machine_table.specs.Definitions.{Group, group_of, Plan, can_cut, can_join, can_split, can_repart, can_migrate, has_key_of, may_merge, merged_route, merged_group, closing_group, part_gift, giving_group, giving_plan, repart_plan, split_plan, taken, taking_group, taking_plan, migrated_group, left_group, child_of, decided_group, aborted, committed, heard_group, granted, participant_answered, asks_watcher, vote_recorded, released, watch_answered, watch_recorded, is_coordinating}
+use Rattle.sc_log_entries.specs.Definitions.{division_in}
 use Rattle.sc_log_entries.specs.declared.Division.{Division}
-use Rattle.sc_ring_law.specs.Allowed.{IsVoteCast, IsWatchVoteCast}
-use Rattle.sc_ring_law.specs.Stories.{Story, Stories, put, retold, merge_watch, with_decision, with_answer}
-use Rattle.sc_ring_law.specs.Invariant.{Groups, IsEarned, Facts}
-use Rattle.sc_log_entries.proofs.Names.{names_differ}
+use Rattle.sc_ring_law.specs.Definitions.{IsVoteCast, IsWatchVoteCast, Story, Stories, put, retold, merge_watch, with_decision, with_answer, Groups, IsEarned, Facts}
+use Rattle.sc_log_entries.proofs.Lemmas.{names_differ}
 use Rattle.sc_ring_law.proofs.Notes.{any_keeps, any_drops, any_new, is_vote_on}
 use Rattle.sc_ring_law.proofs.View.{Ring}
 use Rattle.sc_ring_law.proofs.Cover.{at-same, at-other}

@@ -1,9 +1,9 @@
 -- What entries do to the effective records.
 use Rattle.std.proofs.Common.{◌≡◌, ℕ, false, List, ◌⊎◌, inl, inr, Option, Some, None, refl, sym, ◌∙◌, ap, subst}
 use Rattle.std.specs.FinMap.{get, empty}
-use Rattle.sc_base.specs.Arc.{Arc}
+use Rattle.sc_base.specs.Definitions.{Arc}
 use Rattle.sc_base.specs.declared.names.Draw.{Draw}
-use Rattle.sc_ideal.specs.IdealStore.{Contents, holds_key}
+use Rattle.sc_ideal.specs.Definitions.{Contents, holds_key}
 use Rattle.sc_cmd.specs.declared.bodies.Offer.{Offer}
 use Rattle.sc_cmd.specs.declared.bodies.Watch.{Watch}
 use Rattle.sc_cmd.specs.declared.cores.Lock.{Lock}
@@ -11,12 +11,11 @@ use Rattle.sc_cmd.specs.declared.cores.Lock.TheVariants.{Free, Coordinating, Pro
 use Rattle.sc_cmd.specs.declared.links.Route.{Route}
 use Rattle.sc_cmd.specs.declared.votes.Outcome.{Outcome}
 use Rattle.sc_cmd.specs.declared.votes.Outcome.TheVariants.{Abort, Merged, Moved, Migrated, Divided}
-use Rattle.sc_machine_table.specs.Group.{Group}
-use Rattle.sc_log_entries.specs.Effective.{after_outcome}
-use Rattle.sc_ring_law.specs.Stories.{Story, Stories, put, unsigned, unsigned_watch}
-use Rattle.sc_ring_law.specs.Invariant.{Groups, LockOk}
+use Rattle.sc_machine_table.specs.Definitions.{Group}
+use Rattle.sc_log_entries.specs.Definitions.{after_outcome}
+use Rattle.sc_ring_law.specs.Definitions.{Story, Stories, put, unsigned, unsigned_watch, Groups, LockOk}
 use Rattle.sc_ring_law.proofs.View.{View, Ring, HeldBy}
-use Rattle.sc_log_entries.proofs.Names.{draw_cases}
+use Rattle.sc_log_entries.proofs.Lemmas.{draw_cases}
 use Rattle.sc_ring_law.proofs.Cover.{at-is, at-other}
 use Rattle.sc_ring_law.proofs.Facts.{IsOf}
 use Rattle.sc_ring_law.proofs.Recut.{IsWhole}

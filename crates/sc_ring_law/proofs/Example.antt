@@ -5,8 +5,7 @@ use Rattle.std.proofs.lemmas.Bool.{cases_lt, eq-eqb, ltb-true, lt-ltb}
 use Rattle.std.specs.FinMap.{get-empty, empty, entries, entries_sorted}
 use Rattle.std.specs.Ordering.{nat_cmp}
 use Rattle.std.specs.Cmp.Lexicographic.{slice_cmp}
-use Rattle.sc_base.specs.Among.{Among}
-use Rattle.sc_base.specs.Arc.{IsArc, holds, offset}
+use Rattle.sc_base.specs.Definitions.{Among, IsArc, holds, offset}
 use Rattle.sc_base.specs.declared.names.Draw.{Draw}
 use Rattle.sc_base.specs.declared.ops.Noted.{Noted}
 use Rattle.sc_cmd.specs.declared.bodies.Body.TheVariants as At
@@ -14,19 +13,11 @@ use Rattle.sc_cmd.specs.declared.commands.Command.TheVariants.{Call, Begin, Prep
 use Rattle.sc_cmd.specs.declared.effects.Effect.{Effect}
 use Rattle.sc_cmd.specs.declared.votes.Past.TheVariants as Cast
 use Rattle.sc_cmd.specs.declared.votes.Vote.TheVariants as Ballot
-use Rattle.sc_machine_table.specs.Group.{Group, group_of}
-use Rattle.sc_machine_table.specs.Machine.{served_by_note}
-use Rattle.sc_machine_table.specs.Plans.{has_key_of, merged_group}
-use Rattle.sc_machine_table.specs.Transactions.{begun_group, heard_group, committed}
-use Rattle.sc_machine_table.specs.Votes.{watched}
+use Rattle.sc_machine_table.specs.Definitions.{Group, group_of, served_by_note, has_key_of, merged_group, begun_group, heard_group, committed, watched}
 use Rattle.sc_log_entries.specs.declared.Cut.{Cut}
 use Rattle.sc_log_entries.specs.declared.LogEntry.{LogEntry}
-use Rattle.sc_log_entries.specs.Rings.{Covers, first_cut}
-use Rattle.sc_log_entries.specs.Worlds.{with_result, first_world, world_of, world_after}
-use Rattle.sc_ring_law.specs.Allowed.{AreAllowed, ToldWorld, first_told, told_on, told_after}
-use Rattle.sc_ring_law.specs.Stories.{no_stories, stories_after}
-use Rattle.sc_ring_law.specs.Laws.{BeginInPlace, BeginsInPlace}
-use Rattle.sc_ring_law.specs.Example.{drawn, told_entry, ring_cut_of, sources, merge_put, watcher_put, merge_get, group_one, group_two, group_three, merge_bases, two_called, two_frozen, merge_offer, merge_watch_asked, merge_outcome, merge_entries, split_left, split_right, split_bases, split_entries, MergeIsAllowed, SplitIsAllowed}
+use Rattle.sc_log_entries.specs.Definitions.{Covers, first_cut, with_result, first_world, world_of, world_after}
+use Rattle.sc_ring_law.specs.Definitions.{AreAllowed, ToldWorld, first_told, told_on, told_after, no_stories, stories_after, BeginInPlace, BeginsInPlace, drawn, told_entry, ring_cut_of, sources, merge_put, watcher_put, merge_get, group_one, group_two, group_three, merge_bases, two_called, two_frozen, merge_offer, merge_watch_asked, merge_outcome, merge_entries, split_left, split_right, split_bases, split_entries, MergeIsAllowed, SplitIsAllowed}
 use Rattle.sc_ring_law.proofs.Finds.{all_pairs}
 use Rattle.sc_ring_law.proofs.Insides.{clear_of}
 use Rattle.sc_ring_law.proofs.Rings.{AreApart}

@@ -10,12 +10,9 @@ use Rattle.sc_cmd.specs.declared.cores.Lock.TheVariants.{Free, Coordinating, Pro
 use Rattle.sc_cmd.specs.declared.votes.Frozen.{Frozen}
 use Rattle.sc_cmd.specs.declared.votes.Heard.{Heard}
 use Rattle.sc_cmd.specs.declared.votes.Vote.TheVariants.{Yes}
-use Rattle.sc_machine_table.specs.Group.{Group}
-use Rattle.sc_machine_table.specs.Plans.{frozen_of}
-use Rattle.sc_machine_table.specs.Votes.{has_voted}
-use Rattle.sc_ring_law.specs.Stories.{Story, Stories, put, unsigned_watch}
-use Rattle.sc_ring_law.specs.Invariant.{Groups, has_decided, has_born, LockOk, GroupOk, IsFrozen, IsAgreed, IsVoter, IsWatcher, StoryOk, Origin, Facts}
-use Rattle.sc_log_entries.proofs.Names.{draw_cases}
+use Rattle.sc_machine_table.specs.Definitions.{Group, frozen_of, has_voted}
+use Rattle.sc_ring_law.specs.Definitions.{Story, Stories, put, unsigned_watch, Groups, has_decided, has_born, LockOk, GroupOk, IsFrozen, IsAgreed, IsVoter, IsWatcher, StoryOk, Origin, Facts}
+use Rattle.sc_log_entries.proofs.Lemmas.{draw_cases}
 use Rattle.sc_ring_law.proofs.Cover.{at-same, at-is, at-other, from_at}
 use Rattle.sc_ring_law.proofs.Finds.{some_none}
 

@@ -1,6 +1,5 @@
 -- Pairs that lie on an arc, through cuts and joins.
-use Rattle.std.specs.Prelude.{is_some, ◌||◌, not}
-use Rattle.std.specs.List.{list_any}
+use Rattle.std.specs.Prelude.{is_some, ◌||◌}
 use Rattle.std.proofs.Common.{◌≡◌, ℕ, ◌+◌, ◌-◌, ◌%◌, ◌^◌, ◌<◌, ◌≤◌, Bool, true, false, List, [], ◌∷◌, inl, inr, Some, None, refl, sym, ◌∙◌, ap, arith}
 use Rattle.std.proofs.lemmas.Bool.{cases_Bool, cases_lt, cond-true, cond-false, or_from, or_parts}
 use Rattle.std.specs.declared.cmp.Ordering.{Ordering}
@@ -8,13 +7,11 @@ use Rattle.std.specs.declared.cmp.Ordering.TheVariants.{Less, Equal, Greater}
 use Rattle.std.specs.Ordering.{nat_cmp, eq_by_cmp, is_eq, ordering_reverse}
 use Rattle.std.specs.Cmp.Lexicographic.{slice_cmp, nat_list_cmp_total}
 use Rattle.std.specs.FinMap.{find, is_sorted, get, empty, entries, get-entries, entries_sorted, get-empty}
-use Rattle.sc_base.specs.Arc.{Arc, before, from, joined, offset, end_of}
-use Rattle.sc_base.specs.Text.{pos_of}
-use Rattle.sc_base.proofs.ArcLemmas.{joins_hold}
-use Rattle.sc_ideal.specs.IdealStore.{Contents, holds_key, part_of, with_pairs}
-use Rattle.sc_ideal.proofs.Apart.{get-part}
-use Rattle.sc_ideal.proofs.Joins.{or_else, get-with_pairs, none_past, sorted_rest}
-use Rattle.sc_machine_table.specs.Plans.{has_key_of}
+use Rattle.sc_base.specs.Definitions.{Arc, before, from, joined, offset, end_of, pos_of}
+use Rattle.sc_base.proofs.Lemmas.{joins_hold}
+use Rattle.sc_ideal.specs.Definitions.{Contents, holds_key, part_of, with_pairs}
+use Rattle.sc_ideal.proofs.Lemmas.{get-part, or_else, get-with_pairs, none_past, sorted_rest}
+use Rattle.sc_machine_table.specs.Definitions.{has_key_of}
 use Rattle.sc_ring_law.proofs.View.{IsOnRing, Holds}
 use lib.Dec.{T}
 use Rattle.std.proofs.lemmas.Option.{none-some}

@@ -25,3 +25,4 @@ pub mod Start
 pub mod Sound
 pub mod Grows
 pub mod Example
+pub mod Lemmas

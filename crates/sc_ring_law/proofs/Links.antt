@@ -2,9 +2,9 @@
 use Rattle.std.proofs.Common.{◌≡◌, ℕ, ◌^◌, ◌<◌, inl, inr, Some, None, refl, sym, ◌∙◌, ap}
 use Rattle.std.proofs.lemmas.Option.{same_Some}
 use Rattle.sc_base.specs.declared.names.Draw.{Draw}
-use Rattle.sc_ring_law.specs.Stories.{put}
-use Rattle.sc_log_entries.proofs.Names.{draw_cases}
-use Rattle.sc_base.specs.Arc.{Arc, end_of, before, from, joined}
+use Rattle.sc_ring_law.specs.Definitions.{put}
+use Rattle.sc_log_entries.proofs.Lemmas.{draw_cases}
+use Rattle.sc_base.specs.Definitions.{Arc, end_of, before, from, joined}
 use Rattle.sc_ring_law.proofs.View.{IsOnRing, Holds, Ring, View, IsLinked, split_view, merge_view, move_view}
 use Rattle.sc_ring_law.proofs.Arcs.{end_left, end_right, end_joined}
 use Rattle.sc_ring_law.proofs.Cover.{at-same, at-is, at-other}

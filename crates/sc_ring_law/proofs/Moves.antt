@@ -3,22 +3,17 @@ use Rattle.std.specs.Prelude.{not, ◌&&◌, nat_le, ◌==◌, length, ◌∷◌
 use Rattle.std.proofs.Common.{◌≡◌, ℕ, ◌+◌, ◌-◌, ◌^◌, ◌<◌, ◌≤◌, true, false, inl, inr, Option, Some, None, refl, sym, ◌∙◌, ap, subst, arith}
 use Rattle.std.proofs.lemmas.Bool.{cond-true, cond-false, and_from, and_parts, not_from_false, not-true, eq-eqb, eqb-false, le-leb, ltb-true, ltb-false}
 use Rattle.std.specs.FinMap.{entries, empty}
-use Rattle.sc_base.specs.Arc.{Arc, before, from, joined, offset, end_of, holds}
+use Rattle.sc_base.specs.Definitions.{Arc, before, from, joined, offset, end_of, holds, united}
 use Rattle.sc_base.specs.declared.names.Draw.{Draw}
-use Rattle.sc_ideal.specs.IdealStore.{part_of, with_pairs}
-use Rattle.sc_base.specs.Union.{united}
+use Rattle.sc_ideal.specs.Definitions.{part_of, with_pairs}
 use Rattle.sc_cmd.specs.declared.bodies.Body.TheVariants as At
 use Rattle.sc_cmd.specs.declared.votes.Frozen.{Frozen}
 use Rattle.sc_cmd.specs.declared.votes.Outcome.{Outcome}
 use Rattle.sc_cmd.specs.declared.votes.Outcome.TheVariants.{Moved, Migrated}
 use Rattle.sc_cmd.specs.declared.votes.Vote.TheVariants as Ballot
-use Rattle.sc_machine_table.specs.Group.{Group}
-use Rattle.sc_machine_table.specs.Finishes.{can_gain, gained_group, lost_group, welcomed_group, participant_after, party_freed}
-use Rattle.sc_machine_table.specs.Plans.{can_cut, can_join, has_key_of, part_gift, giving_group, taking_group, migrated_group}
-use Rattle.sc_machine_table.specs.Transactions.{decided_group}
-use Rattle.sc_ring_law.specs.Stories.{Story, Stories, put}
-use Rattle.sc_ring_law.specs.Invariant.{Groups}
-use Rattle.sc_log_entries.proofs.Names.{draw_cases}
+use Rattle.sc_machine_table.specs.Definitions.{Group, can_gain, gained_group, lost_group, welcomed_group, participant_after, party_freed, can_cut, can_join, has_key_of, part_gift, giving_group, taking_group, migrated_group, decided_group}
+use Rattle.sc_ring_law.specs.Definitions.{Story, Stories, put, Groups}
+use Rattle.sc_log_entries.proofs.Lemmas.{draw_cases}
 use Rattle.sc_ring_law.proofs.View.{Ring, Holds, move_view}
 use Rattle.sc_ring_law.proofs.Arcs.{end_right, right_is, left_is}
 use Rattle.sc_ring_law.proofs.Links.{IsPair, pair_meets}
@@ -38,10 +33,10 @@ cut_is arc at e =
     let p = and_parts (holds arc at) (not (at == arc.lo)) e in
     record { held = ltb-true (offset arc at) arc.len p.0; inside = eqb-false at arc.lo (not-true (at == arc.lo) p.1) }
 
-less_room : (a b o : ℕ) → a + b ≤ 2 ^ 32 → o < a → (a - o) + b ≤ 2 ^ 32
+pub less_room : (a b o : ℕ) → a + b ≤ 2 ^ 32 → o < a → (a - o) + b ≤ 2 ^ 32
 less_room a b o r h = omega (arith, r, h)
 
-part_room : (a b o : ℕ) → a + b ≤ 2 ^ 32 → o < b → a + o ≤ 2 ^ 32
+pub part_room : (a b o : ℕ) → a + b ≤ 2 ^ 32 → o < b → a + o ≤ 2 ^ 32
 part_room a b o r h = omega (arith, r, h)
 
 module _ (owner : Draw → Option Draw) (ring : Ring) (gs : Groups) (ys : Stories) (g : Draw) (s : Group) (tx : Draw) (at : ℕ) (y : Story) (d : IsDeciding owner gs ys g s tx (At.Repart at) None y) (fz : Frozen) (vote : y.vote ≡ Some (Ballot.Yes fz)) where

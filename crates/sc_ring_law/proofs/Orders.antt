@@ -4,11 +4,9 @@ use Rattle.std.specs.List.{list_any}
 use Rattle.std.proofs.Common.{◌≡◌, ℕ, ◌^◌, ◌<◌, Bool, true, false, cond, [], ◌∷◌, inl, inr, Option, Some, None, refl, sym, ◌∙◌, ap, subst}
 use Rattle.std.proofs.lemmas.Bool.{cases_Bool, cond_both, cond-true, or_parts, not-false, eqb-false, ltb-true}
 use Rattle.std.proofs.lemmas.Option.{same_Some}
-use Rattle.sc_base.specs.Arc.{holds, offset}
-use Rattle.sc_base.specs.Same.{same_draw}
+use Rattle.sc_base.specs.Definitions.{holds, offset, same_draw, united}
 use Rattle.sc_base.specs.declared.names.Draw.{Draw}
-use Rattle.sc_base.proofs.NameLemmas.{draw_is, same_name}
-use Rattle.sc_base.specs.Union.{united}
+use Rattle.sc_base.proofs.Lemmas.{draw_is, same_name}
 use Rattle.sc_cmd.specs.declared.bodies.Body.{Body}
 use Rattle.sc_cmd.specs.declared.bodies.Body.TheVariants as At
 use Rattle.sc_cmd.specs.declared.bodies.Offer.{Offer}
@@ -22,20 +20,12 @@ use Rattle.sc_cmd.specs.declared.orders.OrderRefusal.TheVariants.{BadBoundary}
 use Rattle.sc_cmd.specs.declared.votes.Heard.{Heard}
 use Rattle.sc_cmd.specs.declared.votes.Outcome.{Outcome}
 use Rattle.sc_cmd.specs.declared.votes.Outcome.TheVariants.{Abort, Merged, Moved, Migrated, Divided}
-use Rattle.sc_cmd.specs.Cores.{is_alone}
-use Rattle.sc_machine_table.specs.Group.{Group, group_of}
-use Rattle.sc_machine_table.specs.Finishes.{can_gain, gained_group, lost_group, welcomed_group, participant_after, settled_in, party_freed, watcher_after, watch_ended, finished}
-use Rattle.sc_machine_table.specs.Machine.{split_group, ordered_by}
-use Rattle.sc_machine_table.specs.Orders.{refusal_of, split_refused}
-use Rattle.sc_machine_table.specs.Plans.{can_cut, has_key_of}
-use Rattle.sc_machine_table.specs.Splits.{left_group, child_of}
-use Rattle.sc_machine_table.specs.Transactions.{begun_group}
-use Rattle.sc_log_entries.specs.Births.{division_of}
-use Rattle.sc_log_entries.specs.Effective.{after_outcome, is_commit}
+use Rattle.sc_cmd.specs.Definitions.{is_alone}
+use Rattle.sc_machine_table.specs.Definitions.{Group, group_of, can_gain, gained_group, lost_group, welcomed_group, participant_after, settled_in, party_freed, watcher_after, watch_ended, finished, split_group, ordered_by, refusal_of, split_refused, can_cut, has_key_of, left_group, child_of, begun_group}
+use Rattle.sc_log_entries.specs.Definitions.{division_of, after_outcome, is_commit}
 use Rattle.sc_log_entries.specs.declared.Division.{Division}
-use Rattle.sc_ring_law.specs.Stories.{Story, Stories, put, new_story, stories_after}
-use Rattle.sc_ring_law.specs.Invariant.{Groups, LockOk}
-use Rattle.sc_log_entries.proofs.Names.{names_differ}
+use Rattle.sc_ring_law.specs.Definitions.{Story, Stories, put, new_story, stories_after, Groups, LockOk}
+use Rattle.sc_log_entries.proofs.Lemmas.{names_differ}
 use Rattle.sc_ring_law.proofs.Notes.{any_keeps, any_new, ended_keeps, is_vote_on}
 use Rattle.sc_ring_law.proofs.View.{Ring}
 use Rattle.sc_ring_law.proofs.Cover.{at-same, at-other}

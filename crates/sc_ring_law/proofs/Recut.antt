@@ -1,9 +1,9 @@
 -- Two cuts cut anew.
 use Rattle.std.proofs.Common.{◌≡◌, ℕ, ◌+◌, ◌^◌, ◌<◌, ◌≤◌, inl, inr, Option, Some, None, refl, sym, ◌∙◌, subst, arith}
-use Rattle.sc_base.specs.Arc.{Arc, end_of, before, from, joined}
+use Rattle.sc_base.specs.Definitions.{Arc, end_of, before, from, joined}
 use Rattle.sc_ring_law.proofs.View.{IsOnRing, Holds, HeldBy, Ring, CoversBy, View, IsLinked, split_view, merge_view, move_view}
 use Rattle.sc_base.specs.declared.names.Draw.{Draw}
-use Rattle.sc_ring_law.specs.Stories.{put}
+use Rattle.sc_ring_law.specs.Definitions.{put}
 use Rattle.sc_ring_law.proofs.Arcs.{to_parts, from_left, from_right, not_both, left_is, right_is, from_joined, to_joined, end_left, end_right, end_joined}
 use Rattle.sc_ring_law.proofs.Cover.{IsRecut, covers_edit}
 use Rattle.sc_ring_law.proofs.Links.{differ, IsPair, pair_meets, linked_split, linked_merge, linked_move}

@@ -1,10 +1,9 @@
 -- The commits: merges, moved boundaries, members that move on, and splits.
 use Rattle.std.proofs.Common.{◌≡◌, true, cond, Option, Some, None, refl, sym, ◌∙◌, ap, subst}
 use Rattle.std.proofs.lemmas.Option.{same_Some}
-use Rattle.sc_base.specs.Arc.{joined}
-use Rattle.sc_base.specs.Same.{same_draw}
+use Rattle.sc_base.specs.Definitions.{joined, same_draw}
 use Rattle.sc_base.specs.declared.names.Draw.{Draw}
-use Rattle.sc_ideal.specs.IdealStore.{with_pairs}
+use Rattle.sc_ideal.specs.Definitions.{with_pairs}
 use Rattle.sc_cmd.specs.declared.bodies.Body.{Body}
 use Rattle.sc_cmd.specs.declared.bodies.Body.TheVariants as At
 use Rattle.sc_cmd.specs.declared.bodies.Offer.{Offer}
@@ -15,16 +14,12 @@ use Rattle.sc_cmd.specs.declared.votes.Outcome.{Outcome}
 use Rattle.sc_cmd.specs.declared.votes.Outcome.TheVariants.{Merged}
 use Rattle.sc_cmd.specs.declared.votes.Past.TheVariants as Cast
 use Rattle.sc_cmd.specs.declared.votes.Vote.TheVariants as Ballot
-use Rattle.sc_machine_table.specs.Group.{Group}
-use Rattle.sc_machine_table.specs.Finishes.{participant_after, settled_in, party_freed, watcher_after}
-use Rattle.sc_machine_table.specs.Plans.{merged_link, merged_route, merged_group, closing_group}
-use Rattle.sc_machine_table.specs.Transactions.{decided_group}
+use Rattle.sc_machine_table.specs.Definitions.{Group, participant_after, settled_in, party_freed, watcher_after, merged_link, merged_route, merged_group, closing_group, decided_group}
 use Rattle.sc_cmd.specs.declared.cores.Lock.TheVariants.{Free}
-use Rattle.sc_log_entries.specs.Effective.{is_commit}
-use Rattle.sc_base.proofs.NameLemmas.{draw_is}
-use Rattle.sc_ring_law.specs.Stories.{Story, Stories, unsigned, unsigned_watch, offer_for, offer_with, watch_for, watch_with}
-use Rattle.sc_ring_law.specs.Invariant.{Groups, IsFrozen}
-use Rattle.sc_log_entries.proofs.Names.{other_name}
+use Rattle.sc_log_entries.specs.Definitions.{is_commit}
+use Rattle.sc_base.proofs.Lemmas.{draw_is}
+use Rattle.sc_ring_law.specs.Definitions.{Story, Stories, unsigned, unsigned_watch, offer_for, offer_with, watch_for, watch_with, Groups, IsFrozen}
+use Rattle.sc_log_entries.proofs.Lemmas.{other_name}
 use Rattle.sc_ring_law.proofs.View.{Ring}
 use Rattle.sc_ring_law.proofs.Links.{not_back}
 use Rattle.sc_ring_law.proofs.Effects.{living, arc_of, succ_of, view_of, Good, Old, living_is}

@@ -4,7 +4,7 @@ use Rattle.std.proofs.Common.{◌≡◌, ℕ, true, false, [], ◌∷◌, ◌⊎
 use Rattle.std.proofs.lemmas.Bool.{both_ways}
 use Rattle.std.proofs.lemmas.Option.{same_Some}
 use Rattle.sc_base.specs.declared.names.Draw.{Draw}
-use Rattle.sc_base.proofs.NameLemmas.{same_name}
+use Rattle.sc_base.proofs.Lemmas.{same_name}
 use Rattle.sc_cmd.specs.declared.bodies.Body.{Body}
 use Rattle.sc_cmd.specs.declared.bodies.Body.TheVariants as At
 use Rattle.sc_cmd.specs.declared.bodies.Offer.{Offer}
@@ -18,13 +18,9 @@ use Rattle.sc_cmd.specs.declared.votes.Past.{Past}
 use Rattle.sc_cmd.specs.declared.votes.Past.TheVariants as Cast
 use Rattle.sc_cmd.specs.declared.votes.Vote.{Vote}
 use Rattle.sc_cmd.specs.declared.votes.Vote.TheVariants as Ballot
-use Rattle.sc_machine_table.specs.Group.{Group}
-use Rattle.sc_machine_table.specs.Plans.{frozen_of}
-use Rattle.sc_machine_table.specs.Transactions.{begun_group}
-use Rattle.sc_machine_table.specs.Votes.{has_voted}
-use Rattle.sc_ring_law.specs.Stories.{Story, Stories, put, unsigned, unsigned_watch, offer_for, watch_for, new_story}
-use Rattle.sc_ring_law.specs.Invariant.{Groups, has_decided, IsOwnBody, LockOk, IsWatcher, StoryOk, Facts}
-use Rattle.sc_log_entries.proofs.Names.{draw_cases}
+use Rattle.sc_machine_table.specs.Definitions.{Group, frozen_of, begun_group, has_voted}
+use Rattle.sc_ring_law.specs.Definitions.{Story, Stories, put, unsigned, unsigned_watch, offer_for, watch_for, new_story, Groups, has_decided, IsOwnBody, LockOk, IsWatcher, StoryOk, Facts}
+use Rattle.sc_log_entries.proofs.Lemmas.{draw_cases}
 use Rattle.sc_ring_law.proofs.Notes.{any_keeps, any_new, is_vote_on}
 use Rattle.sc_ring_law.proofs.Cover.{at-same, at-is, at-other, from_at}
 use Rattle.sc_ring_law.proofs.Facts.{same_frozen, IsOf, IsCalm, keep_known, keep_there, keep_voter, keep_watcher, keep_frozen, keep_agreed, keep_none, story_keep, IsGrown, group_new, facts_change, facts_quiet, facts_told, StayBorn, SameDecided}

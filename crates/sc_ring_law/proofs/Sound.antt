@@ -3,27 +3,20 @@ use Rattle.std.specs.Prelude.{is_none, ◌&&◌, IsTrue}
 use Rattle.std.specs.Option.{option_map}
 use Rattle.std.proofs.Common.{◌≡◌, ◌≢◌, ℕ, true, false, List, [], ◌∷◌, inl, inr, Option, Some, None, refl, sym, ◌∙◌, ap, subst}
 use Rattle.std.proofs.lemmas.Bool.{and_parts, ltb-true, lt-ltb}
-use Rattle.sc_base.specs.Among.{Among}
-use Rattle.sc_base.specs.Arc.{Arc, end_of, offset, holds}
+use Rattle.sc_base.specs.Definitions.{Among, Arc, end_of, offset, holds}
 use Rattle.sc_base.specs.declared.names.Draw.{Draw}
-use Rattle.sc_ideal.specs.IdealStore.{holds_key}
+use Rattle.sc_ideal.specs.Definitions.{holds_key}
 use Rattle.sc_cmd.specs.declared.commands.Command.{Command}
 use Rattle.sc_cmd.specs.declared.commands.Command.TheVariants.{Noop, Call, Join, Leave, Split, Begin, Prepared, RecordVote, GiveUp, Finish, Watched, RecordWatch}
 use Rattle.sc_cmd.specs.declared.cores.Lock.{Lock}
 use Rattle.sc_cmd.specs.declared.cores.Lock.TheVariants.{Free, Coordinating, Promised, Watching}
 use Rattle.sc_cmd.specs.declared.links.Route.{Route}
-use Rattle.sc_machine_table.specs.Group.{Group}
+use Rattle.sc_machine_table.specs.Definitions.{Group}
 use Rattle.sc_log_entries.specs.declared.Cut.{Cut}
 use Rattle.sc_log_entries.specs.declared.LogEntry.{LogEntry}
 use Rattle.sc_log_entries.specs.declared.Transaction.{Transaction}
-use Rattle.sc_log_entries.specs.Effective.{after_outcome, effective_by, effective, is_open, serves}
-use Rattle.sc_log_entries.specs.Rings.{Covers, arc_in}
-use Rattle.sc_log_entries.specs.Worlds.{StoreWorld, named_group, world_after}
-use Rattle.sc_ring_law.specs.Allowed.{Sources, IsAllowed, AreAllowed, ToldWorld, first_told, told_on, told_after}
-use Rattle.sc_ring_law.specs.Stories.{Stories}
-use Rattle.sc_ring_law.specs.Invariant.{Facts}
-use Rattle.sc_log_entries.specs.Parts.{IsPlaced}
-use Rattle.sc_ring_law.specs.Laws.{IsRingSound, EntriesKeepTheRing, EntriesKeepThePromises, DrawsAreOfOneLog, draw_of, AllowedListsAppend}
+use Rattle.sc_log_entries.specs.Definitions.{after_outcome, effective_by, effective, is_open, serves, Covers, arc_in, StoreWorld, named_group, world_after, IsPlaced}
+use Rattle.sc_ring_law.specs.Definitions.{Sources, IsAllowed, AreAllowed, ToldWorld, first_told, told_on, told_after, Stories, Facts, IsRingSound, EntriesKeepTheRing, EntriesKeepThePromises, DrawsAreOfOneLog, draw_of, AllowedListsAppend}
 use Rattle.sc_ring_law.proofs.View.{Holds, HeldBy, CoversBy}
 use Rattle.sc_ring_law.proofs.Finds.{all_pairs}
 use Rattle.sc_ring_law.proofs.Cuts.{arcs_in, cut_of_arc, arc_of_cut}

@@ -2,11 +2,11 @@
 use Rattle.std.specs.Prelude.{not, is_some, ◌&&◌}
 use Rattle.std.proofs.Common.{◌≡◌, ℕ, ◌^◌, ◌<◌, Bool, true, false, cond, inl, inr, Option, Some, None, refl, sym, ◌∙◌, ap}
 use Rattle.std.proofs.lemmas.Option.{same_Some}
-use Rattle.sc_base.specs.Arc.{before, from}
+use Rattle.sc_base.specs.Definitions.{before, from}
 use Rattle.sc_base.specs.declared.names.Draw.{Draw}
-use Rattle.sc_base.proofs.NameLemmas.{draw_is}
-use Rattle.sc_cmd.specs.Cores.{is_alone}
-use Rattle.sc_ideal.specs.IdealStore.{part_of}
+use Rattle.sc_base.proofs.Lemmas.{draw_is}
+use Rattle.sc_cmd.specs.Definitions.{is_alone}
+use Rattle.sc_ideal.specs.Definitions.{part_of}
 use Rattle.sc_cmd.specs.declared.bodies.Body.TheVariants as At
 use Rattle.sc_cmd.specs.declared.bodies.Watch.{Watch}
 use Rattle.sc_cmd.specs.declared.cores.Lock.TheVariants.{Free}
@@ -14,14 +14,9 @@ use Rattle.sc_cmd.specs.declared.links.Link.{Link}
 use Rattle.sc_cmd.specs.declared.votes.Heard.{Heard}
 use Rattle.sc_cmd.specs.declared.votes.Outcome.TheVariants.{Divided}
 use Rattle.sc_cmd.specs.declared.votes.Past.TheVariants as Cast
-use Rattle.sc_machine_table.specs.Group.{Group, group_of}
-use Rattle.sc_machine_table.specs.Finishes.{party_freed, watcher_after}
-use Rattle.sc_machine_table.specs.Orders.{locked_in}
-use Rattle.sc_machine_table.specs.Splits.{splits_at_once, left_group, child_of, left_link, right_link}
-use Rattle.sc_machine_table.specs.Transactions.{decided_group}
-use Rattle.sc_ring_law.specs.Stories.{Story, Stories, put, unsigned, unsigned_watch, watch_with}
-use Rattle.sc_ring_law.specs.Invariant.{Groups}
-use Rattle.sc_log_entries.proofs.Names.{draw_cases}
+use Rattle.sc_machine_table.specs.Definitions.{Group, group_of, party_freed, watcher_after, locked_in, splits_at_once, left_group, child_of, left_link, right_link, decided_group}
+use Rattle.sc_ring_law.specs.Definitions.{Story, Stories, put, unsigned, unsigned_watch, watch_with, Groups}
+use Rattle.sc_log_entries.proofs.Lemmas.{draw_cases}
 use Rattle.sc_ring_law.proofs.View.{Ring, Holds, split_view}
 use Rattle.sc_ring_law.proofs.Cover.{at-same, at-other}
 use Rattle.sc_ring_law.proofs.Recut.{split_whole}

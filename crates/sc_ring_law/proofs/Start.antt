@@ -6,25 +6,19 @@ use Rattle.std.proofs.lemmas.Bool.{cases_Bool, ltb-true, lt-ltb}
 use Rattle.std.specs.FinMap.{empty, get, get-empty}
 use Rattle.std.specs.Ordering.{nat_cmp}
 use Rattle.std.specs.Cmp.Lexicographic.{slice_cmp}
-use Rattle.sc_base.specs.Among.{Among}
-use Rattle.sc_base.specs.Arc.{Arc, end_of, offset}
-use Rattle.sc_base.specs.Same.{same_draw}
+use Rattle.sc_base.specs.Definitions.{Among, Arc, end_of, offset, same_draw}
 use Rattle.sc_base.specs.declared.names.Draw.{Draw}
-use Rattle.sc_base.proofs.NameLemmas.{same_name}
-use Rattle.sc_ideal.specs.IdealStore.{with_pairs}
+use Rattle.sc_base.proofs.Lemmas.{same_name}
+use Rattle.sc_ideal.specs.Definitions.{with_pairs}
 use Rattle.sc_cmd.specs.declared.cores.Base.{Base}
-use Rattle.sc_machine_table.specs.Group.{Group, group_of}
+use Rattle.sc_machine_table.specs.Definitions.{Group, group_of}
 use Rattle.sc_log_entries.specs.declared.Cut.{Cut}
-use Rattle.sc_log_entries.specs.Rings.{Covers, is_cut_of, arc_in, first_cut}
-use Rattle.sc_log_entries.specs.Worlds.{is_named, named_group}
-use Rattle.sc_ring_law.specs.Allowed.{Sources, first_told}
-use Rattle.sc_ring_law.specs.Stories.{no_stories}
-use Rattle.sc_ring_law.specs.Invariant.{Groups, LockOk, Facts}
-use Rattle.sc_ring_law.specs.Laws.{BeginInPlace, BeginsInPlace}
-use Rattle.sc_log_entries.proofs.Names.{other_name, found_name}
+use Rattle.sc_log_entries.specs.Definitions.{Covers, is_cut_of, arc_in, first_cut, is_named, named_group}
+use Rattle.sc_ring_law.specs.Definitions.{Sources, first_told, no_stories, Groups, LockOk, Facts, BeginInPlace, BeginsInPlace}
+use Rattle.sc_log_entries.proofs.Lemmas.{other_name, found_name}
 use Rattle.sc_ring_law.proofs.View.{IsOnRing, Holds, HeldBy, Ring, CoversBy, View, IsLinked}
-use Rattle.sc_paxos_law.proofs.Among.{from_map}
-use Rattle.sc_paxos_words.proofs.ListLemmas.{Each-among, Each-from, find_found}
+use Rattle.sc_paxos_law.proofs.Lemmas.{from_map}
+use Rattle.sc_paxos_words.proofs.Lemmas.{Each-among, Each-from, find_found}
 use Rattle.sc_ring_law.proofs.Finds.{find_first, find_skips, map_among, Pairwise, pairwise_from}
 use Rattle.sc_ring_law.proofs.Cuts.{arcs_in, cut_of_arc, arc_of_cut}
 use Rattle.sc_ring_law.proofs.Effects.{decisions, eff, arc_of, succ_of, pred_of, view_of, IsInside, Good, Old, eff_free}

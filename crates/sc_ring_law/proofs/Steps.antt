@@ -5,16 +5,13 @@ use Rattle.std.proofs.lemmas.Bool.{cases_Bool, cond_both, or_parts, not_from_tru
 use Rattle.std.specs.Option.{option_map}
 use Rattle.std.specs.FinMap.{get, retain_keys}
 use Rattle.std.proofs.lemmas.Option.{same_Some}
-use Rattle.sc_base.specs.Same.{same_draw}
-use Rattle.sc_base.specs.Arc.{Arc}
+use Rattle.sc_base.specs.Definitions.{same_draw, Arc, united}
 use Rattle.sc_base.specs.declared.names.Draw.{Draw}
 use Rattle.sc_base.specs.declared.ops.Op.{Op}
 use Rattle.sc_base.specs.declared.ops.Noted.{Noted}
-use Rattle.sc_cmd.specs.Effects.{is_changed}
-use Rattle.sc_cmd.specs.Cores.{is_alone}
-use Rattle.sc_ideal.specs.IdealStore.{Contents, key_of, after, holds_key}
-use Rattle.sc_ideal.proofs.Apart.{apart, get-part}
-use Rattle.sc_base.specs.Union.{united}
+use Rattle.sc_cmd.specs.Definitions.{is_changed, is_alone}
+use Rattle.sc_ideal.specs.Definitions.{Contents, key_of, after, holds_key}
+use Rattle.sc_ideal.proofs.Lemmas.{apart, get-part}
 use Rattle.sc_cmd.specs.declared.bodies.Body.{Body}
 use Rattle.sc_cmd.specs.declared.bodies.Body.TheVariants as At
 use Rattle.sc_cmd.specs.declared.bodies.Offer.{Offer}
@@ -37,22 +34,13 @@ use Rattle.sc_cmd.specs.declared.votes.Outcome.TheVariants.{Abort, Merged, Moved
 use Rattle.sc_cmd.specs.declared.votes.Past.{Past}
 use Rattle.sc_cmd.specs.declared.votes.Past.TheVariants as Cast
 use Rattle.sc_cmd.specs.declared.votes.Vote.TheVariants as Ballot
-use Rattle.sc_machine_table.specs.Group.{Group}
-use Rattle.sc_machine_table.specs.Finishes.{can_gain, gained_group, lost_group, welcomed_group, participant_after, settled_in, finished, party_freed, pred_after, watcher_after, watch_ended}
-use Rattle.sc_machine_table.specs.Machine.{done, served_by_note, served, called, applied, ordered_by}
-use Rattle.sc_machine_table.specs.Orders.{locked_in, refused_free, refused_in, refusal_of, begin_refused, body_refused, ordered, with_node, without_node}
-use Rattle.sc_machine_table.specs.Plans.{frozen_of, can_cut, has_key_of}
-use Rattle.sc_machine_table.specs.Splits.{has_named, is_locked_in}
-use Rattle.sc_machine_table.specs.Transactions.{begun_group}
-use Rattle.sc_machine_table.specs.Votes.{has_voted, no_of, vote_of, offer_no, watch_no, watch_vote_of, past_of, bound_by, offer_voted, watched}
-use Rattle.sc_log_entries.specs.Effective.{after_outcome, is_commit}
-use Rattle.sc_ring_law.specs.Allowed.{IsShared}
-use Rattle.sc_ring_law.specs.Stories.{Story, Stories, put, retold, new_story, unsigned, unsigned_watch, vote_in, watch_vote_in, with_vote, with_watch_vote, stories_after}
-use Rattle.sc_ring_law.specs.Invariant.{Groups, has_decided, has_born, IsOwnBody, Facts}
-use Rattle.sc_log_entries.proofs.Names.{draw_cases, names_differ}
+use Rattle.sc_machine_table.specs.Definitions.{Group, can_gain, gained_group, lost_group, welcomed_group, participant_after, settled_in, finished, party_freed, pred_after, watcher_after, watch_ended, done, served_by_note, served, called, applied, ordered_by, locked_in, refused_free, refused_in, refusal_of, begin_refused, body_refused, ordered, with_node, without_node, frozen_of, can_cut, has_key_of, has_named, is_locked_in, begun_group, has_voted, no_of, vote_of, offer_no, watch_no, watch_vote_of, past_of, bound_by, offer_voted, watched}
+use Rattle.sc_log_entries.specs.Definitions.{after_outcome, is_commit}
+use Rattle.sc_ring_law.specs.Definitions.{IsShared, Story, Stories, put, retold, new_story, unsigned, unsigned_watch, vote_in, watch_vote_in, with_vote, with_watch_vote, stories_after, Groups, has_decided, has_born, IsOwnBody, Facts}
+use Rattle.sc_log_entries.proofs.Lemmas.{draw_cases, names_differ}
 use Rattle.sc_ring_law.proofs.View.{Ring}
 use Rattle.sc_ring_law.proofs.Cover.{at-same, at-is, at-other}
-use Rattle.sc_base.proofs.NameLemmas.{same_name}
+use Rattle.sc_base.proofs.Lemmas.{same_name}
 use Rattle.sc_ring_law.proofs.Rows.{IsPlain, IsOpen, plain_facts, begin_facts, Votes, yes_facts, no_facts, agree_facts, deny_facts, unheard, not_passed}
 use Rattle.sc_ring_law.proofs.Ends.{draw_new}
 use Rattle.sc_ring_law.proofs.Effects.{Decisions, decisions, outcome_of, settle_by, living, living_by, eff, view_of, arc_of, succ_of, pred_of, pairs_of, IsInside, inside_same, Good, Agrees, whole_agree, Alike, Like, eff_like, like_same, like_at, Old, whole_change, eff_by, living_is, eff_free, no_commit}

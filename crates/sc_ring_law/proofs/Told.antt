@@ -4,23 +4,20 @@ use Rattle.std.specs.Option.{option_map, option_and_then, option_or, option_to_l
 use Rattle.std.proofs.Common.{◌≡◌, Bool, true, false, cond, List, [], ◌∷◌, ◌⊎◌, inl, inr, Option, Some, None, refl, sym, ◌∙◌, ap}
 use Rattle.std.proofs.lemmas.Bool.{cases_Bool, cond-true, cond-false, cond_both, and_from, and_left}
 use Rattle.std.proofs.lemmas.List.Folds.{find-append}
-use Rattle.sc_base.specs.Among.{Among}
-use Rattle.sc_base.specs.Same.{same_draw}
+use Rattle.sc_base.specs.Definitions.{Among, same_draw}
 use Rattle.sc_base.specs.declared.names.Draw.{Draw}
-use Rattle.sc_base.proofs.NameLemmas.{draw_is, same_name}
+use Rattle.sc_base.proofs.Lemmas.{draw_is, same_name}
 use Rattle.sc_cmd.specs.declared.cores.Base.{Base}
 use Rattle.sc_cmd.specs.declared.votes.Outcome.{Outcome}
-use Rattle.sc_machine_table.specs.Group.{Group, group_of}
+use Rattle.sc_machine_table.specs.Definitions.{Group, group_of}
 use Rattle.sc_log_entries.specs.declared.Transaction.{Transaction}
-use Rattle.sc_log_entries.specs.Decisions.{is_of, amended, concluded, with_outcome as concludes, with_watcher, transaction_in, decision}
-use Rattle.sc_log_entries.specs.Worlds.{is_named, named_group, with_group, groups_after}
-use Rattle.sc_ring_law.specs.Stories.{Story, Stories, put, retold, with_decision}
-use Rattle.sc_ring_law.specs.Invariant.{Groups}
-use Rattle.sc_log_entries.proofs.Names.{draw_cases, other_name, found_name}
+use Rattle.sc_log_entries.specs.Definitions.{is_of, amended, concluded, with_outcome as concludes, with_watcher, transaction_in, decision, is_named, named_group, with_group, groups_after}
+use Rattle.sc_ring_law.specs.Definitions.{Story, Stories, put, retold, with_decision, Groups}
+use Rattle.sc_log_entries.proofs.Lemmas.{draw_cases, other_name, found_name}
 use Rattle.sc_ring_law.proofs.Cover.{at-same, at-is, at-other}
 use Rattle.sc_ring_law.proofs.Effects.{outcome_of}
-use Rattle.sc_paxos_law.proofs.Among.{Among-either, from_map}
-use Rattle.sc_paxos_words.proofs.ListLemmas.{find_found}
+use Rattle.sc_paxos_law.proofs.Lemmas.{Among-either, from_map}
+use Rattle.sc_paxos_words.proofs.Lemmas.{find_found}
 use Rattle.sc_ring_law.proofs.Finds.{find_map, some_none}
 use Rattle.std.proofs.lemmas.Option.{none-some, same_Some}
 

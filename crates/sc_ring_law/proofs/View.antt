@@ -1,8 +1,8 @@
 -- The effective arcs and links of all groups, as one view, and what reshaping does to it.
 use Rattle.std.specs.Prelude.{◌≡◌, ℕ, ◌^◌, ◌<◌, ◌≤◌, Option, Some, None}
-use Rattle.sc_base.specs.Arc.{Arc, offset, end_of, before, from, joined}
+use Rattle.sc_base.specs.Definitions.{Arc, offset, end_of, before, from, joined}
 use Rattle.sc_base.specs.declared.names.Draw.{Draw}
-use Rattle.sc_ring_law.specs.Stories.{put}
+use Rattle.sc_ring_law.specs.Definitions.{put}
 
 -- an arc whose start is a position
 pub record IsOnRing (arc : Arc) : Type 0 where

@@ -11,10 +11,9 @@ use Rattle.sc_cmd.specs.declared.votes.Past.{Past}
 use Rattle.sc_cmd.specs.declared.votes.Past.TheVariants as Cast
 use Rattle.sc_cmd.specs.declared.votes.Vote.{Vote}
 use Rattle.sc_cmd.specs.declared.votes.Vote.TheVariants as Ballot
-use Rattle.sc_machine_table.specs.Group.{Group}
-use Rattle.sc_machine_table.specs.Machine.{applied}
+use Rattle.sc_machine_table.specs.Definitions.{Group, applied}
 use Rattle.sc_log_entries.specs.declared.LogEntry.{LogEntry}
-use Rattle.sc_log_entries.specs.Worlds.{StoreWorld, first_world, named_group, told}
+use Rattle.sc_log_entries.specs.Definitions.{StoreWorld, first_world, named_group, told}
 use Rattle.sc_ring_law.specs.Stories.{Story, Stories, no_stories, unsigned, unsigned_watch, stories_after}
 
 -- what is fixed beside the logs

@@ -15,12 +15,10 @@ use Rattle.sc_cmd.specs.declared.votes.Outcome.{Outcome}
 use Rattle.sc_cmd.specs.declared.votes.Outcome.TheVariants.{Abort, Merged, Divided}
 use Rattle.sc_cmd.specs.declared.votes.Past.TheVariants as Cast
 use Rattle.sc_cmd.specs.declared.votes.Vote.TheVariants.{Yes}
-use Rattle.sc_machine_table.specs.Group.{Group, group_of}
-use Rattle.sc_machine_table.specs.Machine.{done}
-use Rattle.sc_machine_table.specs.Plans.{frozen_of}
+use Rattle.sc_machine_table.specs.Definitions.{Group, group_of, done, frozen_of}
 use Rattle.sc_log_entries.specs.declared.Cut.{Cut}
 use Rattle.sc_log_entries.specs.declared.LogEntry.{LogEntry}
-use Rattle.sc_log_entries.specs.Worlds.{world_of}
+use Rattle.sc_log_entries.specs.Definitions.{world_of}
 use Rattle.sc_ring_law.specs.Allowed.{Sources, AreAllowed, first_told}
 use Rattle.sc_ring_law.specs.Laws.{BeginInPlace}
 

@@ -1,7 +1,7 @@
 -- What holds of locks, votes and decisions after every list of allowed entries.
 use Rattle.std.specs.Prelude.{◌≡◌, ℕ, ◌<◌, ◌^◌, ◌⊎◌, Bool, true, false, Option, Some, None}
 use Rattle.std.specs.List.{list_any}
-use Rattle.sc_base.specs.Same.{same_draw}
+use Rattle.sc_base.specs.Definitions.{same_draw}
 use Rattle.sc_base.specs.declared.names.Draw.{Draw}
 use Rattle.sc_cmd.specs.declared.bodies.Body.{Body}
 use Rattle.sc_cmd.specs.declared.bodies.Body.TheVariants as At
@@ -18,9 +18,7 @@ use Rattle.sc_cmd.specs.declared.votes.Past.{Past}
 use Rattle.sc_cmd.specs.declared.votes.Past.TheVariants as Cast
 use Rattle.sc_cmd.specs.declared.votes.Vote.{Vote}
 use Rattle.sc_cmd.specs.declared.votes.Vote.TheVariants as Ballot
-use Rattle.sc_machine_table.specs.Group.{Group}
-use Rattle.sc_machine_table.specs.Plans.{frozen_of}
-use Rattle.sc_machine_table.specs.Votes.{has_voted}
+use Rattle.sc_machine_table.specs.Definitions.{Group, frozen_of, has_voted}
 use Rattle.sc_ring_law.specs.Stories.{Story, Stories, unsigned, unsigned_watch, offer_for, watch_for}
 
 -- all groups by their names

@@ -1,7 +1,6 @@
 -- What holds after every list of allowed entries from the groups of a scenario.
 use Rattle.std.specs.Prelude.{◌≡◌, List, [], ◌++◌, map, Option, Some, None}
-use Rattle.sc_base.specs.Among.{Among}
-use Rattle.sc_base.specs.Arc.{end_of}
+use Rattle.sc_base.specs.Definitions.{Among, end_of}
 use Rattle.sc_base.specs.declared.names.Draw.{Draw}
 use Rattle.sc_cmd.specs.declared.commands.Command.{Command}
 use Rattle.sc_cmd.specs.declared.commands.Command.TheVariants.{Noop, Call, Join, Leave, Split, Begin, Prepared, RecordVote, GiveUp, Finish, Watched, RecordWatch}
@@ -10,9 +9,7 @@ use Rattle.sc_cmd.specs.declared.cores.Core.{Core}
 use Rattle.sc_cmd.specs.declared.cores.Lock.TheVariants.{Free}
 use Rattle.sc_log_entries.specs.declared.Cut.{Cut}
 use Rattle.sc_log_entries.specs.declared.LogEntry.{LogEntry}
-use Rattle.sc_log_entries.specs.Parts.{IsPlaced, ServesItsCut}
-use Rattle.sc_log_entries.specs.Rings.{Covers, first_cut}
-use Rattle.sc_log_entries.specs.Worlds.{StoreWorld, named_group, world_of}
+use Rattle.sc_log_entries.specs.Definitions.{IsPlaced, ServesItsCut, Covers, first_cut, StoreWorld, named_group, world_of}
 use Rattle.sc_ring_law.specs.Allowed.{Sources, IsAllowed, AreAllowed, ToldWorld, first_told, told_after}
 use Rattle.sc_ring_law.specs.Invariant.{Facts}
 use Rattle.sc_ring_law.specs.Stories.{Stories}

@@ -3,3 +3,4 @@ pub mod Invariant
 pub mod Stories
 pub mod Laws
 pub mod Example
+pub mod Definitions

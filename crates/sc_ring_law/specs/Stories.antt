@@ -1,7 +1,7 @@
 -- What all logs together have told of each transaction, entry by entry: of its coordinator, of who takes part and of who watches.
 use Rattle.std.specs.Prelude.{◌&&◌, not, if◌then◌else◌, Option, Some, None}
 use Rattle.std.specs.Option.{option_map}
-use Rattle.sc_base.specs.Same.{same_draw}
+use Rattle.sc_base.specs.Definitions.{same_draw}
 use Rattle.sc_base.specs.declared.names.Draw.{Draw}
 use Rattle.sc_cmd.specs.declared.bodies.Body.{Body}
 use Rattle.sc_cmd.specs.declared.bodies.Body.TheVariants as At
@@ -20,11 +20,8 @@ use Rattle.sc_cmd.specs.declared.votes.Past.{Past}
 use Rattle.sc_cmd.specs.declared.votes.Past.TheVariants as Cast
 use Rattle.sc_cmd.specs.declared.votes.Vote.{Vote}
 use Rattle.sc_cmd.specs.declared.votes.Vote.TheVariants as Ballot
-use Rattle.sc_cmd.specs.Effects.{is_changed, decided_in}
-use Rattle.sc_cmd.specs.Cores.{is_alone}
-use Rattle.sc_machine_table.specs.Group.{Group}
-use Rattle.sc_machine_table.specs.Plans.{frozen_of, merged_link}
-use Rattle.sc_machine_table.specs.Splits.{right_link}
+use Rattle.sc_cmd.specs.Definitions.{is_changed, decided_in, is_alone}
+use Rattle.sc_machine_table.specs.Definitions.{Group, frozen_of, merged_link, right_link}
 
 -- what was told of a transaction
 pub record Story : Type 0 where

@@ -3,9 +3,7 @@ use Rattle.std.proofs.Common.{◌≡◌, ℕ, suc, refl}
 use Rattle.sc_mail.specs.declared.bodies.AnswerBody.{AnswerBody}
 use Rattle.sc_mail.specs.declared.bodies.AnswerBody.TheVariants as TheAnswerBody
 use Rattle.sc_plain_json.specs.Plain.{IsPlain}
-use Rattle.sc_row_text.specs.Shapes.{number_json}
-use Rattle.sc_row_text.specs.Held.{FitsU16}
-use Rattle.sc_row_text.specs.Answers.{answer_body_json, FitsAnswerBody}
+use Rattle.sc_row_text.specs.Definitions.{number_json, FitsU16, answer_body_json, FitsAnswerBody}
 use Rattle.sc_row_text.proofs.SetsPlain.{arc_plain}
 use Rattle.sc_row_text.proofs.LinksPlain.{link_plain, route_plain}
 use Rattle.sc_row_text.proofs.ShapesPlain.{option_plain, u16_plain, u32_plain}

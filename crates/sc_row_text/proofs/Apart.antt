@@ -2,7 +2,7 @@
 use Rattle.std.proofs.Common.{◌≡◌, ℕ, List, true, false, bytes_eq, sym, ap, ◌∙◌}
 use Rattle.std.proofs.lemmas.Slice.Eq.{bytes_eq-Decides}
 use Rattle.serde_json.specs.Data.{Data}
-use Rattle.sc_row_text.specs.Shapes.{variant_name}
+use Rattle.sc_row_text.specs.Definitions.{variant_name}
 
 -- names that differ are not the same
 pub apart : (a b : List ℕ) → a ≡ b → bytes_eq a b ≡ false → ⊥

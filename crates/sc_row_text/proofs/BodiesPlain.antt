@@ -5,7 +5,7 @@ use Rattle.sc_cmd.specs.declared.bodies.Body.TheVariants as TheBody
 use Rattle.sc_cmd.specs.declared.bodies.Offer.{Offer}
 use Rattle.sc_cmd.specs.declared.bodies.Watch.{Watch}
 use Rattle.sc_plain_json.specs.Plain.{IsPlain}
-use Rattle.sc_row_text.specs.Bodies.{body_json, FitsBody, offer_json, FitsOffer, watch_json, FitsWatch}
+use Rattle.sc_row_text.specs.Definitions.{body_json, FitsBody, offer_json, FitsOffer, watch_json, FitsWatch}
 use Rattle.sc_row_text.proofs.SetsPlain.{arc_plain, nodes_plain}
 use Rattle.sc_row_text.proofs.NamesPlain.{draw_plain}
 use Rattle.sc_row_text.proofs.LinksPlain.{link_plain}

@@ -4,7 +4,7 @@ use Rattle.sc_cmd.specs.declared.commands.Command.{Command}
 use Rattle.sc_cmd.specs.declared.commands.Command.TheVariants as TheCommand
 use Rattle.sc_paxos_words.specs.declared.reports.Report.{Report}
 use Rattle.sc_plain_json.specs.Plain.{IsPlain}
-use Rattle.sc_row_text.specs.Commands.{command_json, FitsCommand, report_json, FitsReport}
+use Rattle.sc_row_text.specs.Definitions.{command_json, FitsCommand, report_json, FitsReport}
 use Rattle.sc_row_text.proofs.NamesPlain.{ballot_plain, draw_plain}
 use Rattle.sc_row_text.proofs.BodiesPlain.{body_plain, offer_plain, watch_plain}
 use Rattle.sc_row_text.proofs.OpsPlain.{op_plain}

@@ -5,13 +5,7 @@ use Rattle.sc_cmd.specs.declared.cores.Lock.TheVariants as TheLock
 use Rattle.sc_cmd.specs.declared.cores.Core.{Core}
 use Rattle.sc_cmd.specs.declared.cores.Base.{Base}
 use Rattle.sc_plain_json.specs.Plain.{IsPlain}
-use Rattle.sc_row_text.specs.Shapes.{pair_json}
-use Rattle.sc_row_text.specs.Held.{PairFits}
-use Rattle.sc_row_text.specs.Links.{route_json, FitsRoute}
-use Rattle.sc_row_text.specs.Votes.{heard_json, FitsHeard, past_json, FitsPast}
-use Rattle.sc_row_text.specs.Outcomes.{outcome_json, FitsOutcome}
-use Rattle.sc_row_text.specs.Cores.{lock_json, FitsLock, core_json, FitsCore, base_json, FitsBase}
-use Rattle.sc_row_text.specs.Names.{draw_json, FitsDraw}
+use Rattle.sc_row_text.specs.Definitions.{pair_json, PairFits, route_json, FitsRoute, heard_json, FitsHeard, past_json, FitsPast, outcome_json, FitsOutcome, lock_json, FitsLock, core_json, FitsCore, base_json, FitsBase, draw_json, FitsDraw}
 use Rattle.sc_row_text.proofs.SetsPlain.{arc_plain, clients_plain, nodes_plain, pairs_plain}
 use Rattle.sc_row_text.proofs.BodiesPlain.{body_plain, offer_plain, watch_plain}
 use Rattle.sc_row_text.proofs.NamesPlain.{draw_plain}

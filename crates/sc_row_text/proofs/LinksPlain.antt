@@ -3,7 +3,7 @@ use Rattle.std.proofs.Common.{◌≡◌, ℕ, suc, refl}
 use Rattle.sc_cmd.specs.declared.links.Link.{Link}
 use Rattle.sc_cmd.specs.declared.links.Route.{Route}
 use Rattle.sc_plain_json.specs.Plain.{IsPlain}
-use Rattle.sc_row_text.specs.Links.{link_json, FitsLink, route_json, FitsRoute}
+use Rattle.sc_row_text.specs.Definitions.{link_json, FitsLink, route_json, FitsRoute}
 use Rattle.sc_row_text.proofs.NamesPlain.{draw_plain}
 use Rattle.sc_row_text.proofs.SetsPlain.{nodes_plain}
 use Rattle.sc_row_text.proofs.ShapesPlain.{u32_plain}

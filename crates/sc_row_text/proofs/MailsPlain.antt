@@ -4,11 +4,7 @@ use Rattle.sc_mail.specs.declared.bodies.MailBody.{MailBody}
 use Rattle.sc_mail.specs.declared.bodies.MailBody.TheVariants as TheMailBody
 use Rattle.sc_mail.specs.declared.bodies.Mail.{Mail}
 use Rattle.sc_plain_json.specs.Plain.{IsPlain}
-use Rattle.sc_row_text.specs.Shapes.{number_json}
-use Rattle.sc_row_text.specs.Held.{FitsU16, FitsMembers}
-use Rattle.sc_row_text.specs.Commands.{report_json, FitsReport}
-use Rattle.sc_row_text.specs.Mails.{mail_body_json, FitsMailBody, mail_json, FitsMail}
-use Rattle.sc_row_text.specs.Sets.{nodes_json}
+use Rattle.sc_row_text.specs.Definitions.{number_json, FitsU16, FitsMembers, report_json, FitsReport, mail_body_json, FitsMailBody, mail_json, FitsMail, nodes_json}
 use Rattle.sc_row_text.proofs.AnswersPlain.{answer_body_plain}
 use Rattle.sc_row_text.proofs.NamesPlain.{ballot_plain, draw_plain}
 use Rattle.sc_row_text.proofs.CoresPlain.{base_plain}

@@ -1,5 +1,5 @@
 -- Names and ballots are plain JSON.
-use Rattle.std.proofs.Common.{◌≡◌, ℕ, suc, ◌+◌, ◌^◌, ◌<◌, ◌%◌, ◌&&◌, ◌++◌, true, List, [], ◌∷◌, codes, refl, ap, ap₂, ◌∙◌, arith}
+use Rattle.std.proofs.Common.{◌≡◌, ℕ, suc, ◌+◌, ◌^◌, ◌<◌, ◌%◌, ◌&&◌, ◌++◌, true, [], ◌∷◌, codes, ap, ap₂, ◌∙◌, arith}
 use Rattle.std.specs.Fmt.{decimal}
 use Rattle.std.proofs.lemmas.Fmt.{decimal_by_steps}
 use Rattle.std.proofs.lemmas.Nat.{mod_below}
@@ -8,7 +8,7 @@ use Rattle.std.proofs.lemmas.List.Folds.{list_all-append}
 use Rattle.sc_base.specs.declared.names.Ballot.{Ballot}
 use Rattle.sc_base.specs.declared.names.Draw.{Draw}
 use Rattle.sc_plain_json.specs.Plain.{IsPlain, is_seven_bit}
-use Rattle.sc_row_text.specs.Names.{draw_json, FitsDraw, ballot_json, FitsBallot}
+use Rattle.sc_row_text.specs.Definitions.{draw_json, FitsDraw, ballot_json, FitsBallot}
 use Rattle.sc_row_text.proofs.ShapesPlain.{u16_plain, u32_plain}
 
 one_digit : (d : ℕ) → d < 10 → is_seven_bit ((48 + d) ∷ []) ≡ true

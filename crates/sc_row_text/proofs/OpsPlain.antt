@@ -5,8 +5,7 @@ use Rattle.sc_base.specs.declared.ops.Op.TheVariants as TheOp
 use Rattle.sc_base.specs.declared.ops.Reply.{Reply}
 use Rattle.sc_plain_json.specs.Plain.{IsPlain}
 use Rattle.serde_json.specs.Data.{string}
-use Rattle.sc_row_text.specs.Held.{FitsValue}
-use Rattle.sc_row_text.specs.Ops.{op_json, FitsOp, reply_json, FitsReply}
+use Rattle.sc_row_text.specs.Definitions.{FitsValue, op_json, FitsOp, reply_json, FitsReply}
 use Rattle.sc_row_text.proofs.ShapesPlain.{key_plain, option_plain, value_plain}
 
 pub op_plain : (room : ℕ) (op : Op) → FitsOp op → IsPlain (suc (suc room)) (op_json op)

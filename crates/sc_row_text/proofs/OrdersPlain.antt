@@ -8,9 +8,7 @@ use Rattle.sc_cmd.specs.declared.orders.OrderRefusal.TheVariants as TheOrderRefu
 use Rattle.sc_cmd.specs.declared.orders.ToldResult.{ToldResult}
 use Rattle.sc_cmd.specs.declared.orders.ToldResult.TheVariants as TheToldResult
 use Rattle.sc_plain_json.specs.Plain.{IsPlain}
-use Rattle.sc_row_text.specs.Shapes.{number_json}
-use Rattle.sc_row_text.specs.Held.{FitsU16}
-use Rattle.sc_row_text.specs.Orders.{order_json, FitsOrder, order_line_json, FitsOrderLine, order_refusal_json, FitsOrderRefusal, told_result_json, FitsToldResult}
+use Rattle.sc_row_text.specs.Definitions.{number_json, FitsU16, order_json, FitsOrder, order_line_json, FitsOrderLine, order_refusal_json, FitsOrderRefusal, told_result_json, FitsToldResult}
 use Rattle.sc_row_text.proofs.NamesPlain.{draw_plain}
 use Rattle.sc_row_text.proofs.ShapesPlain.{option_plain, u16_plain, u32_plain, u8_plain}
 

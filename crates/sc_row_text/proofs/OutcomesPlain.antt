@@ -4,7 +4,7 @@ use Rattle.sc_cmd.specs.declared.votes.Gift.{Gift}
 use Rattle.sc_cmd.specs.declared.votes.Outcome.{Outcome}
 use Rattle.sc_cmd.specs.declared.votes.Outcome.TheVariants as TheOutcome
 use Rattle.sc_plain_json.specs.Plain.{IsPlain}
-use Rattle.sc_row_text.specs.Outcomes.{gift_json, FitsGift, outcome_json, FitsOutcome}
+use Rattle.sc_row_text.specs.Definitions.{gift_json, FitsGift, outcome_json, FitsOutcome}
 use Rattle.sc_row_text.proofs.SetsPlain.{clients_plain, pairs_plain}
 use Rattle.sc_row_text.proofs.ShapesPlain.{option_plain, u16_plain, u32_plain}
 use Rattle.sc_row_text.proofs.LinksPlain.{route_plain}

@@ -6,8 +6,7 @@ use Rattle.sc_actor.specs.declared.rows.Row.{Row}
 use Rattle.sc_mail.specs.declared.bodies.Mail.{Mail}
 use Rattle.sc_cmd.specs.declared.orders.OrderLine.{OrderLine}
 use Rattle.sc_plain_json.specs.Plain.{IsPlain}
-use Rattle.sc_row_text.specs.Mails.{mail_json, FitsMail}
-use Rattle.sc_row_text.specs.Rows.{event_json, FitsEvent, row_json, FitsRow}
+use Rattle.sc_row_text.specs.Definitions.{mail_json, FitsMail, event_json, FitsEvent, row_json, FitsRow}
 use Rattle.sc_row_text.proofs.ShapesPlain.{list_plain, u32_plain}
 use Rattle.sc_row_text.proofs.MailsPlain.{mail_plain}
 use Rattle.sc_row_text.proofs.OrdersPlain.{order_line_plain}

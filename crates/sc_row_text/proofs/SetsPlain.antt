@@ -1,12 +1,10 @@
 -- Arcs, sets of nodes, pairs of keys and values, and client tables are plain JSON.
 use Rattle.std.proofs.Common.{◌≡◌, ℕ, suc, ◌^◌, ◌<◌, List, arith}
 use Rattle.serde_json.specs.Data.{string}
-use Rattle.sc_base.specs.Arc.{Arc}
+use Rattle.sc_base.specs.Definitions.{Arc}
 use Rattle.sc_base.specs.declared.ops.Noted.{Noted}
 use Rattle.sc_plain_json.specs.Plain.{IsPlain}
-use Rattle.sc_row_text.specs.Shapes.{number_json, pair_json}
-use Rattle.sc_row_text.specs.Held.{FitsU16, FitsKey, FitsValue, FitsArc, FitsMembers, PairFits}
-use Rattle.sc_row_text.specs.Sets.{arc_json, nodes_json, pairs_json, FitsPairs, client_json, clients_json, FitsNoted, FitsClients}
+use Rattle.sc_row_text.specs.Definitions.{number_json, pair_json, FitsU16, FitsKey, FitsValue, FitsArc, FitsMembers, PairFits, arc_json, nodes_json, pairs_json, FitsPairs, client_json, clients_json, FitsNoted, FitsClients}
 use Rattle.sc_row_text.proofs.ShapesPlain.{u16_plain, u32_plain, key_plain, value_plain, list_plain}
 use Rattle.sc_row_text.proofs.OpsPlain.{reply_plain}
 

@@ -1,14 +1,12 @@
 -- Numbers, texts, lists and what may be absent are plain JSON.
-use Rattle.std.proofs.Common.{◌≡◌, ℕ, suc, ◌^◌, ◌<◌, ◌&&◌, Bool, true, List, [], ◌∷◌, Option, Some, None, refl, ap₂, arith, nat_lt, nat_le}
+use Rattle.std.proofs.Common.{◌≡◌, ℕ, suc, ◌^◌, ◌<◌, ◌&&◌, true, List, [], ◌∷◌, Option, Some, None, refl, ap₂, arith, nat_lt}
 use Rattle.std.specs.List.{list_all}
 use Rattle.std.proofs.lemmas.Bool.{and_parts}
 use Rattle.std.proofs.lemmas.Bool.Decides.{nat_tests}
 use Rattle.serde_json.specs.Data.{Data}
-use Rattle.sc_base.specs.Among.{Each}
-use Rattle.sc_base.specs.Text.{IsText, is_visible}
+use Rattle.sc_base.specs.Definitions.{Each, is_visible}
 use Rattle.sc_plain_json.specs.Plain.{IsPlain, is_seven_bit}
-use Rattle.sc_row_text.specs.Shapes.{list_json, option_json}
-use Rattle.sc_row_text.specs.Held.{FitsU8, FitsU16, FitsU32, FitsKey, FitsValue, OptionFits}
+use Rattle.sc_row_text.specs.Definitions.{list_json, option_json, FitsU8, FitsU16, FitsU32, FitsKey, FitsValue, OptionFits}
 
 pub u8_plain : (n : ℕ) → FitsU8 n → n < 2 ^ 64
 u8_plain n fits = omega (arith, fits)

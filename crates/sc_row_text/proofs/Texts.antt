@@ -1,20 +1,14 @@
 -- The text of a row: one line that is read back, and no shorter than the row has mails.
-use Rattle.std.proofs.Common.{◌≡◌, ℕ, suc, ◌≤◌, List, [], ◌∷◌, length, codes, true, false, Some, refl, ap, arith, IsUtf8}
-use Rattle.serde_json.specs.Data.{Items, object, array, members_depth}
+use Rattle.std.proofs.Common.{◌≡◌, suc, ◌≤◌, List, [], ◌∷◌, length, codes, true, false, Some, refl, ap, arith, IsUtf8}
 use Rattle.serde_json.specs.Events.{items_len}
 use Rattle.serde_json.specs.Read.{read}
-use Rattle.serde_json.specs.Written.{compact_text, members_text, has_float}
+use Rattle.serde_json.specs.Written.{has_float}
 use Rattle.sc_actor.specs.declared.rows.Row.{Row}
 use Rattle.sc_cmd.specs.declared.orders.OrderLine.{OrderLine}
 use Rattle.sc_mail.specs.declared.bodies.Mail.{Mail}
 use Rattle.sc_plain_json.specs.Plain.{IsPlain, is_one_line}
-use Rattle.sc_plain_json.proofs.ReadBack.{plain_has_no_float, plain_read_back}
-use Rattle.sc_plain_json.proofs.OneLine.{plain_text_utf8, plain_text_on_one_line}
-use Rattle.sc_plain_json.proofs.Lengths.{items_counted, members_parts}
-use Rattle.sc_row_text.specs.Shapes.{items_json, list_json, members_json, number_json}
-use Rattle.sc_row_text.specs.Mails.{mail_json}
-use Rattle.sc_row_text.specs.Rows.{event_json, row_json}
-use Rattle.sc_row_text.specs.RowText.{text_of, IsHeld}
+use Rattle.sc_plain_json.proofs.Lemmas.{plain_has_no_float, plain_read_back, plain_text_utf8, plain_text_on_one_line, items_counted, members_parts}
+use Rattle.sc_row_text.specs.Definitions.{items_json, list_json, members_json, number_json, mail_json, event_json, row_json, text_of, IsHeld}
 use Rattle.sc_row_text.proofs.RowsPlain.{row_plain}
 
 -- a row that is held is plain

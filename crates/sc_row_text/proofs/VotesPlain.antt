@@ -9,7 +9,7 @@ use Rattle.sc_cmd.specs.declared.votes.Vote.TheVariants as TheVote
 use Rattle.sc_cmd.specs.declared.votes.Past.{Past}
 use Rattle.sc_cmd.specs.declared.votes.Past.TheVariants as ThePast
 use Rattle.sc_plain_json.specs.Plain.{IsPlain}
-use Rattle.sc_row_text.specs.Votes.{no_json, FitsNo, frozen_json, FitsFrozen, heard_json, FitsHeard, vote_json, FitsVote, past_json, FitsPast}
+use Rattle.sc_row_text.specs.Definitions.{no_json, FitsNo, frozen_json, FitsFrozen, heard_json, FitsHeard, vote_json, FitsVote, past_json, FitsPast}
 use Rattle.sc_row_text.proofs.SetsPlain.{arc_plain, clients_plain, nodes_plain, pairs_plain}
 use Rattle.sc_row_text.proofs.NamesPlain.{draw_plain}
 use Rattle.sc_row_text.proofs.LinksPlain.{link_plain}

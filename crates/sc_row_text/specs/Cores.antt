@@ -1,7 +1,7 @@
 -- Groups as JSON.
 use Rattle.std.specs.Prelude.{[], ◌∷◌, codes, ⊤}
 use Rattle.serde_json.specs.Data.{Data, string}
-use Rattle.sc_base.specs.Among.{Each}
+use Rattle.sc_base.specs.Definitions.{Each}
 use Rattle.sc_cmd.specs.declared.cores.Lock.{Lock}
 use Rattle.sc_cmd.specs.declared.cores.Lock.TheVariants as TheLock
 use Rattle.sc_cmd.specs.declared.cores.Core.{Core}

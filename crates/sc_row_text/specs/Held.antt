@@ -1,12 +1,7 @@
 -- What holds of each value that a program can hold: numbers are in their ranges, texts, arcs and sets are valid.
 use Rattle.std.specs.Prelude.{ℕ, ◌^◌, ◌<◌, List, Option, Some, None, ⊤}
 use Rattle.std.specs.declared.cmp.Ordering.{Ordering}
-use Rattle.sc_base.specs.Among.{Each}
-use Rattle.sc_base.specs.Arc.{Arc, IsArc}
-use Rattle.sc_base.specs.Ascending.{IsAscending}
-use Rattle.sc_base.specs.Limits.{longest_key, longest_value}
-use Rattle.sc_base.specs.Text.{IsText}
-use Rattle.sc_base.specs.Roster.{IsRoster}
+use Rattle.sc_base.specs.Definitions.{Each, Arc, IsArc, IsAscending, longest_key, longest_value, IsText, IsRoster}
 
 -- numbers of 8 bits
 abbrev pub FitsU8 : ℕ → Type 0

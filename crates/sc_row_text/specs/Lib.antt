@@ -14,3 +14,4 @@ pub mod Answers
 pub mod Mails
 pub mod Rows
 pub mod RowText
+pub mod Definitions

@@ -1,7 +1,7 @@
 -- Rows and their events as JSON.
 use Rattle.std.specs.Prelude.{[], ◌∷◌, codes, ⊤}
 use Rattle.serde_json.specs.Data.{Data, string}
-use Rattle.sc_base.specs.Among.{Each}
+use Rattle.sc_base.specs.Definitions.{Each}
 use Rattle.sc_actor.specs.declared.rows.Event.{Event}
 use Rattle.sc_actor.specs.declared.rows.Event.TheVariants as TheEvent
 use Rattle.sc_actor.specs.declared.rows.Row.{Row}

@@ -3,7 +3,7 @@ use Rattle.std.specs.Prelude.{ℕ, List}
 use Rattle.std.specs.Cmp.Lexicographic.{slice_cmp}
 use Rattle.std.specs.Ordering.{nat_cmp}
 use Rattle.serde_json.specs.Data.{Data, string, array, item, no_items}
-use Rattle.sc_base.specs.Arc.{Arc}
+use Rattle.sc_base.specs.Definitions.{Arc}
 use Rattle.sc_base.specs.declared.ops.Noted.{Noted}
 use Rattle.sc_row_text.specs.Shapes.{number_json, list_json, pair_json}
 use Rattle.sc_row_text.specs.Held.{FitsU16, FitsU32, FitsKey, FitsValue, OrderedFits}

@@ -4,10 +4,9 @@ use Rattle.std.specs.List.{All, AllPairs, insert}
 use Rattle.std.proofs.lemmas.Bool.{cases_Bool, cond-true, cond-false, ltb-true, ltb-false, or_parts, eqb-false}
 use Rattle.std.proofs.lemmas.List.Kept.{AllPairs-cons}
 use Rattle.std.proofs.lemmas.List.Elements.{All-cons, All-append, All-take, All-drop, All-weaker}
-use Rattle.sc_scenario.specs.Schedules.{is_client}
-use Rattle.sc_scenario.specs.Taking.{client_place}
+use Rattle.sc_scenario.specs.Definitions.{is_client, client_place}
 use Rattle.sc_scenario.specs.declared.scenarios.Asks.{Asks}
-use Rattle.sc_base.proofs.Pairs.{AllPairs-head, AllPairs-tail}
+use Rattle.sc_base.proofs.Lemmas.{AllPairs-head, AllPairs-tail}
 
 -- clients in order of number
 abbrev pub Below : Asks → Asks → Type 0

@@ -8,3 +8,4 @@ mod Spelled
 mod Starts
 pub mod Texts
 pub mod Verdicts
+pub mod Lemmas

@@ -6,13 +6,9 @@ use Rattle.std.proofs.lemmas.List.{length_push}
 use Rattle.std.proofs.lemmas.List.Elements.{All-nil, All-cons, All-push}
 use Rattle.std.proofs.lemmas.List.Folds.{list_any-append}
 use Rattle.std.proofs.lemmas.List.Quantifiers.{all_pairs_push}
-use Rattle.sc_base.specs.Among.{Each}
-use Rattle.sc_base.specs.Limits.{most_requests}
+use Rattle.sc_base.specs.Definitions.{Each, most_requests, IsRoster}
 use Rattle.sc_chance.specs.Words.{two_words}
-use Rattle.sc_base.specs.Roster.{IsRoster}
-use Rattle.sc_scenario.specs.Schedules.{is_client}
-use Rattle.sc_scenario.specs.Made.{made_op, made_ops, made_clients, made_groups, made_goes, made_scenario}
-use Rattle.sc_scenario.specs.Valid.{IsUpTo, IsBounded, IsBoundedGroup, IsShortOp, IsBoundedClient, IsBoundedLine}
+use Rattle.sc_scenario.specs.Definitions.{is_client, made_op, made_ops, made_clients, made_groups, made_goes, made_scenario, IsUpTo, IsBounded, IsBoundedGroup, IsShortOp, IsBoundedClient, IsBoundedLine}
 use Rattle.sc_scenario.specs.declared.drafts.GroupLine.{GroupLine}
 use Rattle.sc_scenario.specs.declared.scenarios.Asks.{Asks}
 use Rattle.sc_scenario.specs.declared.scenarios.SchedLine.{SchedLine}
@@ -42,7 +38,7 @@ pub no_ops : (seed n before : ℕ) → made_ops seed n before zero ≡ []
 unfolding made_ops
 no_ops seed n before = refl
 
-ops_counted : (seed n before k : ℕ) → length (made_ops seed n before k) ≡ k
+pub ops_counted : (seed n before k : ℕ) → length (made_ops seed n before k) ≡ k
 ops_counted seed n before zero = ap length (no_ops seed n before)
 ops_counted seed n before (suc k) =
     let more = length_push (made_ops seed n before k) (made_op (two_words seed (before * n + k)) (before + 1) (k + 1)) in

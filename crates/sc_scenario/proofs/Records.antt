@@ -1,6 +1,6 @@
 -- The groups' records, one after another.
 use Rattle.std.proofs.Common.{◌≡◌, ℕ, suc, ◌+◌, List, [], ◌∷◌, ◌++◌, ap, arith}
-use Rattle.sc_scenario.specs.Groups.{base_at, bases_up_to}
+use Rattle.sc_scenario.specs.Definitions.{base_at, bases_up_to}
 use Rattle.sc_scenario.specs.declared.drafts.GroupLine.{GroupLine}
 
 -- one record more

@@ -2,7 +2,7 @@
 use Rattle.std.proofs.Common.{◌≡◌, Option, Some, None, Bool, true, false, if◌then◌else◌, refl, sym, ap, true≢false}
 use Rattle.std.specs.Prelude.{Result, Ok, Err}
 use Rattle.std.specs.Result.{is_ok, result_unwrap_or}
-use Rattle.sc_lines.specs.Reasons.{or_reason, then_on}
+use Rattle.sc_lines.specs.Definitions.{or_reason, then_on}
 use Rattle.sc_lines.specs.declared.reasons.Reason.{Reason}
 
 -- no fault is a value

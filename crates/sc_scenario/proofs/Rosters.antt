@@ -3,9 +3,8 @@ use Rattle.std.proofs.Common.{◌≡◌, ℕ, ◌<◌, Bool, true, false, cond, 
 use Rattle.std.specs.List.{All}
 use Rattle.std.proofs.lemmas.Bool.{eqb-false}
 use Rattle.std.proofs.lemmas.List.Elements.{All-cons, All-append, All-filter}
-use Rattle.sc_base.specs.Roster.{IsRoster, is_member, with_member}
-use Rattle.sc_base.proofs.Rising.{roster_with as roster_put}
-use Rattle.sc_base.specs.Faults.{add_fault}
+use Rattle.sc_base.specs.Definitions.{IsRoster, is_member, with_member, add_fault}
+use Rattle.sc_base.proofs.Lemmas.{roster_with as roster_put}
 use Rattle.sc_base.specs.declared.sets.MemberFault.TheVariants.{Present, Full}
 
 -- one node is a set

@@ -1,25 +1,18 @@
 -- Requests are short: those that a text spells, and those that are made.
-use Rattle.std.proofs.Common.{◌≡◌, ℕ, ◌+◌, ◌%◌, ◌<◌, ◌≤◌, eqb, ltb, Bool, true, false, cond, List, [], ◌∷◌, ◌++◌, length, Option, Some, None, refl, sym, ◌∙◌, ap, subst, arith}
-use Rattle.std.specs.Prelude.{Result, Ok, Err, is_none, position}
+use Rattle.std.proofs.Common.{◌≡◌, ℕ, ◌+◌, ◌%◌, ◌<◌, ◌≤◌, eqb, ltb, Bool, true, false, cond, List, [], ◌∷◌, ◌++◌, length, Some, None, refl, ◌∙◌, ap, subst, arith}
+use Rattle.std.specs.Prelude.{Ok, is_none}
 use Rattle.std.specs.Fmt.{decimal}
-use Rattle.std.specs.Option.{option_map}
 use Rattle.std.proofs.lemmas.Bool.{cond_both, ltb-false}
 use Rattle.std.proofs.lemmas.Fmt.{length-decimal-le}
-use Rattle.sc_base.specs.Among.{Each}
-use Rattle.sc_base.specs.Limits.{longest_key, longest_value}
-use Rattle.sc_base.specs.TextFault.{text_fault}
+use Rattle.sc_base.specs.Definitions.{Each, longest_key, longest_value, text_fault}
 use Rattle.sc_base.specs.declared.ops.Op.{Op}
 use Rattle.sc_base.specs.declared.ops.Op.TheVariants.{Get, Put, Del, Add, Cas}
-use Rattle.sc_base.specs.declared.texts.KeyFault.{KeyFault}
-use Rattle.sc_base.specs.declared.texts.KeyFault.TheVariants.{Empty, TooLong, BadByte}
-use Rattle.sc_lines.specs.Requests.{with_value, request_in}
-use Rattle.sc_lines.specs.Words.{nth, key_in, value_in}
+use Rattle.sc_base.specs.declared.texts.KeyFault.TheVariants.{Empty, TooLong}
+use Rattle.sc_lines.specs.Definitions.{with_value, request_in, nth, key_in, value_in}
 use Rattle.sc_lines.specs.declared.kinds.RequestKind.{RequestKind}
 use Rattle.sc_lines.specs.declared.kinds.RequestKind.TheVariants as kind
-use Rattle.sc_lines.specs.declared.reasons.Reason.{Reason}
 use Rattle.sc_lines.specs.declared.reasons.Reason.TheVariants.{BadKey, BadValue}
-use Rattle.sc_scenario.specs.Made.{made_key, made_value, made_op}
-use Rattle.sc_scenario.specs.Valid.{IsShortOp}
+use Rattle.sc_scenario.specs.Definitions.{made_key, made_value, made_op, IsShortOp}
 use Rattle.sc_scenario.proofs.Results.{same_Ok, or_reason_ok}
 
 pub Each-push : {X : Type 0} (P : X → Type 0) (xs : List X) (x : X) → Each P xs → P x → Each P (xs ++ x ∷ [])

@@ -6,20 +6,12 @@ use Rattle.std.specs.List.{All, list_any}
 use Rattle.std.proofs.lemmas.Bool.{or_parts, eqb-true, eq-eqb, ltb-false, leb-true}
 use Rattle.std.proofs.lemmas.Option.{none-some, same_Some}
 use Rattle.std.proofs.lemmas.List.Elements.{All-nil, All-cons, All-push, All-head, All-tail}
-use Rattle.sc_base.proofs.CommonLemmas.{and_then-some, map-some}
-use Rattle.sc_base.specs.Limits.{most_nodes, most_clients, client_actor}
-use Rattle.sc_base.specs.Number.{number_of}
+use Rattle.sc_base.proofs.Lemmas.{and_then-some, map-some}
+use Rattle.sc_base.specs.Definitions.{most_nodes, most_clients, client_actor, number_of, IsRoster, with_member, add_fault}
 use Rattle.sc_cmd.specs.declared.orders.Order.{Order}
 use Rattle.sc_cmd.specs.declared.orders.Order.TheVariants.{Join, Leave, Split, Merge, Repart, Migrate}
-use Rattle.sc_base.specs.Roster.{IsRoster, with_member}
-use Rattle.sc_base.specs.Faults.{add_fault}
-use Rattle.sc_lines.specs.Reasons.{or_reason}
-use Rattle.sc_lines.specs.Words.{nth, count_in}
-use Rattle.sc_scenario.specs.Groups.{nodes_with, joined_by, joined_by_all}
-use Rattle.sc_scenario.specs.Schedules.{most_mails, most_deliveries, most_workers, last_storm, is_client, actor_in, line_in}
-use Rattle.sc_scenario.specs.Orders.{name_in, last_position, order_in}
-use Rattle.sc_scenario.specs.Taking.{is_actor, is_order_known, is_line_known, has_stranger}
-use Rattle.sc_scenario.specs.Valid.{IsBoundedLine, IsBoundedOrder, IsActor, IsUpTo}
+use Rattle.sc_lines.specs.Definitions.{or_reason, nth, count_in}
+use Rattle.sc_scenario.specs.Definitions.{nodes_with, joined_by, joined_by_all, most_mails, most_deliveries, most_workers, last_storm, is_client, actor_in, line_in, name_in, last_position, order_in, is_actor, is_order_known, is_line_known, has_stranger, IsBoundedLine, IsBoundedOrder, IsActor, IsUpTo}
 use Rattle.sc_lines.specs.declared.reasons.Reason.TheVariants.{WrongCount, BadNumber}
 use Rattle.sc_lines.specs.declared.kinds.LineKind.{LineKind}
 use Rattle.sc_lines.specs.declared.kinds.LineKind.TheVariants as kind
@@ -28,7 +20,7 @@ use Rattle.sc_lines.specs.declared.kinds.OrderKind.TheVariants as what
 use Rattle.sc_scenario.specs.declared.scenarios.Asks.{Asks}
 use Rattle.sc_scenario.specs.declared.scenarios.SchedLine.{SchedLine}
 use Rattle.sc_scenario.specs.declared.scenarios.SchedLine.TheVariants.{Go, Deliver, Drop, Again, Tick, Crash, Settle, Free, Storm}
-use Rattle.sc_lines.proofs.Choices.{is_up_to, counted}
+use Rattle.sc_lines.proofs.Lemmas.{is_up_to, counted}
 use Rattle.sc_scenario.proofs.Results.{err_ok, same_Ok, or_reason_ok}
 use Rattle.sc_scenario.proofs.Rosters.{roster_with, all_with}
 use Rattle.std.proofs.Math.Bool.{or-true}

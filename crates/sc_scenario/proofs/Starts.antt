@@ -4,8 +4,7 @@ use Rattle.std.specs.List.{AllPairs}
 use Rattle.std.proofs.lemmas.Bool.{ne_eqb, ltb-true, cases_lt}
 use Rattle.std.proofs.lemmas.List.{get_or_default}
 use Rattle.std.proofs.lemmas.List.Quantifiers.{all_pairs_push}
-use Rattle.sc_scenario.specs.Groups.{group_at}
-use Rattle.sc_scenario.specs.Taking.{is_above}
+use Rattle.sc_scenario.specs.Definitions.{group_at, is_above}
 use Rattle.sc_scenario.specs.declared.drafts.GroupLine.{GroupLine}
 
 -- a group that begins lower

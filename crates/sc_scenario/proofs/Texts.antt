@@ -1,5 +1,5 @@
 -- What a text that is a scenario gives.
-use Rattle.std.proofs.Common.{◌≡◌, ◌<◌, ◌≤◌, ◌+◌, ◌&&◌, ◌||◌, eqb, ltb, leb, not, ℕ, List, [], ◌∷◌, ◌++◌, drop, length, Some, None, Bool, true, false, if◌then◌else◌, nat_lt, refl, sym, ap, subst, inl, inr, arith, true≢false, codes}
+use Rattle.std.proofs.Common.{◌≡◌, ◌<◌, ◌≤◌, ◌+◌, ◌&&◌, ◌||◌, eqb, ltb, leb, not, ℕ, List, [], ◌∷◌, ◌++◌, drop, length, Some, Bool, true, false, if◌then◌else◌, nat_lt, refl, sym, ap, subst, inl, inr, arith, true≢false, codes}
 use Rattle.std.specs.Prelude.{Result, Ok, Err, ⊤, ◌⊎◌}
 use Rattle.std.specs.List.{All, AllPairs}
 use Rattle.std.specs.Result.{result_ok}
@@ -7,24 +7,11 @@ use Rattle.std.proofs.lemmas.Bool.{and_parts, or_parts, eqb-true, eqb-false, leb
 use Rattle.std.proofs.lemmas.List.{length_push}
 use Rattle.std.proofs.lemmas.Option.{none-some, same_Some}
 use Rattle.std.proofs.lemmas.List.Elements.{All-nil, All-cons, All-push, All-head, All-tail}
-use Rattle.sc_base.proofs.CommonLemmas.{and_then-some}
-use Rattle.sc_base.specs.Limits.{most_nodes, most_clients, most_requests}
-use Rattle.sc_base.specs.Number.{number_of}
+use Rattle.sc_base.specs.Definitions.{most_nodes, most_clients, most_requests, number_of}
 use Rattle.sc_base.specs.declared.ops.Op.{Op}
 use Rattle.sc_cmd.specs.declared.orders.Order.{Order}
-use Rattle.sc_lines.specs.Reasons.{or_reason, then_on}
-use Rattle.sc_lines.specs.Words.{nth, words_of, count_in}
-use Rattle.sc_lines.specs.Lines.{is_too_long, lines_of, trimmed, is_skipped, has_bad_byte, most_lines}
-use Rattle.sc_lines.specs.Kinds.{kind_of, phase_of, is_inner, has_count}
-use Rattle.sc_lines.specs.Requests.{request_in}
-use Rattle.sc_scenario.specs.Groups.{nodes_with, has_repeat, set_of}
-use Rattle.sc_scenario.specs.Schedules.{is_client, line_in}
-use Rattle.sc_scenario.specs.Orders.{order_in, last_position}
-use Rattle.sc_scenario.specs.Statements.{group_in, statement_in}
-use Rattle.sc_scenario.specs.Places.{phase_so_far, may_follow, is_in_place}
-use Rattle.sc_scenario.specs.Taking.{is_order_known, is_line_known, is_above, most_groups, most_members, with_group_line, has_stranger, group_taken, client_place, with_client, with_op, client_taken, request_taken, with_sched_line, telling_of, with_order, line_taken, telling_taken, taken_outside, taken_within}
-use Rattle.sc_scenario.specs.Grammar.{begun, are_two, header_read, said, words_read, is_fresh, line_read, scenario_by, reading_ended, text_ended, going_on, lines_read, verdict_of}
-use Rattle.sc_scenario.specs.Valid.{IsWritten, IsBounded, IsBoundedGroup, IsShortOp, IsBoundedClient, IsBoundedLine, IsUpTo, ValidScenariosAreBounded}
+use Rattle.sc_lines.specs.Definitions.{or_reason, then_on, nth, words_of, count_in, is_too_long, lines_of, trimmed, is_skipped, has_bad_byte, most_lines, kind_of, phase_of, is_inner, has_count, request_in}
+use Rattle.sc_scenario.specs.Definitions.{nodes_with, has_repeat, set_of, is_client, line_in, order_in, last_position, group_in, statement_in, phase_so_far, may_follow, is_in_place, is_order_known, is_line_known, is_above, most_groups, most_members, with_group_line, has_stranger, group_taken, client_place, with_client, with_op, client_taken, request_taken, with_sched_line, telling_of, with_order, line_taken, telling_taken, taken_outside, taken_within, begun, are_two, header_read, said, words_read, is_fresh, line_read, scenario_by, reading_ended, text_ended, going_on, lines_read, verdict_of, IsWritten, IsBounded, IsBoundedGroup, IsShortOp, IsBoundedClient, IsBoundedLine, IsUpTo, ValidScenariosAreBounded}
 use Rattle.sc_lines.specs.declared.reasons.Reason.{Reason}
 use Rattle.sc_lines.specs.declared.reasons.Reason.TheVariants.{MissingHeader, BadByte, UnknownWord, OutOfPlace, WrongCount, BadNumber, UnknownName, Repeated, BadBoundary, TooMany, UnendedClient, MissingPart, TooLarge}
 use Rattle.sc_lines.specs.declared.kinds.Kind.{Kind}
@@ -40,7 +27,7 @@ use Rattle.sc_scenario.specs.declared.reading.ScenarioFault.TheVariants.{Bad}
 use Rattle.sc_scenario.specs.declared.scenarios.Asks.{Asks}
 use Rattle.sc_scenario.specs.declared.scenarios.Scenario.{Scenario}
 use Rattle.sc_scenario.specs.declared.scenarios.SchedLine.{SchedLine}
-use Rattle.sc_lines.proofs.Choices.{chosen, is_up_to, counted}
+use Rattle.sc_lines.proofs.Lemmas.{is_up_to, counted}
 use Rattle.sc_scenario.proofs.Results.{err_ok, same_Ok, or_reason_ok, after_ok, passed, met}
 use Rattle.sc_scenario.proofs.Rosters.{roster_one}
 use Rattle.sc_scenario.proofs.Short.{Each-push, request_short}
@@ -161,7 +148,7 @@ policy_read draft is = record {
   lines = is.lines;
 }
 
-turned : (b : Bool) → not b ≡ false → b ≡ true
+pub turned : (b : Bool) → not b ≡ false → b ≡ true
 turned true h = refl
 turned false h = absurd (true≢false h)
 

@@ -3,16 +3,15 @@ use Rattle.std.proofs.Common.{◌≡◌, ℕ, ◌+◌, ◌<◌, Bool, true, fals
 use Rattle.std.specs.Prelude.{Result}
 use Rattle.std.proofs.lemmas.Bool.{cond-true, lt-ltb}
 use Rattle.std.proofs.lemmas.List.{take_all, take-take, length-take-le}
-use Rattle.sc_lines.specs.Lines.{most_bytes, most_lines, is_too_long, lines_in, lines_of, trimmed}
-use Rattle.sc_scenario.specs.Grammar.{HasVerdict, bad, going_on, line_read, lines_read, verdict_of}
-use Rattle.sc_scenario.specs.Valid.{FirstBytesDecide}
+use Rattle.sc_lines.specs.Definitions.{most_bytes, most_lines, is_too_long, lines_in, lines_of, trimmed}
+use Rattle.sc_scenario.specs.Definitions.{HasVerdict, bad, going_on, line_read, lines_read, verdict_of, FirstBytesDecide}
 use Rattle.sc_lines.specs.declared.reasons.Reason.{Reason}
 use Rattle.sc_lines.specs.declared.reasons.Reason.TheVariants.{TooLarge}
 use Rattle.sc_scenario.specs.declared.reading.ScenarioFault.{ScenarioFault}
 use Rattle.sc_scenario.specs.declared.scenarios.Scenario.{Scenario}
 use Rattle.sc_scenario.specs.declared.drafts.Reading.{Reading}
 use Rattle.sc_scenario.specs.declared.drafts.Reading.TheVariants.{Fresh}
-use Rattle.sc_lines.proofs.Cuts.{lines_all, lines_cut, lines_some}
+use Rattle.sc_lines.proofs.Lemmas.{lines_all, lines_cut, lines_some}
 
 -- of a text that is not too long all lines are read
 pub verdict_all : (text : List ℕ) → is_too_long text ≡ false → verdict_of text ≡ lines_read false 1 Fresh (lines_in false text)

@@ -1,10 +1,7 @@
 -- Which texts are a scenario, which scenario, and else the first bad line and its reason.
-use Rattle.std.specs.Prelude.{ℕ, ◌+◌, ◌==◌, ◌&&◌, ◌||◌, not, nat_lt, Bool, true, false, List, [], ◌∷◌, length, codes, Option, Some, None, Result, Ok, Err, if◌then◌else◌, option_and_then, ◌≡◌, ◌⊎◌, MatchResult}
+use Rattle.std.specs.Prelude.{ℕ, ◌+◌, ◌==◌, ◌&&◌, ◌||◌, not, nat_lt, Bool, true, false, List, [], ◌∷◌, length, codes, Option, Result, Ok, Err, if◌then◌else◌, ◌≡◌, ◌⊎◌, MatchResult}
 use Rattle.std.specs.Result.{result_ok}
-use Rattle.sc_lines.specs.Reasons.{or_reason, then_on}
-use Rattle.sc_lines.specs.Words.{same, nth, words_of}
-use Rattle.sc_lines.specs.Lines.{most_lines, is_too_long, lines_of, trimmed, is_skipped, has_bad_byte}
-use Rattle.sc_lines.specs.Kinds.{kind_of, has_count}
+use Rattle.sc_lines.specs.Definitions.{or_reason, then_on, same, nth, words_of, most_lines, is_too_long, lines_of, trimmed, is_skipped, has_bad_byte, kind_of, has_count}
 use Rattle.sc_scenario.specs.Groups.{bases_of}
 use Rattle.sc_scenario.specs.Statements.{statement_in}
 use Rattle.sc_scenario.specs.Places.{is_in_place}

@@ -1,16 +1,13 @@
 -- The groups' lines, and their records: group 0.k is of the k-th line, and the groups stand round the circle in this order.
 use Rattle.std.specs.Prelude.{ℕ, zero, suc, ◌^◌, ◌+◌, ◌-◌, ◌==◌, ◌||◌, nat_le, Bool, false, List, [], ◌∷◌, ◌++◌, get_or, length, is_none, Option, Some, None, if◌then◌else◌, option_and_then}
 use Rattle.std.specs.List.{list_any}
-use Rattle.sc_base.specs.Limits.{most_nodes}
-use Rattle.sc_base.specs.Arc.{Arc}
+use Rattle.sc_base.specs.Definitions.{most_nodes, Arc, with_member, least_of, add_fault}
 use Rattle.sc_base.specs.declared.names.Draw.{Draw}
-use Rattle.sc_base.specs.Roster.{with_member, least_of}
-use Rattle.sc_base.specs.Faults.{add_fault}
 use Rattle.sc_cmd.specs.declared.cores.Base.{Base}
 use Rattle.sc_cmd.specs.declared.cores.Core.{Core}
 use Rattle.sc_cmd.specs.declared.cores.Lock.TheVariants.{Free}
 use Rattle.sc_cmd.specs.declared.links.Link.{Link}
-use Rattle.sc_lines.specs.Words.{count_in}
+use Rattle.sc_lines.specs.Definitions.{count_in}
 use Rattle.sc_scenario.specs.declared.drafts.GroupLine.{GroupLine}
 
 -- ---- the nodes of a line

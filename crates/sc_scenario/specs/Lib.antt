@@ -7,3 +7,4 @@ pub mod Taking
 pub mod Grammar
 pub mod Made
 pub mod Valid
+pub mod Definitions

@@ -1,7 +1,7 @@
 -- Made scenarios: ordinary use of three groups by sixteen clients, whose requests are drawn from the words that a number seeds.
 use Rattle.std.specs.Prelude.{◌≡◌, ◌≤◌, ℕ, zero, suc, ◌+◌, ◌*◌, ◌%◌, ◌==◌, true, false, List, [], ◌∷◌, ◌++◌, if◌then◌else◌}
 use Rattle.std.specs.Fmt.{decimal}
-use Rattle.sc_base.specs.Limits.{most_requests}
+use Rattle.sc_base.specs.Definitions.{most_requests}
 use Rattle.sc_base.specs.declared.ops.Op.{Op}
 use Rattle.sc_base.specs.declared.ops.Op.TheVariants.{Get, Put, Del}
 use Rattle.sc_chance.specs.Words.{two_words}

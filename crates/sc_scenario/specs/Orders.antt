@@ -1,13 +1,11 @@
 -- Orders: a node is told one, by the words of a line.
 use Rattle.std.specs.Prelude.{ℕ, ◌==◌, List, length, Option, None, Result, Ok, Err, if◌then◌else◌, option_and_then}
 use Rattle.std.specs.Option.{option_map}
-use Rattle.sc_base.specs.Limits.{most_nodes}
-use Rattle.sc_base.specs.Number.{number_of}
+use Rattle.sc_base.specs.Definitions.{most_nodes, number_of}
 use Rattle.sc_base.specs.declared.names.Draw.{Draw}
 use Rattle.sc_cmd.specs.declared.orders.Order.{Order}
 use Rattle.sc_cmd.specs.declared.orders.Order.TheVariants.{Join, Leave, Split, Merge, Repart, Migrate}
-use Rattle.sc_lines.specs.Reasons.{or_reason}
-use Rattle.sc_lines.specs.Words.{pieces, nth, count_in}
+use Rattle.sc_lines.specs.Definitions.{or_reason, pieces, nth, count_in}
 use Rattle.sc_scenario.specs.Schedules.{most_mails}
 use Rattle.sc_lines.specs.declared.reasons.Reason.{Reason}
 use Rattle.sc_lines.specs.declared.reasons.Reason.TheVariants.{BadNumber, WrongCount}

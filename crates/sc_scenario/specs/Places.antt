@@ -1,11 +1,10 @@
 -- Where a line of a kind may stand.
-use Rattle.std.specs.Prelude.{ℕ, ◌==◌, ◌&&◌, ◌||◌, not, nat_le, nat_lt, Bool, true, false, length, if◌then◌else◌}
-use Rattle.sc_lines.specs.Kinds.{phase_of, is_inner}
+use Rattle.std.specs.Prelude.{ℕ, ◌==◌, ◌&&◌, ◌||◌, not, nat_le, nat_lt, Bool, false, length, if◌then◌else◌}
+use Rattle.sc_lines.specs.Definitions.{phase_of, is_inner}
 use Rattle.sc_scenario.specs.declared.drafts.Draft.{Draft}
 use Rattle.sc_scenario.specs.declared.drafts.Reading.{Reading}
 use Rattle.sc_scenario.specs.declared.drafts.Reading.TheVariants.{Fresh, Outside, Within}
 use Rattle.sc_lines.specs.declared.kinds.Kind.{Kind}
-use Rattle.sc_lines.specs.declared.kinds.Kind.TheVariants.{Header, Nodes, Group, Policy, Client, End, Asking, Playing, Telling}
 
 -- ---- where a line may stand
 

@@ -2,10 +2,8 @@
 use Rattle.std.specs.Prelude.{ℕ, ◌==◌, Bool, List, [], ◌∷◌, Option, None, Result, Ok, if◌then◌else◌}
 use Rattle.std.specs.List.{list_any}
 use Rattle.std.specs.Option.{option_map}
-use Rattle.sc_base.specs.Limits.{most_nodes, most_clients, client_actor}
-use Rattle.sc_base.specs.Number.{number_of}
-use Rattle.sc_lines.specs.Reasons.{or_reason}
-use Rattle.sc_lines.specs.Words.{nth, count_in}
+use Rattle.sc_base.specs.Definitions.{most_nodes, most_clients, client_actor, number_of}
+use Rattle.sc_lines.specs.Definitions.{or_reason, nth, count_in}
 use Rattle.sc_lines.specs.declared.reasons.Reason.{Reason}
 use Rattle.sc_lines.specs.declared.reasons.Reason.TheVariants.{BadNumber}
 use Rattle.sc_lines.specs.declared.kinds.LineKind.{LineKind}

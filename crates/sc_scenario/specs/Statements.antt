@@ -1,10 +1,7 @@
 -- What the words of a line say, each line by itself.
 use Rattle.std.specs.Prelude.{ℕ, List, [], drop, Result, Ok, Err}
-use Rattle.sc_base.specs.Limits.{most_nodes, most_clients}
-use Rattle.sc_base.specs.Number.{number_of}
-use Rattle.sc_lines.specs.Reasons.{or_reason, then_on}
-use Rattle.sc_lines.specs.Words.{nth, count_in}
-use Rattle.sc_lines.specs.Requests.{request_in}
+use Rattle.sc_base.specs.Definitions.{most_nodes, most_clients, number_of}
+use Rattle.sc_lines.specs.Definitions.{or_reason, then_on, nth, count_in, request_in}
 use Rattle.sc_scenario.specs.Orders.{order_in, last_position}
 use Rattle.sc_scenario.specs.Schedules.{line_in}
 use Rattle.sc_scenario.specs.Groups.{nodes_with}

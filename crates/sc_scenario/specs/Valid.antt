@@ -1,16 +1,14 @@
 -- Scenarios that some text is, or that are made.
-use Rattle.std.specs.Prelude.{◌≡◌, ◌<◌, ◌≤◌, ℕ, ◌+◌, ◌^◌, false, true, List, Some, length, take, All, ◌⊎◌}
+use Rattle.std.specs.Prelude.{◌≡◌, ◌<◌, ◌≤◌, ℕ, ◌+◌, ◌^◌, true, List, Some, length, take, All, ◌⊎◌}
 use Rattle.std.specs.List.{AllPairs}
-use Rattle.sc_base.specs.Roster.{IsRoster}
+use Rattle.sc_base.specs.Definitions.{IsRoster, Each, longest_key, longest_value, most_nodes, most_clients, most_requests, client_actor}
 use Rattle.sc_cmd.specs.declared.orders.Order.{Order}
 use Rattle.sc_cmd.specs.declared.orders.Order.TheVariants.{Join, Leave, Split, Merge, Repart, Migrate}
 use Rattle.sc_scenario.specs.Groups.{bases_of}
-use Rattle.sc_base.specs.Among.{Each}
-use Rattle.sc_base.specs.Limits.{longest_key, longest_value, most_nodes, most_clients, most_requests, client_actor}
 use Rattle.sc_base.specs.declared.ops.Op.{Op}
 use Rattle.sc_base.specs.declared.ops.Op.TheVariants.{Get, Put, Del, Add, Cas}
 use Rattle.sc_scenario.specs.Schedules.{is_client, most_mails, most_deliveries, most_workers, last_storm}
-use Rattle.sc_lines.specs.Lines.{most_bytes}
+use Rattle.sc_lines.specs.Definitions.{most_bytes}
 use Rattle.sc_scenario.specs.Taking.{most_groups}
 use Rattle.sc_scenario.specs.Grammar.{verdict_of, scenario_of}
 use Rattle.sc_scenario.specs.Made.{IsMade}

@@ -1,13 +1,9 @@
 -- What one more row makes of the entries of a journal, and of all groups.
 use Rattle.std.proofs.Common.{◌≡◌, List, [], ◌∷◌, ◌++◌, sym, ◌∙◌, ap, append-nil, append_assoc}
-use Rattle.sc_cmd.specs.declared.cores.Base.{Base}
-use Rattle.sc_cmd.specs.declared.orders.OrderLine.{OrderLine}
-use Rattle.sc_mail.specs.declared.bodies.Mail.{Mail}
-use Rattle.sc_actor.specs.declared.rows.Row.{Row}
-use Rattle.sc_sound.specs.Players.{Ahead}
-use Rattle.sc_log_entries.specs.Worlds.{first_world, world_after, world_of}
-use Rattle.sc_log_entries.proofs.Pushes.{world_append}
-use Rattle.sc_sound.specs.GroupsOf.{entries_at, entries_by_row, entries_by_rows, world_at}
+use Rattle.sc_node_table.specs.Values.{Base, OrderLine, Mail, Row}
+use Rattle.sc_sound.specs.Definitions.{Ahead, entries_at, entries_by_row, entries_by_rows, world_at}
+use Rattle.sc_log_entries.specs.Definitions.{first_world, world_after, world_of}
+use Rattle.sc_log_entries.proofs.Lemmas.{world_append}
 
 entries_by_rows-push : (ahead : Ahead) (bases : List Base) (before rows : List (Row Mail OrderLine)) (row : Row Mail OrderLine)
     → entries_by_rows ahead bases before (rows ++ row ∷ []) ≡ entries_by_rows ahead bases before rows ++ entries_by_row ahead bases (before ++ rows) row

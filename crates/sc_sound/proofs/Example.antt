@@ -4,16 +4,10 @@ use Rattle.std.specs.Ordering.{nat_cmp}
 use Rattle.std.specs.Cmp.{nat_cmp_total}
 use Rattle.std.specs.Cmp.Lexicographic.{slice_cmp, nat_list_cmp_total}
 use Rattle.std.specs.FinMap.{get, get-empty, get-insert}
-use Rattle.sc_base.specs.declared.ops.Noted.{Noted}
-use Rattle.sc_cmd.specs.declared.commands.Command.TheVariants.{Call}
-use Rattle.sc_cmd.specs.declared.effects.Effect.{Effect}
-use Rattle.sc_ideal.specs.declared.Entry.{Entry}
-use Rattle.sc_ideal.specs.IdealStore.{reply_of}
-use Rattle.sc_machine_table.specs.Group.{Group, group_of}
-use Rattle.sc_machine_table.specs.Machine.{applied, done, served_by_note}
-use Rattle.sc_sound.specs.Histories.{history}
-use Rattle.sc_machine_table.specs.Logs.{entry_of}
-use Rattle.sc_sound.specs.Example.{four, alone, example_rows, example_history, put_it, get_it}
+use Rattle.sc_node_table.specs.Values.{Noted, Call, Effect, Entry}
+use Rattle.sc_ideal.specs.Definitions.{reply_of}
+use Rattle.sc_machine_table.specs.Definitions.{Group, group_of, applied, done, served_by_note, entry_of}
+use Rattle.sc_sound.specs.Definitions.{history, four, alone, example_rows, example_history, put_it, get_it}
 
 -- the group at its birth
 abbrev pub born : Group

@@ -3,3 +3,4 @@ pub mod Example
 pub mod Rows
 mod WorkedOrder
 mod WorkedSplit
+pub mod Lemmas

@@ -1,18 +1,8 @@
 -- Rows in which two groups decide a call each, the second group first: the entries are in the order of the rows, not of the groups.
 use Rattle.std.proofs.Common.{◌≡◌, ℕ, List, [], ◌∷◌, refl}
-use Rattle.sc_base.specs.declared.names.Ballot.{Ballot}
-use Rattle.sc_base.specs.declared.ops.Op.TheVariants.{Put}
-use Rattle.sc_cmd.specs.declared.commands.Command.{Command}
-use Rattle.sc_cmd.specs.declared.commands.Command.TheVariants.{Call}
-use Rattle.sc_cmd.specs.declared.cores.Base.{Base}
-use Rattle.sc_cmd.specs.declared.orders.OrderLine.{OrderLine}
-use Rattle.sc_mail.specs.declared.bodies.Mail.{Mail}
-use Rattle.sc_mail.specs.declared.bodies.MailBody.TheVariants.{Request, Accept, Accepted}
-use Rattle.sc_actor.specs.declared.rows.Row.{Row}
-use Rattle.sc_actor.specs.declared.rows.Event.TheVariants.{Deliver, Go}
-use Rattle.sc_log_entries.proofs.Worked.{draw, born, entry}
-use Rattle.sc_sound.specs.Example.{four, mail, row}
-use Rattle.sc_sound.specs.GroupsOf.{entries_at}
+use Rattle.sc_node_table.specs.Values.{Ballot, Put, Command, Call, Base, OrderLine, Mail, Request, Accept, Accepted, Row, Deliver, Go}
+use Rattle.sc_log_entries.proofs.Lemmas.{draw, born, entry}
+use Rattle.sc_sound.specs.Definitions.{four, mail, row, entries_at}
 
 -- two groups of one node each
 abbrev groups : List Base

@@ -1,18 +1,10 @@
 -- The first rows of a journal in which a group that is its own successor splits: its groups, its entries and its ring, row by row, as a second implementation tells them.
 use Rattle.std.proofs.Common.{◌≡◌, ℕ, List, [], ◌∷◌, map, refl}
-use Rattle.sc_cmd.specs.declared.commands.Command.{Command}
-use Rattle.sc_cmd.specs.declared.commands.Command.TheVariants.{Split}
-use Rattle.sc_cmd.specs.declared.cores.Base.{Base}
+use Rattle.sc_node_table.specs.Values.{Command, Split, Base, OrderLine, Mail, MailBody, Accept, Accepted, Row, Deliver}
 use Rattle.sc_cmd.specs.declared.orders.Order.TheVariants as Ordered
-use Rattle.sc_cmd.specs.declared.orders.OrderLine.{OrderLine}
-use Rattle.sc_mail.specs.declared.bodies.Mail.{Mail}
-use Rattle.sc_mail.specs.declared.bodies.MailBody.{MailBody}
-use Rattle.sc_mail.specs.declared.bodies.MailBody.TheVariants.{Accept, Accepted}
-use Rattle.sc_actor.specs.declared.rows.Row.{Row}
-use Rattle.sc_actor.specs.declared.rows.Event.TheVariants.{Deliver, Told}
-use Rattle.sc_log_entries.proofs.Worked.{draw, born, entry, cut}
-use Rattle.sc_sound.specs.Example.{four, ballot, row}
-use Rattle.sc_sound.specs.GroupsOf.{groups_at, entries_at, ring_at}
+use Rattle.sc_actor.specs.declared.rows.Event.TheVariants.{Told}
+use Rattle.sc_log_entries.proofs.Lemmas.{draw, born, entry, cut}
+use Rattle.sc_sound.specs.Definitions.{four, ballot, row, groups_at, entries_at, ring_at}
 
 -- a group of two nodes that has the whole ring
 abbrev groups : List Base

@@ -1,19 +1,10 @@
 -- What the rows of a journal accept: read from the mail that they deliver and send, never from what an actor holds.
 use Rattle.std.specs.Prelude.{ℕ, Bool, false, ◌==◌, ◌&&◌, List, [], ◌∷◌, ◌++◌, if◌then◌else◌, Option, Some, None}
 use Rattle.std.specs.List.{list_any}
-use Rattle.sc_base.specs.declared.names.Draw.{Draw}
-use Rattle.sc_base.specs.declared.names.Ballot.{Ballot}
-use Rattle.sc_base.specs.Same.{same_draw, same_ballot}
-use Rattle.sc_cmd.specs.declared.commands.Command.{Command}
-use Rattle.sc_cmd.specs.declared.orders.OrderLine.{OrderLine}
-use Rattle.sc_mail.specs.declared.bodies.Mail.{Mail}
-use Rattle.sc_mail.specs.declared.bodies.MailBody.{MailBody}
-use Rattle.sc_mail.specs.declared.bodies.MailBody.TheVariants.{Accept, Accepted as AcceptedMail}
-use Rattle.sc_actor.specs.declared.rows.Row.{Row}
-use Rattle.sc_actor.specs.declared.rows.Event.{Event}
-use Rattle.sc_actor.specs.declared.rows.Event.TheVariants.{Deliver}
-use Rattle.sc_actor.specs.Mail.{numbered}
-use Rattle.sc_paxos_law.specs.Steps.{Step, Accepted}
+use Rattle.sc_node_table.specs.Values.{Draw, Ballot, Command, OrderLine, Mail, MailBody, Accept, Accepted as AcceptedMail, Row, Event, Deliver}
+use Rattle.sc_base.specs.Definitions.{same_draw, same_ballot}
+use Rattle.sc_actor.specs.Definitions.{numbered}
+use Rattle.sc_paxos_law.specs.Definitions.{Step, Accepted}
 
 -- whether a mail says that a slot of a group was accepted in a ballot
 abbrev pub is_accepted : Draw → Ballot → ℕ → MailBody → Bool

@@ -1,21 +1,8 @@
 -- A journal: a client puts a value at a key and gets it, and the one member of a group leads.
 use Rattle.std.specs.Prelude.{ℕ, false, List, [], ◌∷◌, Some, None}
 use Rattle.std.proofs.Common.{lit≤}
-use Rattle.sc_base.specs.declared.names.Ballot.{Ballot}
-use Rattle.sc_base.specs.declared.ops.Op.{Op}
-use Rattle.sc_base.specs.declared.ops.Op.TheVariants.{Get, Put}
-use Rattle.sc_cmd.specs.declared.commands.Command.TheVariants.{Call}
-use Rattle.sc_cmd.specs.declared.orders.OrderLine.{OrderLine}
-use Rattle.sc_mail.specs.declared.bodies.AnswerBody.TheVariants.{Value}
-use Rattle.sc_mail.specs.declared.bodies.Mail.{Mail}
-use Rattle.sc_mail.specs.declared.bodies.MailBody.{MailBody}
-use Rattle.sc_mail.specs.declared.bodies.MailBody.TheVariants.{Request, Answer, Accept, Accepted}
-use Rattle.sc_actor.specs.declared.rows.Row.{Row}
-use Rattle.sc_actor.specs.declared.rows.Event.{Event}
-use Rattle.sc_actor.specs.declared.rows.Event.TheVariants.{Deliver, Go}
-use Rattle.sc_ideal.specs.declared.Entry.{Entry}
-use Rattle.sc_cmd.specs.declared.cores.Base.{Base}
-use Rattle.sc_scenario.specs.Groups.{lone_name, lone_group}
+use Rattle.sc_node_table.specs.Values.{Ballot, Op, Get, Put, Call, OrderLine, Value, Mail, MailBody, Request, Answer, Accept, Accepted, Row, Event, Deliver, Go, Entry, Base}
+use Rattle.sc_scenario.specs.Definitions.{lone_name, lone_group}
 use Rattle.sc_scenario.specs.declared.scenarios.SchedLine.TheVariants.{Go as GoLine, Settle}
 use Rattle.sc_scenario.specs.declared.scenarios.Scenario.{Scenario}
 use Rattle.sc_sound.specs.Players.{Ahead}

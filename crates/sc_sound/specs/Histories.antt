@@ -1,14 +1,9 @@
 -- The history of a journal: the requests that took effect, in the order of the rows that decided them.
 use Rattle.std.specs.Prelude.{ℕ, ◌+◌, nat_lt, List, [], ◌∷◌, ◌++◌, length, drop, if◌then◌else◌, Option, Some, None}
 use Rattle.std.specs.List.{flat_map}
-use Rattle.sc_cmd.specs.declared.cores.Base.{Base}
-use Rattle.sc_cmd.specs.declared.orders.OrderLine.{OrderLine}
-use Rattle.sc_mail.specs.declared.bodies.Mail.{Mail}
-use Rattle.sc_actor.specs.declared.rows.Row.{Row}
-use Rattle.sc_ideal.specs.declared.Entry.{Entry}
-use Rattle.sc_machine_table.specs.Group.{group_of}
+use Rattle.sc_node_table.specs.Values.{Base, OrderLine, Mail, Row, Entry}
+use Rattle.sc_machine_table.specs.Definitions.{group_of, state_after, done_by}
 use Rattle.sc_sound.specs.Players.{Ahead}
-use Rattle.sc_machine_table.specs.Logs.{state_after, done_by}
 use Rattle.sc_sound.specs.Logs.{decided_log}
 
 -- the entries of a group that are decided after some rows and not after fewer

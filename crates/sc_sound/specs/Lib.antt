@@ -7,3 +7,4 @@ pub mod Players
 pub mod Requests
 pub mod Soundness
 pub mod Summary
+pub mod Definitions

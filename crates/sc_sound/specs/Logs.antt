@@ -1,15 +1,9 @@
 -- The decided log of a group in a journal, and the group's state after it.
 use Rattle.std.specs.Prelude.{ℕ, List}
-use Rattle.sc_cmd.specs.declared.commands.Command.{Command}
-use Rattle.sc_cmd.specs.declared.cores.Base.{Base}
-use Rattle.sc_cmd.specs.declared.orders.OrderLine.{OrderLine}
-use Rattle.sc_mail.specs.declared.bodies.Mail.{Mail}
-use Rattle.sc_actor.specs.declared.rows.Row.{Row}
-use Rattle.sc_machine_table.specs.Logs.{state_after}
-use Rattle.sc_machine_table.specs.Group.{Group, group_of}
+use Rattle.sc_node_table.specs.Values.{Command, Base, OrderLine, Mail, Row}
+use Rattle.sc_machine_table.specs.Definitions.{state_after, Group, group_of}
 use Rattle.sc_sound.specs.Players.{Ahead}
-use Rattle.sc_paxos_law.specs.Chosen.{Rule, IsChosenAfter}
-use Rattle.sc_paxos_law.specs.Decided.{log_of}
+use Rattle.sc_paxos_law.specs.Definitions.{Rule, IsChosenAfter, log_of}
 use Rattle.sc_sound.specs.Accepts.{accepts}
 
 -- the members of a slot are those in the state after the entries up to so many slots before it (Paxos Made Simple, section 3)

@@ -1,30 +1,17 @@
 -- The players of a scenario, as the system that the walk runs: each node and each client as the value of its table.
 use Rattle.std.specs.Prelude.{ℕ, ◌+◌, ◌≤◌, Bool, List, [], ◌∷◌, ◌++◌, length, map, All}
 use Rattle.std.proofs.Common.{lit≤}
-use Rattle.sc_base.specs.declared.ops.Reply.{Reply}
-use Rattle.sc_base.specs.Limits.{client_actor, most_clients, most_requests}
-use Rattle.sc_cmd.specs.declared.cores.Base.{Base}
-use Rattle.sc_cmd.specs.declared.links.Route.{Route}
-use Rattle.sc_cmd.specs.declared.orders.OrderLine.{OrderLine}
-use Rattle.sc_mail.specs.declared.bodies.Mail.{Mail}
-use Rattle.sc_actor.specs.declared.rows.Row.{Row}
-use Rattle.sc_actor.specs.declared.actors.Seat.{Seat}
-use Rattle.sc_actor.specs.declared.schedules.Line.{Line}
+use Rattle.sc_node_table.specs.Values.{Reply, Base, Route, OrderLine, Mail, Row, Seat, Line, Role, Node, Client}
+use Rattle.sc_base.specs.Definitions.{client_actor, most_clients, most_requests}
 use Rattle.sc_actor.specs.declared.schedules.Line.TheVariants as line
-use Rattle.sc_actor.specs.Replay.{Table, values}
-use Rattle.sc_actor.specs.System.{System, system}
-use Rattle.sc_actor.specs.Walk.{IsLawful, IsWhole}
+use Rattle.sc_actor.specs.Definitions.{Table, values, System, system, IsLawful, IsWhole}
 use Rattle.sc_scenario.specs.declared.scenarios.Asks.{Asks}
 use Rattle.sc_scenario.specs.declared.scenarios.Scenario.{Scenario}
 use Rattle.sc_scenario.specs.declared.scenarios.SchedLine.{SchedLine}
 use Rattle.sc_scenario.specs.declared.scenarios.SchedLine.TheVariants.{Go, Deliver, Drop, Again, Tick, Crash, Told, Settle, Free, Storm}
-use Rattle.sc_node_table.specs.Slots.{slots_ahead, numbers_from}
-use Rattle.sc_node_table.specs.Node.{NodeState, node_table, born_node}
-use Rattle.sc_client_table.specs.Client.{Client as ClientState, born_client}
-use Rattle.sc_client_table.specs.Table.{table}
-use Rattle.sc_mail.specs.Roles.{role_table}
-use Rattle.sc_mail.specs.declared.roles.Role.{Role}
-use Rattle.sc_mail.specs.declared.roles.Role.TheVariants.{Node, Client}
+use Rattle.sc_node_table.specs.Definitions.{slots_ahead, numbers_from, NodeState, node_table, born_node}
+use Rattle.sc_client_table.specs.Definitions.{Client as ClientState, born_client, table}
+use Rattle.sc_mail.specs.Definitions.{role_table}
 
 -- a node or a client, as the value of its table
 abbrev pub Player : Type 0

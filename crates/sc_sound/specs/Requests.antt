@@ -1,20 +1,12 @@
 -- Requests of a scenario in a journal: where they are issued and answered, and the reply that is kept.
 use Rattle.std.specs.Prelude.{◌≡◌, ℕ, ◌+◌, ◌-◌, ◌≤◌, nat_le, Bool, false, ◌==◌, ◌&&◌, List, [], ◌∷◌, ◌++◌, length, if◌then◌else◌, Option, Some, None, slice_get}
 use Rattle.std.specs.List.{list_any}
-use Rattle.sc_base.specs.declared.ops.Reply.{Reply}
-use Rattle.sc_cmd.specs.declared.links.Route.{Route}
-use Rattle.sc_cmd.specs.declared.orders.OrderLine.{OrderLine}
-use Rattle.sc_mail.specs.declared.bodies.Mail.{Mail}
-use Rattle.sc_mail.specs.declared.bodies.MailBody.{MailBody}
-use Rattle.sc_mail.specs.declared.bodies.MailBody.TheVariants.{Request}
-use Rattle.sc_actor.specs.declared.rows.Row.{Row}
-use Rattle.sc_actor.specs.Replay.{value}
-use Rattle.sc_ideal.specs.declared.Entry.{Entry}
-use Rattle.sc_base.specs.Among.{Among}
+use Rattle.sc_node_table.specs.Values.{Reply, Route, OrderLine, Mail, MailBody, Request, Row, Entry}
+use Rattle.sc_actor.specs.Definitions.{value}
+use Rattle.sc_base.specs.Definitions.{Among, client_actor}
 use Rattle.sc_scenario.specs.declared.scenarios.Asks.{Asks}
 use Rattle.sc_scenario.specs.declared.scenarios.Scenario.{Scenario}
 use Rattle.sc_sound.specs.Players.{player_table, client_seat, replies_of}
-use Rattle.sc_base.specs.Limits.{client_actor}
 
 -- an entry is a request of a client with its own operation; requests are numbered from 1
 pub record IsAsked (asks : Asks) (entry : Entry) : Type 0 where

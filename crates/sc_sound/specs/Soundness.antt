@@ -1,28 +1,17 @@
 -- What sound means, of a first part of a journal with any number of groups. Each fact is read off the rows' mail by the scenario alone; of the tables it takes only what a replica holds and which replies a client took.
 use Rattle.std.specs.Prelude.{◌≡◌, ℕ, ◌+◌, ◌<◌, ◌≤◌, nat_lt, List, [], ◌∷◌, ◌++◌, length, take, drop, if◌then◌else◌, Option, Some, None, slice_get}
-use Rattle.sc_base.specs.Among.{Among}
-use Rattle.sc_base.specs.declared.ops.Reply.{Reply}
-use Rattle.sc_cmd.specs.declared.commands.Command.{Command}
-use Rattle.sc_cmd.specs.declared.cores.Base.{Base}
-use Rattle.sc_cmd.specs.declared.orders.OrderLine.{OrderLine}
-use Rattle.sc_mail.specs.declared.bodies.Mail.{Mail}
-use Rattle.sc_actor.specs.declared.rows.Row.{Row}
-use Rattle.sc_actor.specs.Replay.{value}
-use Rattle.sc_ideal.specs.declared.Entry.{Entry}
-use Rattle.sc_ideal.specs.History.{HasEntry, Legal}
-use Rattle.sc_machine_table.specs.Group.{group_of}
-use Rattle.sc_machine_table.specs.Logs.{state_after}
-use Rattle.sc_node_table.specs.Node.{NodeState}
-use Rattle.sc_node_table.specs.Replica.{ReplicaState, name_of, next}
-use Rattle.sc_paxos_law.specs.Chosen.{IsLog}
+use Rattle.sc_base.specs.Definitions.{Among}
+use Rattle.sc_node_table.specs.Values.{Reply, Command, Base, OrderLine, Mail, Row, Entry, Node as ANode}
+use Rattle.sc_actor.specs.Definitions.{value}
+use Rattle.sc_ideal.specs.Definitions.{HasEntry, Legal}
+use Rattle.sc_machine_table.specs.Definitions.{group_of, state_after}
+use Rattle.sc_node_table.specs.Definitions.{NodeState, ReplicaState, name_of, next}
+use Rattle.sc_paxos_law.specs.Definitions.{IsLog}
 use Rattle.sc_sound.specs.Players.{Ahead, node_seat, player_table, route_of}
-use Rattle.sc_mail.specs.declared.roles.Role.TheVariants.{Node as ANode}
 use Rattle.sc_scenario.specs.declared.scenarios.Asks.{Asks}
 use Rattle.sc_scenario.specs.declared.scenarios.Scenario.{Scenario}
 use Rattle.sc_log_entries.specs.declared.Cut.{Cut}
-use Rattle.sc_log_entries.specs.Rings.{Covers}
-use Rattle.sc_log_entries.specs.Parts.{IsPlaced, ServesItsCut, HoldsItsPart}
-use Rattle.sc_log_entries.specs.Worlds.{StoreWorld, named_group, CoverThroughout}
+use Rattle.sc_log_entries.specs.Definitions.{Covers, IsPlaced, ServesItsCut, HoldsItsPart, StoreWorld, named_group, CoverThroughout}
 use Rattle.sc_sound.specs.Accepts.{accepts}
 use Rattle.sc_sound.specs.GroupsOf.{groups_at, entries_at, log_at, state_at, world_at, history_at}
 use Rattle.sc_sound.specs.Logs.{rule_of, IsChosenIn, decided_log}

@@ -1,14 +1,11 @@
 -- What the report tells of players and rows.
 use Rattle.std.specs.Prelude.{ℕ, ◌+◌, Bool, List, [], ◌∷◌, if◌then◌else◌, Option, Some, None, slice_get}
-use Rattle.sc_base.specs.declared.ops.Op.{Op}
-use Rattle.sc_base.specs.declared.ops.Reply.{Reply}
+use Rattle.sc_node_table.specs.Values.{Op, Reply, Node, Client}
 use Rattle.sc_report.specs.declared.summaries.Progress.{Progress}
 use Rattle.sc_report.specs.declared.summaries.Progress.TheVariants.{Unsent, Unanswered, Replied}
 use Rattle.sc_report.specs.declared.summaries.Asked.{Asked}
-use Rattle.sc_client_table.specs.Client.{Client as ClientState}
-use Rattle.sc_client_table.specs.Table.{waits_for}
+use Rattle.sc_client_table.specs.Definitions.{Client as ClientState, waits_for}
 use Rattle.sc_sound.specs.Players.{Player}
-use Rattle.sc_mail.specs.declared.roles.Role.TheVariants.{Node, Client}
 
 -- how far a request came, by its reply and whether its client waits for it
 abbrev pub got_by : Option Reply → Bool → Progress

@@ -2,14 +2,14 @@
 use Rattle.std.proofs.Common.{◌≡◌, ℕ, Bool, cond, List, ◌∷◌, ◌++◌, Some, None, map, subst}
 use Rattle.std.specs.List.{filter}
 use Rattle.std.specs.List.Sorted.{IsStrictlySortedBy}
-use Rattle.sc_base.specs.Ascending.{EndsBelow}
+use Rattle.sc_base.specs.Definitions.{EndsBelow}
 use Rattle.std.specs.Ordering.{nat_cmp}
 use Rattle.std.specs.Cmp.Lexicographic.{slice_cmp, nat_list_cmp_total}
 use Rattle.std.specs.Map.{lookup}
 use Rattle.std.specs.BTreeMap.{is_at}
 use Rattle.std.specs.FinMap.{get, insert, remove, retain_keys, entries, from_entries}
 use Rattle.std.proofs.lemmas.Map.Lookups.{exact_bytes}
-use Rattle.sc_ideal.proofs.Kept.{get-kept, insert-kept, remove-kept, retain-kept, entries-kept, entries-part, is_sorted_from, all_end_below, part_ends_below}
+use Rattle.sc_ideal.proofs.Lemmas.{get-kept, insert-kept, remove-kept, retain-kept, entries-kept, entries-part, is_sorted_from, all_end_below, part_ends_below}
 
 -- keys and values as lists
 abbrev pub Pairs : Type 0

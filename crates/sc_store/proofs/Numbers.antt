@@ -7,9 +7,9 @@ use Rattle.std.specs.Map.{lookup}
 use Rattle.std.specs.BTreeMap.{is_at}
 use Rattle.std.specs.FinMap.{get, insert, entries, from_entries}
 use Rattle.std.proofs.lemmas.Map.Lookups.{exact_unsigned}
-use Rattle.sc_base.specs.Ascending.{EndsBelow}
+use Rattle.sc_base.specs.Definitions.{EndsBelow}
 use Rattle.sc_base.specs.declared.ops.Noted.{Noted}
-use Rattle.sc_ideal.proofs.Kept.{get-kept, insert-kept, entries-kept, is_sorted_from, all_end_below}
+use Rattle.sc_ideal.proofs.Lemmas.{get-kept, insert-kept, entries-kept, is_sorted_from, all_end_below}
 
 -- look-ups by number
 pub get-numbers : (es : List (ℕ × Noted)) (q : ℕ) → get (from_entries {R = nat_cmp} es) q ≡ lookup (is_at (nat_cmp q)) es

@@ -1,11 +1,10 @@
 -- How a turn is left: what is counted.
 use Rattle.std.proofs.Common.{◌≡◌, ◌≢◌, ℕ, ◌+◌, ◌%◌, ◌^◌, ◌<◌, true, List, [], ◌∷◌, ◌++◌, map, drop, length, sym, refl, ap, ◌∙◌, subst, ⊎_elim, inr, arith, length-append, Contains, Option, Some, None}
-use Rattle.std.proofs.lemmas.List.{append-nil}
 use Rattle.std.proofs.Math.Seq.{drop-append_seam}
 use mathlib.Core.Option.{none}
 use Rattle.atomic_table.specs.Table.{Me, step, rest, Allows}
 use Rattle.sc_turn.specs.declared.rule.View.{View}
-use Rattle.sc_turn.specs.Turn.{view, with_seen, with_row, with_counted, rows_by, CanLeave, IsTrueOf, IsTrueLater, IsTrueOver, StartsWith, Kept, Looks, ReadsCount, Appends, append_tells, release_tells}
+use Rattle.sc_turn.specs.Definitions.{view, with_seen, with_row, with_counted, rows_by, CanLeave, IsTrueOf, IsTrueLater, IsTrueOver, StartsWith, Kept, Looks, ReadsCount, Appends, append_tells, release_tells}
 use Rattle.sc_turn.proofs.Lists.{rows_by_none}
 use Rattle.sc_turn.proofs.Keeps.{appends, releases}
 

@@ -1,20 +1,13 @@
 -- A boundary that moves, on arcs and on the parts of a map.
-use Rattle.std.proofs.Common.{◌≡◌, ℕ, ◌+◌, ◌-◌, ◌<◌, ◌≤◌, ◌^◌, ◌%◌, true, false, cond, refl, sym, ap, subst, ◌∙◌, arith}
+use Rattle.std.proofs.Common.{◌≡◌, ℕ, ◌+◌, ◌-◌, ◌<◌, ◌≤◌, ◌^◌, ◌%◌, true, refl, sym, ap, ◌∙◌, arith}
 use Rattle.std.proofs.lemmas.Bool.{ltb-true}
 use Rattle.std.specs.FinMap.{entries}
-use Rattle.sc_base.specs.Arc.{Arc, IsArc, CanCut, CanJoin, before, from, joined, holds, offset, end_of}
-use Rattle.sc_base.specs.ArcLaws.{PartsJoin}
-use Rattle.sc_base.proofs.ArcLemmas.{cuts_join, joins_hold}
-use Rattle.sc_ideal.specs.IdealStore.{Contents, part_of, with_pairs}
-use Rattle.sc_ideal.proofs.Joins.{parts_join}
-use Rattle.sc_ideal.proofs.Tables.{joined_by_number}
-use Rattle.sc_cmd.specs.declared.bodies.Offer.{Offer}
-use Rattle.sc_machine_table.specs.Group.{Group}
-use Rattle.sc_machine_table.specs.Plans.{frozen_of, giving_group, taking_group, part_gift}
-use Rattle.sc_machine_table.specs.Finishes.{gained_group, lost_group}
-use Rattle.sc_machine_table.specs.Totals.{AreNeighbours, KeepTheTotal}
-use Rattle.sc_machine_table.proofs.Parts.{part_within, first_inside, second_inside, parts_turned, pairs_again}
-use Rattle.sc_txn.specs.RepartLaws.{GivesArc, GivingKeepsTheTotal, TakesArc, TakingKeepsTheTotal}
+use Rattle.sc_base.specs.Definitions.{Arc, IsArc, CanJoin, before, from, joined, offset, end_of, PartsJoin}
+use Rattle.sc_base.proofs.Lemmas.{cuts_join, joins_hold}
+use Rattle.sc_ideal.specs.Definitions.{Contents, part_of, with_pairs}
+use Rattle.sc_ideal.proofs.Lemmas.{parts_join, joined_by_number}
+use Rattle.sc_machine_table.proofs.Lemmas.{part_within, first_inside, second_inside, parts_turned, pairs_again}
+use Rattle.sc_txn.specs.Definitions.{GivingKeepsTheTotal, TakingKeepsTheTotal}
 
 -- the second part of an arc ends where the arc does
 second_end : (arc : Arc) (at : ℕ) → arc.lo < 2 ^ 32 → PartsJoin arc at → end_of arc ≡ end_of (from arc at)

@@ -7,8 +7,7 @@ use Rattle.std.proofs.lemmas.List.{length-take-le, get_or-take, get_or_default, 
 use Rattle.std.proofs.lemmas.List.Elements.{All-tail, All-head, All-weaker}
 use Rattle.std.proofs.lemmas.List.Folds.{list_any_none}
 use Rattle.std.proofs.lemmas.List.Kept.{AllPairs-from_increasing}
-use Rattle.sc_base.specs.Roster.{is_member, with_member}
-use Rattle.sc_base.specs.Faults.{add_fault}
+use Rattle.sc_base.specs.Definitions.{is_member, with_member, add_fault}
 
 -- what all stand below a node are below it, and none is above
 all_low : (xs : List ℕ) (n : ℕ) → All (λ x. x < n) xs → filter (λ x. ltb x n) xs ≡ xs

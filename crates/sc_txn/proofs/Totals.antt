@@ -1,17 +1,14 @@
 -- What a split and a merge keep of pairs and client tables.
 use Rattle.std.proofs.Common.{◌≡◌, ℕ, ◌+◌, ◌%◌, ◌<◌, ◌≤◌, ◌^◌, refl, sym, ap, ◌∙◌, subst, arith}
 use Rattle.std.specs.FinMap.{entries}
-use Rattle.sc_base.specs.Arc.{Arc, IsArc, CanCut, before, from, joined}
-use Rattle.sc_base.proofs.ArcLemmas.{cuts_join, joins_hold}
-use Rattle.sc_ideal.specs.IdealStore.{Contents, part_of, with_pairs}
-use Rattle.sc_ideal.proofs.Joins.{parts_join}
-use Rattle.sc_ideal.proofs.Tables.{joined_by_number}
-use Rattle.sc_machine_table.proofs.Parts.{part_within, first_inside, second_inside, pairs_again, clients_again}
+use Rattle.sc_base.specs.Definitions.{Arc, IsArc, CanCut, before, from, joined}
+use Rattle.sc_base.proofs.Lemmas.{cuts_join, joins_hold}
+use Rattle.sc_ideal.specs.Definitions.{Contents, part_of, with_pairs}
+use Rattle.sc_ideal.proofs.Lemmas.{parts_join, joined_by_number}
+use Rattle.sc_machine_table.proofs.Lemmas.{part_within, first_inside, second_inside, pairs_again, clients_again}
 use Rattle.sc_cmd.specs.declared.cores.Core.{Core}
-use Rattle.sc_machine_table.specs.Group.{Group}
-use Rattle.sc_machine_table.specs.Plans.{frozen_of, merged_core, closing_core, enriched, whole_gift}
-use Rattle.sc_machine_table.specs.Totals.{AreNeighbours}
-use Rattle.sc_txn.specs.SplitLaws.{Merges, SplitsShareThePairs, MergesKeepTheTotal}
+use Rattle.sc_machine_table.specs.Definitions.{Group, frozen_of, merged_core, closing_core, enriched, whole_gift, AreNeighbours}
+use Rattle.sc_txn.specs.Definitions.{Merges, SplitsShareThePairs, MergesKeepTheTotal}
 
 -- the parts of a map on the two parts of an arc
 together : (arc : Arc) (at : ℕ) (contents : Contents) → arc.lo < 2 ^ 32 → at < 2 ^ 32 → IsArc arc → CanCut arc at

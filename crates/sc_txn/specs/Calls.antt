@@ -4,8 +4,7 @@ use Rattle.sc_base.specs.declared.names.Draw.{Draw}
 use Rattle.sc_base.specs.declared.ops.Op.{Op}
 use Rattle.sc_cmd.specs.declared.effects.Effect.{Effect}
 use Rattle.sc_cmd.specs.declared.effects.Effect.TheVariants.{NoEffect}
-use Rattle.sc_machine_table.specs.Group.{Group}
-use Rattle.sc_machine_table.specs.Machine.{served}
+use Rattle.sc_machine_table.specs.Definitions.{Group, served}
 
 -- a request to a group that is not gone, by the transaction that holds calls back, if one does
 abbrev pub called_under : Option Draw → Group → ℕ → ℕ → Op → Group × Effect

@@ -1,6 +1,6 @@
 -- What a coordinator has decided of a transaction, by its executed log.
 use Rattle.std.specs.Prelude.{Option, Some, None, find}
-use Rattle.sc_base.specs.Same.{same_draw}
+use Rattle.sc_base.specs.Definitions.{same_draw}
 use Rattle.sc_base.specs.declared.names.Draw.{Draw}
 use Rattle.sc_cmd.specs.declared.cores.Core.{Core}
 use Rattle.sc_cmd.specs.declared.votes.Outcome.{Outcome}

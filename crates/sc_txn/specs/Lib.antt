@@ -4,3 +4,4 @@ pub mod Decisions
 pub mod MigrationLaws
 pub mod RepartLaws
 pub mod SplitLaws
+pub mod Definitions

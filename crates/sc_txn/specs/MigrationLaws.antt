@@ -1,9 +1,7 @@
 -- What a member's move keeps, and what it changes.
 use Rattle.std.specs.Prelude.{◌≡◌, ℕ, true, false}
-use Rattle.sc_base.specs.Roster.{is_member}
-use Rattle.sc_machine_table.specs.Group.{Group}
-use Rattle.sc_machine_table.specs.Plans.{frozen_of, migrated_group}
-use Rattle.sc_machine_table.specs.Finishes.{welcomed_group}
+use Rattle.sc_base.specs.Definitions.{is_member}
+use Rattle.sc_machine_table.specs.Definitions.{Group, frozen_of, migrated_group, welcomed_group}
 
 -- a group after it has the arc, the pairs and the client table of the one before
 pub record KeepsAll (group after : Group) : Type 0 where

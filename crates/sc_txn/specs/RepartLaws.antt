@@ -1,11 +1,8 @@
 -- What a boundary that moves keeps.
-use Rattle.std.specs.Prelude.{◌≡◌, ℕ, ◌<◌, ◌^◌, true, false}
-use Rattle.sc_base.specs.Arc.{CanCut, holds}
+use Rattle.std.specs.Prelude.{◌≡◌, ℕ, ◌<◌, ◌^◌, false}
+use Rattle.sc_base.specs.Definitions.{CanCut, holds}
 use Rattle.sc_cmd.specs.declared.bodies.Offer.{Offer}
-use Rattle.sc_machine_table.specs.Group.{Group}
-use Rattle.sc_machine_table.specs.Plans.{frozen_of, giving_group, taking_group, part_gift}
-use Rattle.sc_machine_table.specs.Finishes.{gained_group, lost_group}
-use Rattle.sc_machine_table.specs.Totals.{AreNeighbours, IsJoined, KeepTheTotal}
+use Rattle.sc_machine_table.specs.Definitions.{Group, frozen_of, giving_group, taking_group, part_gift, gained_group, lost_group, AreNeighbours, IsJoined, KeepTheTotal}
 
 -- where the group gives, its successor joins the group's client table, and the group keeps its own
 pub record GivesArc (group next : Group) (offer : Offer) (at : ℕ) : Type 0 where

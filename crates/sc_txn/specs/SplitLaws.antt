@@ -1,17 +1,12 @@
 -- What holds of the parts of a split, and of a merge.
 use Rattle.std.specs.Prelude.{◌≡◌, ℕ, ◌<◌, ◌^◌, ◌++◌}
 use Rattle.std.specs.FinMap.{empty, entries}
-use Rattle.sc_base.specs.Arc.{IsArc, CanJoin, end_of, joined}
+use Rattle.sc_base.specs.Definitions.{IsArc, CanJoin, end_of, joined, IsRoster}
 use Rattle.sc_base.specs.declared.names.Draw.{Draw}
-use Rattle.sc_ideal.specs.IdealStore.{Contents, part_of, with_pairs}
-use Rattle.sc_base.specs.Roster.{IsRoster}
+use Rattle.sc_ideal.specs.Definitions.{Contents, part_of, with_pairs}
 use Rattle.sc_cmd.specs.declared.cores.Core.{Core}
 use Rattle.sc_cmd.specs.declared.links.Route.{Route}
-use Rattle.sc_machine_table.specs.Finishes.{gone_group}
-use Rattle.sc_machine_table.specs.Group.{Group, group_of}
-use Rattle.sc_machine_table.specs.Plans.{frozen_of, merged_group, closing_group}
-use Rattle.sc_machine_table.specs.Splits.{CanSplit, left_core, right_core, left_group, child_of}
-use Rattle.sc_machine_table.specs.Totals.{AreNeighbours, HasItsPart, IsJoined}
+use Rattle.sc_machine_table.specs.Definitions.{gone_group, Group, group_of, frozen_of, merged_group, closing_group, CanSplit, left_core, right_core, left_group, child_of, AreNeighbours, HasItsPart, IsJoined}
 
 -- the arcs of the two parts meet, and make the group's arc; the members of the one and then of the other are the group's, and each part has some
 pub record KeepsTheWhole (core left right : Core) : Type 0 where

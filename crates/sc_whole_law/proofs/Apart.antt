@@ -2,38 +2,17 @@
 use Rattle.std.proofs.Common.{◌≡◌, ℕ, ◌&&◌, true, false, List, [], ◌∷◌, ◌++◌, Option, Some, None, ◌⊎◌, inl, inr, refl, sym, ◌∙◌, ap, subst, append_assoc, append-nil}
 use Rattle.std.specs.List.{list_any, flat_map}
 use Rattle.std.proofs.lemmas.Bool.{cases_Bool, and_left, cond-false}
-use Rattle.sc_base.specs.Among.{Among, Each}
-use Rattle.sc_base.specs.Same.{same_draw, same_ballot}
-use Rattle.sc_base.specs.declared.names.Ballot.{Ballot}
-use Rattle.sc_base.specs.declared.names.Draw.{Draw}
-use Rattle.sc_base.proofs.NameLemmas.{draw_is}
-use Rattle.sc_cmd.specs.declared.commands.Command.{Command}
-use Rattle.sc_cmd.specs.declared.cores.Base.{Base}
-use Rattle.sc_cmd.specs.declared.orders.OrderLine.{OrderLine}
-use Rattle.sc_mail.specs.declared.bodies.AnswerBody.{AnswerBody}
+use Rattle.sc_base.specs.Definitions.{Among, Each, same_draw, same_ballot}
+use Rattle.sc_node_table.specs.Values.{Ballot, Draw, Command, Base, OrderLine, AnswerBody, Mail, MailBody, Request, Answer, Prepare, Promise, Accept, Accepted as AcceptedMail, Nack, Learn, Ask, Install, TxPrepare, TxVote, TxOutcome, TxElsewhere, TxWatch, TxWatched, Told, Row, Event, Deliver, Op, Call}
+use Rattle.sc_base.proofs.Lemmas.{draw_is}
 use Rattle.sc_mail.specs.declared.bodies.AnswerBody.TheVariants as Says
-use Rattle.sc_mail.specs.declared.bodies.Mail.{Mail}
-use Rattle.sc_mail.specs.declared.bodies.MailBody.{MailBody}
-use Rattle.sc_mail.specs.declared.bodies.MailBody.TheVariants.{Request, Answer, Prepare, Promise, Accept, Accepted as AcceptedMail, Nack, Learn, Ask, Install, TxPrepare, TxVote, TxOutcome, TxElsewhere, TxWatch, TxWatched, Told}
-use Rattle.sc_actor.specs.declared.rows.Row.{Row}
-use Rattle.sc_actor.specs.declared.rows.Event.{Event}
-use Rattle.sc_actor.specs.declared.rows.Event.TheVariants.{Deliver}
-use Rattle.sc_actor.specs.Mail.{mails, numbered}
-use Rattle.sc_paxos_words.proofs.ListLemmas.{Each-from}
-use Rattle.sc_paxos_law.specs.Steps.{Step, Prepared, Promised, Offered, Accepted}
-use Rattle.sc_paxos_law.proofs.Among.{Among-left, Among-right}
-use Rattle.sc_sound.specs.Players.{Ahead}
-use Rattle.sc_sound.specs.Accepts.{is_accepted, accepts_of, accepts_got, accepts_at, accepts_from, accepts}
-use Rattle.sc_sound.specs.Logs.{rule_of, decided_log}
-use Rattle.sc_paxos_law.specs.Decided.{log_of}
-use Rattle.sc_base.specs.declared.ops.Op.{Op}
-use Rattle.sc_cmd.specs.declared.commands.Command.TheVariants.{Call}
-use Rattle.sc_group_law.specs.Steps.{proposer_steps, asked_in, promised_by, promises_of, promises_got, promises_at, steps_at, steps_from}
-use Rattle.sc_group_law.proofs.Families.{h_of}
-use Rattle.sc_group_law.proofs.Invariant.{Steps, IsTrue}
-use Rattle.sc_group_law.proofs.Names.{IsOneOf, IsNamedAnswer, IsNamedIn}
-use Rattle.sc_group_law.proofs.Places.{Journal}
-use Rattle.sc_group_law.proofs.RowSteps.{number_among}
+use Rattle.sc_actor.specs.Definitions.{mails, numbered}
+use Rattle.sc_paxos_words.proofs.Lemmas.{Each-from}
+use Rattle.sc_paxos_law.specs.Definitions.{Step, Prepared, Promised, Offered, Accepted, log_of}
+use Rattle.sc_paxos_law.proofs.Lemmas.{Among-left, Among-right}
+use Rattle.sc_sound.specs.Definitions.{Ahead, is_accepted, accepts_of, accepts_got, accepts_at, accepts_from, accepts, rule_of, decided_log}
+use Rattle.sc_group_law.specs.Definitions.{proposer_steps, asked_in, promised_by, promises_of, promises_got, promises_at, steps_at, steps_from}
+use Rattle.sc_group_law.proofs.Lemmas.{h_of, Steps, IsTrue, IsOneOf, IsNamedAnswer, IsNamedIn, Journal, number_among}
 
 -- an answer with a reply is of another group
 abbrev IsApartAnswer : Draw → Draw → AnswerBody → Type 0

@@ -1,26 +1,12 @@
 -- What a coordinator's lock says of its body, whatever its log has.
 use Rattle.std.proofs.Common.{◌≡◌, ℕ, true, List, [], ◌∷◌, Option, Some, None, refl, sym, ◌∙◌, ap, subst}
-use Rattle.sc_base.specs.Among.{Each}
-use Rattle.sc_base.specs.declared.names.Draw.{Draw}
-use Rattle.sc_cmd.specs.declared.bodies.Body.{Body}
+use Rattle.sc_base.specs.Definitions.{Each, IsRoster}
+use Rattle.sc_node_table.specs.Values.{Draw, Body, Command, Join, Leave, Split, Begin, Core, Lock, Free, Coordinating, Promised, Watching, Heard, No}
 use Rattle.sc_cmd.specs.declared.bodies.Body.TheVariants as By
-use Rattle.sc_cmd.specs.declared.commands.Command.{Command}
-use Rattle.sc_cmd.specs.declared.commands.Command.TheVariants.{Join, Leave, Split, Begin}
-use Rattle.sc_cmd.specs.declared.cores.Core.{Core}
-use Rattle.sc_cmd.specs.declared.cores.Lock.{Lock}
-use Rattle.sc_cmd.specs.declared.cores.Lock.TheVariants.{Free, Coordinating, Promised, Watching}
-use Rattle.sc_cmd.specs.declared.votes.Heard.{Heard}
-use Rattle.sc_cmd.specs.declared.votes.No.{No}
-use Rattle.sc_base.specs.Roster.{IsRoster}
-use Rattle.sc_machine_table.specs.Group.{Group}
-use Rattle.sc_machine_table.specs.Logs.{state_after}
-use Rattle.sc_machine_table.specs.Machine.{applied}
-use Rattle.sc_machine_table.specs.Orders.{refusal_of, with_node, without_node}
-use Rattle.sc_machine_table.specs.Plans.{can_split}
-use Rattle.sc_machine_table.specs.Votes.{vote_of, watch_vote_of, bound_by}
-use Rattle.sc_ring_law.specs.Allowed.{IsShared}
-use Rattle.sc_group_law.proofs.Rosters.{ordered_if}
-use Rattle.sc_hist_law.proofs.Staying.{free_by}
+use Rattle.sc_machine_table.specs.Definitions.{Group, state_after, applied, refusal_of, with_node, without_node, can_split, vote_of, watch_vote_of, bound_by}
+use Rattle.sc_ring_law.specs.Definitions.{IsShared}
+use Rattle.sc_group_law.proofs.Lemmas.{ordered_if}
+use Rattle.sc_hist_law.proofs.Lemmas.{free_by}
 use Rattle.sc_whole_law.proofs.Coming.{comes}
 use Rattle.sc_whole_law.proofs.Locks.{always}
 use Rattle.sc_whole_law.proofs.Members.{may_split, members_after}

@@ -2,33 +2,17 @@
 use Rattle.std.proofs.Common.{◌≡◌, ℕ, ◌+◌, ◌≤◌, true, List, [], ◌∷◌, length, get_or, Option, Some, None, inl, inr, refl, ◌∙◌, ap, subst, length-drop, option_to_list, arith}
 use Rattle.std.proofs.lemmas.Bool.{cond_both}
 use Rattle.std.proofs.lemmas.List.{get_or-drop}
-use Rattle.sc_base.specs.Among.{Among}
-use Rattle.sc_base.specs.Same.{same_draw}
-use Rattle.sc_base.specs.declared.names.Draw.{Draw}
-use Rattle.sc_cmd.specs.declared.bodies.Body.{Body}
+use Rattle.sc_base.specs.Definitions.{Among, same_draw, IsRoster}
+use Rattle.sc_node_table.specs.Values.{Draw, Body, Command, Split, RecordWatch, Base, Lock, Free, Coordinating, Promised, Watching, Route, OrderRefusal, Past}
 use Rattle.sc_cmd.specs.declared.bodies.Body.TheVariants as By
-use Rattle.sc_cmd.specs.declared.commands.Command.{Command}
-use Rattle.sc_cmd.specs.declared.commands.Command.TheVariants.{Split, RecordWatch}
-use Rattle.sc_cmd.specs.declared.cores.Base.{Base}
-use Rattle.sc_cmd.specs.declared.cores.Lock.{Lock}
-use Rattle.sc_cmd.specs.declared.cores.Lock.TheVariants.{Free, Coordinating, Promised, Watching}
-use Rattle.sc_cmd.specs.declared.links.Route.{Route}
-use Rattle.sc_cmd.specs.declared.orders.OrderRefusal.{OrderRefusal}
-use Rattle.sc_cmd.specs.declared.votes.Past.{Past}
 use Rattle.sc_cmd.specs.declared.votes.Past.TheVariants as Cast
-use Rattle.sc_base.specs.Roster.{IsRoster}
-use Rattle.sc_cmd.specs.Cores.{is_alone}
-use Rattle.sc_machine_table.specs.Children.{ordered_child, released_child, answered_child, watched_child, child_by}
-use Rattle.sc_machine_table.specs.Group.{Group}
-use Rattle.sc_machine_table.specs.Machine.{applied}
-use Rattle.sc_machine_table.specs.Orders.{refusal_of}
-use Rattle.sc_machine_table.specs.Plans.{can_split}
-use Rattle.sc_machine_table.specs.Splits.{staying, right_members, child_of, has_named}
-use Rattle.sc_log_entries.specs.Births.{birth_of}
-use Rattle.sc_log_entries.proofs.Children.{births_are_children}
-use Rattle.sc_paxos_law.proofs.Among.{Among-either}
-use Rattle.sc_sound.specs.GroupsOf.{children_of}
-use Rattle.sc_whole_law.specs.Begins.{IsFresh}
+use Rattle.sc_cmd.specs.Definitions.{is_alone}
+use Rattle.sc_machine_table.specs.Definitions.{ordered_child, released_child, answered_child, watched_child, child_by, Group, applied, refusal_of, can_split, staying, right_members, child_of, has_named}
+use Rattle.sc_log_entries.specs.Definitions.{birth_of}
+use Rattle.sc_log_entries.proofs.Lemmas.{births_are_children}
+use Rattle.sc_paxos_law.proofs.Lemmas.{Among-either}
+use Rattle.sc_sound.specs.Definitions.{children_of}
+use Rattle.sc_whole_law.specs.Definitions.{IsFresh}
 use Rattle.sc_whole_law.proofs.Coming.{two_members, staying_some}
 use Rattle.sc_whole_law.proofs.Members.{may_split, members_after}
 
@@ -94,7 +78,7 @@ fresh_child group (RecordWatch tx vote by) roster kid e = by_watch group.core.lo
 fresh_child group _ roster kid e = cc
 
 -- what an option has
-listed : (o : Option Base) (kid : Base) → Among kid (option_to_list o) → o ≡ Some kid
+pub listed : (o : Option Base) (kid : Base) → Among kid (option_to_list o) → o ≡ Some kid
 listed None kid a = absurd a
 listed (Some b) kid (inl e) = ap (λ (x : Base). Some x) e
 listed (Some b) kid (inr n) = absurd n

@@ -3,47 +3,17 @@ use Rattle.std.specs.List.Sorted.{IsStrictlyIncreasing}
 use Rattle.std.proofs.Common.{◌≡◌, ℕ, ◌+◌, ◌-◌, ◌/◌, ◌<◌, ◌≤◌, ◌&&◌, not, if◌then◌else◌, cond, filter, Bool, true, false, nat_lt, nat_le, eqb, List, [], ◌∷◌, ◌++◌, length, Option, Some, None, refl, sym, ◌∙◌, ap, subst, arith}
 use Rattle.std.proofs.lemmas.Bool.{and_parts, leb-true, cond-true, cond-false, cond_both}
 use Rattle.std.proofs.lemmas.List.{length-take-le, get_or-take}
-use Rattle.sc_base.specs.Same.{same_draw}
-use Rattle.sc_base.specs.Arc.{holds}
-use Rattle.sc_base.specs.declared.names.Draw.{Draw}
-use Rattle.sc_base.specs.declared.ops.Op.{Op}
-use Rattle.sc_base.proofs.NameLemmas.{draw_is}
-use Rattle.sc_cmd.specs.Cores.{is_alone}
-use Rattle.sc_ideal.specs.IdealStore.{key_of, holds_key}
-use Rattle.sc_cmd.specs.declared.bodies.Body.{Body}
+use Rattle.sc_base.specs.Definitions.{same_draw, holds, IsRoster, is_member, with_any, united}
+use Rattle.sc_node_table.specs.Values.{Draw, Op, Body, Offer, Watch, Command, Core, Noop, Call, Join, Leave, Split, Begin, Prepared, RecordVote, GiveUp, Finish, Watched, RecordWatch, Lock, Free, Coordinating, Promised, Watching, Effect, Route, OrderRefusal, Frozen, Heard, No, Outcome, Past, Vote}
+use Rattle.sc_base.proofs.Lemmas.{draw_is, roster_with, roster_without, grows, count_united}
+use Rattle.sc_cmd.specs.Definitions.{is_alone}
+use Rattle.sc_ideal.specs.Definitions.{key_of, holds_key}
 use Rattle.sc_cmd.specs.declared.bodies.Body.TheVariants as By
-use Rattle.sc_cmd.specs.declared.bodies.Offer.{Offer}
-use Rattle.sc_cmd.specs.declared.bodies.Watch.{Watch}
-use Rattle.sc_cmd.specs.declared.commands.Command.{Command}
-use Rattle.sc_cmd.specs.declared.cores.Core.{Core}
-use Rattle.sc_cmd.specs.declared.commands.Command.TheVariants.{Noop, Call, Join, Leave, Split, Begin, Prepared, RecordVote, GiveUp, Finish, Watched, RecordWatch}
-use Rattle.sc_cmd.specs.declared.cores.Lock.{Lock}
-use Rattle.sc_cmd.specs.declared.cores.Lock.TheVariants.{Free, Coordinating, Promised, Watching}
-use Rattle.sc_cmd.specs.declared.effects.Effect.{Effect}
 use Rattle.sc_cmd.specs.declared.effects.Effect.TheVariants as Was
-use Rattle.sc_cmd.specs.declared.links.Route.{Route}
-use Rattle.sc_cmd.specs.declared.orders.OrderRefusal.{OrderRefusal}
-use Rattle.sc_cmd.specs.declared.votes.Frozen.{Frozen}
-use Rattle.sc_cmd.specs.declared.votes.Heard.{Heard}
-use Rattle.sc_cmd.specs.declared.votes.No.{No}
-use Rattle.sc_cmd.specs.declared.votes.Outcome.{Outcome}
 use Rattle.sc_cmd.specs.declared.votes.Outcome.TheVariants as Is
-use Rattle.sc_cmd.specs.declared.votes.Past.{Past}
 use Rattle.sc_cmd.specs.declared.votes.Past.TheVariants as Cast
-use Rattle.sc_cmd.specs.declared.votes.Vote.{Vote}
 use Rattle.sc_cmd.specs.declared.votes.Vote.TheVariants as Vows
-use Rattle.sc_base.specs.Roster.{IsRoster, is_member}
-use Rattle.sc_base.specs.Union.{with_any, united}
-use Rattle.sc_base.proofs.Rising.{roster_with, roster_without}
-use Rattle.sc_base.proofs.UnionLemmas.{grows, count_united}
-use Rattle.sc_machine_table.specs.Finishes.{can_gain, gone_group, gained_group, lost_group, welcomed_group, participant_after, watcher_after, party_freed, settled_in, finished}
-use Rattle.sc_machine_table.specs.Group.{Group}
-use Rattle.sc_machine_table.specs.Machine.{served_by_note, called, split_group, applied}
-use Rattle.sc_machine_table.specs.Orders.{refusal_of, ordered}
-use Rattle.sc_machine_table.specs.Plans.{can_cut, has_key_of, can_split, split_plan, can_merge, merged_group, may_merge, merged_route, merge_plan, closing_group, closing_plan, can_repart, giving_group, part_gift, taking_group, taken, giving_plan, taking_plan, repart_plan, can_migrate, migrated_group, migrate_plan}
-use Rattle.sc_machine_table.specs.Splits.{staying, left_members, left_group, has_named}
-use Rattle.sc_machine_table.specs.Transactions.{begun_group, decided_group, decided, aborted, committed, heard_group, granted, participant_answered, asks_watcher, vote_recorded, released, watch_answered, watch_recorded, is_coordinating}
-use Rattle.sc_machine_table.specs.Votes.{has_voted, vote_of, watch_vote_of, past_of, bound_by}
+use Rattle.sc_machine_table.specs.Definitions.{can_gain, gone_group, gained_group, lost_group, welcomed_group, participant_after, watcher_after, party_freed, settled_in, finished, Group, served_by_note, called, split_group, applied, refusal_of, ordered, can_cut, has_key_of, can_split, split_plan, can_merge, merged_group, may_merge, merged_route, merge_plan, closing_group, closing_plan, can_repart, giving_group, part_gift, taking_group, taken, giving_plan, taking_plan, repart_plan, can_migrate, migrated_group, migrate_plan, staying, left_members, left_group, has_named, begun_group, decided_group, decided, aborted, committed, heard_group, granted, participant_answered, asks_watcher, vote_recorded, released, watch_answered, watch_recorded, is_coordinating, has_voted, vote_of, watch_vote_of, past_of, bound_by}
 
 -- ---- members
 

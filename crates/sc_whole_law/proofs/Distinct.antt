@@ -2,42 +2,18 @@
 use Rattle.std.proofs.Common.{◌≡◌, ℕ, ◌&&◌, not, true, List, [], ◌∷◌, Option, Some, None, refl, sym, ◌∙◌, ap, subst, option_map}
 use Rattle.std.proofs.lemmas.Bool.{cond_both}
 use Rattle.std.proofs.lemmas.Option.{same_Some}
-use Rattle.sc_base.specs.Same.{same_draw}
-use Rattle.sc_base.specs.declared.names.Draw.{Draw}
-use Rattle.sc_cmd.specs.declared.bodies.Body.{Body}
+use Rattle.sc_base.specs.Definitions.{same_draw}
+use Rattle.sc_node_table.specs.Values.{Draw, Body, Offer, Watch, Command, Noop, Call, Join, Leave, Split, Begin, Prepared, RecordVote, GiveUp, Finish, Watched, RecordWatch, Base, Coordinating, Effect, Frozen, Heard, Outcome, Past, Vote}
 use Rattle.sc_cmd.specs.declared.bodies.Body.TheVariants as At
-use Rattle.sc_cmd.specs.declared.bodies.Offer.{Offer}
-use Rattle.sc_cmd.specs.declared.bodies.Watch.{Watch}
-use Rattle.sc_cmd.specs.declared.commands.Command.{Command}
-use Rattle.sc_cmd.specs.declared.commands.Command.TheVariants.{Noop, Call, Join, Leave, Split, Begin, Prepared, RecordVote, GiveUp, Finish, Watched, RecordWatch}
-use Rattle.sc_cmd.specs.declared.cores.Base.{Base}
-use Rattle.sc_cmd.specs.declared.cores.Lock.TheVariants.{Coordinating}
-use Rattle.sc_cmd.specs.declared.effects.Effect.{Effect}
 use Rattle.sc_cmd.specs.declared.effects.Effect.TheVariants as Was
-use Rattle.sc_cmd.specs.declared.votes.Frozen.{Frozen}
-use Rattle.sc_cmd.specs.declared.votes.Heard.{Heard}
-use Rattle.sc_cmd.specs.declared.votes.Outcome.{Outcome}
-use Rattle.sc_cmd.specs.declared.votes.Past.{Past}
-use Rattle.sc_cmd.specs.declared.votes.Vote.{Vote}
 use Rattle.sc_cmd.specs.declared.votes.Vote.TheVariants as Vows
-use Rattle.sc_cmd.specs.Effects.{is_changed, decided_in}
-use Rattle.sc_cmd.specs.Cores.{is_alone}
-use Rattle.sc_machine_table.specs.Group.{Group}
-use Rattle.sc_machine_table.specs.Machine.{applied}
-use Rattle.sc_log_entries.specs.Effective.{after_outcome}
-use Rattle.sc_log_entries.specs.Worlds.{named_group}
+use Rattle.sc_cmd.specs.Definitions.{is_changed, decided_in, is_alone}
+use Rattle.sc_machine_table.specs.Definitions.{Group, applied}
+use Rattle.sc_log_entries.specs.Definitions.{after_outcome, named_group}
 use Rattle.sc_log_entries.specs.declared.LogEntry.{LogEntry}
-use Rattle.sc_ring_law.specs.Allowed.{Sources, IsVoteCast, IsAllowed, AreAllowed, ToldWorld, first_told, told_on, told_after, stories_told}
-use Rattle.sc_ring_law.specs.Invariant.{Groups, LockOk, IsCoordinating, IsPromised}
-use Rattle.sc_ring_law.specs.Laws.{BeginInPlace, stories_of}
-use Rattle.sc_ring_law.specs.Stories.{Story, Stories, put, retold, unsigned, new_story, vote_in, watch_vote_in, with_vote, with_watch_vote, with_decision, with_asked, with_answer, stories_after}
-use Rattle.sc_ring_law.proofs.Effects.{Decisions, decisions, outcome_of, settle_by, living, living_by, eff, view_of, arc_of, succ_of, Old}
-use Rattle.sc_ring_law.proofs.Links.{IsPair, not_back}
-use Rattle.sc_ring_law.proofs.Start.{at_start}
-use Rattle.sc_ring_law.proofs.Steps.{Kept}
-use Rattle.sc_ring_law.proofs.View.{Ring}
-use Rattle.sc_ring_law.proofs.Worlds.{KeptWorld, kept_on}
-use Rattle.sc_whole_law.specs.Parties.{PartiesAreApart}
+use Rattle.sc_ring_law.specs.Definitions.{Sources, IsVoteCast, IsAllowed, AreAllowed, ToldWorld, first_told, told_on, told_after, stories_told, Groups, LockOk, IsCoordinating, IsPromised, BeginInPlace, stories_of, Story, Stories, put, retold, unsigned, new_story, vote_in, watch_vote_in, with_vote, with_watch_vote, with_decision, with_asked, with_answer, stories_after}
+use Rattle.sc_ring_law.proofs.Lemmas.{Decisions, decisions, outcome_of, settle_by, living, living_by, eff, view_of, arc_of, succ_of, Old, IsPair, not_back, at_start, Kept, Ring, KeptWorld, kept_on}
+use Rattle.sc_whole_law.specs.Definitions.{PartiesAreApart}
 use Rattle.sc_whole_law.proofs.Coming.{IsDull, comes}
 
 -- a story of which the participant is not the watcher
@@ -81,7 +57,7 @@ decided_same None y k = k
 decided_same (Some outcome) y k = k
 
 -- a dull effect changes nothing
-dull_same : (effect : Effect) → IsDull effect → is_changed effect ≡ true → ⊥
+pub dull_same : (effect : Effect) → IsDull effect → is_changed effect ≡ true → ⊥
 dull_same (Was.Done reply) d e = cc
 dull_same (Was.Again reply) d e = cc
 dull_same (Was.Stale last) d e = cc

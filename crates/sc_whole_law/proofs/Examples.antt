@@ -1,18 +1,12 @@
 -- The examples are read off texts, so their lawful journals are sound.
 use Rattle.std.proofs.Common.{◌≡◌, ℕ, List, [], Some, inl, refl, sym, append-nil}
-use Rattle.sc_actor.specs.System.{no_words}
-use Rattle.sc_sound.specs.Players.{Lawful}
-use Rattle.sc_scenario.specs.Grammar.{scenario_of}
+use Rattle.sc_actor.specs.Definitions.{no_words}
+use Rattle.sc_sound.specs.Definitions.{Lawful, four, IsSound}
+use Rattle.sc_scenario.specs.Definitions.{scenario_of}
 use Rattle.sc_scenario.specs.declared.scenarios.Scenario.{Scenario}
-use Rattle.sc_sound.specs.Example.{four}
-use Rattle.sc_sound.specs.Soundness.{IsSound}
-use Rattle.sc_group_law.specs.Example.{election_scenario}
-use Rattle.sc_group_law.specs.JoinExample.{join_scenario}
-use Rattle.sc_log_law.specs.Descent.{Rows}
-use Rattle.sc_whole_law.specs.SplitExample.{split_scenario}
-use Rattle.sc_whole_law.specs.Texts.{election_text, join_text, two_text, split_text}
-use Rattle.sc_whole_law.specs.TwoGroups.{two_scenario}
-use Rattle.sc_whole_law.specs.Valid.{ValidJournalsAreSound}
+use Rattle.sc_group_law.specs.Definitions.{election_scenario, join_scenario}
+use Rattle.sc_log_law.specs.Definitions.{Rows}
+use Rattle.sc_whole_law.specs.Definitions.{split_scenario, election_text, join_text, two_text, split_text, two_scenario, ValidJournalsAreSound}
 
 -- a lawful journal of a scenario that a text is
 pub text_sound : ValidJournalsAreSound → (text : List ℕ) (scenario : Scenario) → scenario_of text ≡ Some scenario → (rows : Rows) → Lawful four no_words scenario rows → IsSound four scenario rows []

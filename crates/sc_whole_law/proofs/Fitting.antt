@@ -2,46 +2,20 @@
 use Rattle.std.proofs.Common.{◌≡◌, ℕ, ◌≤◌, ◌&&◌, not, nat_lt, eqb, List, [], ◌∷◌, length, map, Option, Some, None, inl, inr, refl, sym, ◌∙◌, ap, subst, option_map, option_to_list, arith}
 use Rattle.std.proofs.lemmas.Bool.{ltb-false, cond_both}
 use Rattle.std.proofs.lemmas.Option.{same_Some}
-use Rattle.sc_base.specs.Among.{Among, Each}
-use Rattle.sc_base.specs.Same.{same_draw}
-use Rattle.sc_base.specs.declared.names.Draw.{Draw}
-use Rattle.sc_cmd.specs.declared.bodies.Body.{Body}
+use Rattle.sc_base.specs.Definitions.{Among, Each, same_draw, end_of, IsRoster, united}
+use Rattle.sc_node_table.specs.Values.{Draw, Body, Offer, Command, Noop, Call, Join, Leave, Split, Begin, Prepared, RecordVote, GiveUp, Finish, Watched, RecordWatch, Base, Core, Effect, Route, Frozen, No, Outcome, Past, Vote}
 use Rattle.sc_cmd.specs.declared.bodies.Body.TheVariants as At
-use Rattle.sc_cmd.specs.declared.bodies.Offer.{Offer}
-use Rattle.sc_cmd.specs.declared.commands.Command.{Command}
-use Rattle.sc_cmd.specs.declared.commands.Command.TheVariants.{Noop, Call, Join, Leave, Split, Begin, Prepared, RecordVote, GiveUp, Finish, Watched, RecordWatch}
-use Rattle.sc_cmd.specs.declared.cores.Base.{Base}
-use Rattle.sc_cmd.specs.declared.cores.Core.{Core}
-use Rattle.sc_cmd.specs.declared.effects.Effect.{Effect}
-use Rattle.sc_cmd.specs.declared.links.Route.{Route}
-use Rattle.sc_cmd.specs.declared.votes.Frozen.{Frozen}
-use Rattle.sc_cmd.specs.declared.votes.No.{No}
 use Rattle.sc_cmd.specs.declared.votes.No.TheVariants as Why
-use Rattle.sc_base.specs.Arc.{end_of}
-use Rattle.sc_cmd.specs.declared.votes.Outcome.{Outcome}
-use Rattle.sc_cmd.specs.declared.votes.Past.{Past}
 use Rattle.sc_cmd.specs.declared.votes.Past.TheVariants as Cast
-use Rattle.sc_cmd.specs.declared.votes.Vote.{Vote}
 use Rattle.sc_cmd.specs.declared.votes.Vote.TheVariants as Vows
-use Rattle.sc_base.specs.Roster.{IsRoster}
-use Rattle.sc_base.specs.Union.{united}
-use Rattle.sc_cmd.specs.Effects.{is_changed, decided_in}
-use Rattle.sc_cmd.specs.Cores.{is_alone}
-use Rattle.sc_machine_table.specs.Group.{Group, group_of}
-use Rattle.sc_machine_table.specs.Machine.{applied}
-use Rattle.sc_machine_table.specs.Orders.{locked_in}
-use Rattle.sc_machine_table.specs.Plans.{frozen_of}
-use Rattle.sc_machine_table.specs.Votes.{has_voted, size_no, body_no, offer_no, no_of, vote_of, past_of}
-use Rattle.sc_log_entries.specs.Births.{birth_of}
-use Rattle.sc_log_entries.specs.Worlds.{is_named, named_group, with_group, groups_after, after_command}
+use Rattle.sc_cmd.specs.Definitions.{is_changed, decided_in, is_alone}
+use Rattle.sc_machine_table.specs.Definitions.{Group, group_of, applied, locked_in, frozen_of, has_voted, size_no, body_no, offer_no, no_of, vote_of, past_of}
+use Rattle.sc_log_entries.specs.Definitions.{birth_of, is_named, named_group, with_group, groups_after, after_command}
 use Rattle.sc_log_entries.specs.declared.LogEntry.{LogEntry}
-use Rattle.sc_log_entries.proofs.Children.{births_are_children}
-use Rattle.sc_paxos_words.proofs.ListLemmas.{Each-among, Each-append, find_found}
-use Rattle.sc_ring_law.specs.Allowed.{Sources, IsAllowed, AreAllowed, ToldWorld, first_told, told_on, told_after, stories_told}
-use Rattle.sc_ring_law.specs.Laws.{stories_of}
-use Rattle.sc_ring_law.specs.Stories.{Story, Stories, put, retold, unsigned, new_story, vote_by, vote_in, watch_vote_in, with_vote, with_watch_vote, with_decision, with_asked, stories_after}
-use Rattle.sc_whole_law.specs.Begins.{IsFresh}
-use Rattle.sc_whole_law.specs.Parties.{MergesFit}
+use Rattle.sc_log_entries.proofs.Lemmas.{births_are_children}
+use Rattle.sc_paxos_words.proofs.Lemmas.{Each-among, Each-append, find_found}
+use Rattle.sc_ring_law.specs.Definitions.{Sources, IsAllowed, AreAllowed, ToldWorld, first_told, told_on, told_after, stories_told, stories_of, Story, Stories, put, retold, unsigned, new_story, vote_by, vote_in, watch_vote_in, with_vote, with_watch_vote, with_decision, with_asked, stories_after}
+use Rattle.sc_whole_law.specs.Definitions.{IsFresh, MergesFit}
 use Rattle.sc_whole_law.proofs.Children.{fresh_child}
 use Rattle.sc_whole_law.proofs.Members.{members_after}
 use Rattle.sc_whole_law.proofs.Unions.{either_way}
@@ -71,7 +45,7 @@ fit_retold ys tx f new old = by (ys tx) refl
     by (Some story) e = fit_put ys tx (Some (f story)) (λ y is. (let same : f story ≡ y = cc in subst FitsStory same (new story e))) old
 
 -- none is no vote
-no_vote : (frozen : Frozen) → None ≡ Some (Vows.Yes frozen) → ⊥
+pub no_vote : (frozen : Frozen) → None ≡ Some (Vows.Yes frozen) → ⊥
 no_vote frozen e = cc
 
 -- the members in an offer are a roster

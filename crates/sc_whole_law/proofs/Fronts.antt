@@ -1,15 +1,9 @@
 -- The decided log of a group goes on from each log that its steps have chosen.
 use Rattle.std.proofs.Common.{◌≡◌, List, ◌++◌, length, drop}
-use Rattle.sc_cmd.specs.declared.commands.Command.{Command}
-use Rattle.sc_cmd.specs.declared.cores.Base.{Base}
-use Rattle.sc_paxos_law.specs.Chosen.{IsLog}
-use Rattle.sc_paxos_law.specs.Lawful.{IsLawfulHistory}
-use Rattle.sc_sound.specs.Players.{Ahead}
-use Rattle.sc_sound.specs.Logs.{decided_log}
-use Rattle.sc_group_law.proofs.Families.{h_of}
-use Rattle.sc_group_law.proofs.Invariant.{rule, first}
-use Rattle.sc_group_law.proofs.Places.{Journal, split_at}
-use Rattle.sc_group_law.proofs.Replies.{front_is}
+use Rattle.sc_node_table.specs.Values.{Command, Base}
+use Rattle.sc_paxos_law.specs.Definitions.{IsLog, IsLawfulHistory}
+use Rattle.sc_sound.specs.Definitions.{Ahead, decided_log}
+use Rattle.sc_group_law.proofs.Lemmas.{h_of, rule, first, Journal, split_at, front_is}
 
 -- a log of the steps is a front of the decided one
 pub goes_on_from : (ahead : Ahead) (base : Base) (rows : Journal) → IsLawfulHistory (rule ahead base) (first ahead base) (h_of rows base) → (log : List Command) → IsLog (rule ahead base) (h_of rows base) log

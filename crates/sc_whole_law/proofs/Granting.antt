@@ -2,53 +2,23 @@
 use Rattle.std.proofs.Common.{◌≡◌, ℕ, Bool, List, [], ◌∷◌, ◌++◌, length, drop, Option, Some, None, refl, sym, ◌∙◌, ap, subst, append_assoc, find, option_map}
 use Rattle.std.proofs.lemmas.Bool.{cond_both}
 use Rattle.std.proofs.lemmas.Option.{same_Some}
-use Rattle.sc_base.specs.Among.{Among, Each}
-use Rattle.sc_base.specs.Same.{same_draw}
-use Rattle.sc_base.specs.declared.names.Draw.{Draw}
-use Rattle.sc_base.proofs.NameLemmas.{draw_is}
-use Rattle.sc_cmd.specs.declared.bodies.Offer.{Offer}
-use Rattle.sc_cmd.specs.declared.bodies.Watch.{Watch}
-use Rattle.sc_cmd.specs.declared.commands.Command.{Command}
-use Rattle.sc_cmd.specs.declared.commands.Command.TheVariants.{Prepared, RecordVote, Finish, Watched, RecordWatch}
-use Rattle.sc_cmd.specs.declared.cores.Base.{Base}
-use Rattle.sc_cmd.specs.declared.cores.Lock.{Lock}
-use Rattle.sc_cmd.specs.declared.cores.Lock.TheVariants.{Free, Coordinating, Promised, Watching}
-use Rattle.sc_cmd.specs.declared.links.Route.{Route}
-use Rattle.sc_cmd.specs.declared.votes.Outcome.{Outcome}
-use Rattle.sc_cmd.specs.declared.votes.Past.{Past}
+use Rattle.sc_base.specs.Definitions.{Among, Each, same_draw}
+use Rattle.sc_node_table.specs.Values.{Draw, Offer, Watch, Command, Prepared, RecordVote, Finish, Watched, RecordWatch, Base, Lock, Free, Coordinating, Promised, Watching, Route, Outcome, Past, MailBody, TxPrepare, TxVote, TxOutcome, TxElsewhere, TxWatch, TxWatched}
+use Rattle.sc_base.proofs.Lemmas.{draw_is}
 use Rattle.sc_cmd.specs.declared.votes.Past.TheVariants as Cast
 use Rattle.sc_cmd.specs.declared.votes.Vote.TheVariants as Vows
-use Rattle.sc_mail.specs.declared.bodies.MailBody.{MailBody}
-use Rattle.sc_mail.specs.declared.bodies.MailBody.TheVariants.{TxPrepare, TxVote, TxOutcome, TxElsewhere, TxWatch, TxWatched}
-use Rattle.sc_machine_table.specs.Group.{Group, group_of}
-use Rattle.sc_machine_table.specs.Logs.{state_after}
-use Rattle.sc_machine_table.specs.Machine.{applied}
-use Rattle.sc_machine_table.specs.Plans.{frozen_of}
-use Rattle.sc_machine_table.proofs.LogLemmas.{state_push}
-use Rattle.sc_node_table.specs.Node.{group_of_mail}
-use Rattle.sc_node_table.specs.Spoken.{before_of}
-use Rattle.sc_node_table.specs.Transactions.{standing_by, standing_vote, noted_outcome, voted_to, watched_to, asked_next}
-use Rattle.sc_paxos_words.proofs.ListLemmas.{Each-append, Each-weaker, find_found}
-use Rattle.sc_paxos_law.specs.Chosen.{IsLog}
-use Rattle.sc_paxos_law.specs.Lawful.{IsLawfulHistory}
-use Rattle.sc_sound.specs.Players.{Ahead}
+use Rattle.sc_machine_table.specs.Definitions.{Group, group_of, state_after, applied, frozen_of}
+use Rattle.sc_machine_table.proofs.Lemmas.{state_push}
+use Rattle.sc_node_table.specs.Definitions.{group_of_mail, before_of, standing_by, standing_vote, noted_outcome, voted_to, watched_to, asked_next}
+use Rattle.sc_paxos_words.proofs.Lemmas.{Each-append, Each-weaker, find_found}
+use Rattle.sc_paxos_law.specs.Definitions.{IsLog, IsLawfulHistory}
+use Rattle.sc_sound.specs.Definitions.{Ahead, groups_at, decided_log}
 use Rattle.sc_scenario.specs.declared.scenarios.Scenario.{Scenario}
-use Rattle.sc_sound.specs.GroupsOf.{groups_at}
-use Rattle.sc_sound.specs.Logs.{decided_log}
-use Rattle.sc_ring_law.specs.Allowed.{Sources, IsAllowed}
-use Rattle.sc_ring_law.specs.Laws.{BeginInPlace}
-use Rattle.sc_ring_law.specs.Stories.{Story, Stories, unsigned, unsigned_watch}
-use Rattle.sc_log_law.specs.Allows.{AllowsAsItStands, MakesAllowed, GroupAllows}
-use Rattle.sc_log_law.specs.Descent.{Rows}
-use Rattle.sc_log_law.specs.InTurn.{DecideInTurn}
-use Rattle.sc_log_law.proofs.Allowing.{fronts_allow, states_allow}
-use Rattle.sc_log_law.proofs.Allows.{groups_allow_others}
-use Rattle.sc_group_law.proofs.Families.{h_of}
-use Rattle.sc_group_law.proofs.Invariant.{rule, first}
-use Rattle.sc_group_law.proofs.Speech.{AreSaid, Meets, Speaks}
-use Rattle.sc_whole_law.specs.Parameters.{stories_at, MayQueue, IsHeardAt}
-use Rattle.sc_whole_law.specs.Begins.{IsFresh}
-use Rattle.sc_whole_law.specs.Parties.{PartiesAreApart, MergesFit}
+use Rattle.sc_ring_law.specs.Definitions.{Sources, IsAllowed, BeginInPlace, Story, Stories, unsigned, unsigned_watch}
+use Rattle.sc_log_law.specs.Definitions.{AllowsAsItStands, MakesAllowed, GroupAllows, Rows, DecideInTurn}
+use Rattle.sc_log_law.proofs.Lemmas.{fronts_allow, states_allow, groups_allow_others}
+use Rattle.sc_group_law.proofs.Lemmas.{h_of, rule, first, AreSaid, Meets, Speaks}
+use Rattle.sc_whole_law.specs.Definitions.{stories_at, MayQueue, IsHeardAt, IsFresh, PartiesAreApart, MergesFit}
 use Rattle.sc_whole_law.proofs.Coming.{Binds}
 use Rattle.sc_whole_law.proofs.Locks.{Ever, WatchesIt, watching_since, DecidesIt, decided_since, yes_binds}
 use Rattle.sc_whole_law.proofs.Asking.{hears_merges, BeginsShared, splits_fit, none_split}

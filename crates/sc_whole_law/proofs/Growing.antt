@@ -1,34 +1,16 @@
 -- What holds of a journal with the groups before a row holds with those after it: a new group has taken no step.
 use Rattle.std.proofs.Common.{◌≡◌, ℕ, ◌+◌, List, [], inl, inr, sym, ◌∙◌, subst}
-use Rattle.sc_base.specs.Among.{Among, Each}
-use Rattle.sc_base.specs.declared.names.Draw.{Draw}
-use Rattle.sc_base.specs.declared.ops.Op.{Op}
-use Rattle.sc_base.specs.declared.ops.Reply.{Reply}
-use Rattle.sc_cmd.specs.declared.commands.Command.{Command}
-use Rattle.sc_cmd.specs.declared.commands.Command.TheVariants.{Call}
-use Rattle.sc_cmd.specs.declared.cores.Base.{Base}
-use Rattle.sc_cmd.specs.declared.links.Route.{Route}
-use Rattle.sc_mail.specs.declared.bodies.AnswerBody.{AnswerBody}
+use Rattle.sc_base.specs.Definitions.{Among, Each}
+use Rattle.sc_node_table.specs.Values.{Draw, Op, Reply, Command, Call, Base, Route, AnswerBody, Mail, MailBody, Request, Answer, Prepare, Promise, Accept, Accepted as AcceptedMail, Nack, Learn, Ask, Install}
 use Rattle.sc_mail.specs.declared.bodies.AnswerBody.TheVariants as Says
-use Rattle.sc_mail.specs.declared.bodies.Mail.{Mail}
-use Rattle.sc_mail.specs.declared.bodies.MailBody.{MailBody}
-use Rattle.sc_mail.specs.declared.bodies.MailBody.TheVariants.{Request, Answer, Prepare, Promise, Accept, Accepted as AcceptedMail, Nack, Learn, Ask, Install}
-use Rattle.sc_actor.specs.Mail.{mails}
-use Rattle.sc_node_table.specs.Node.{NodeState}
-use Rattle.sc_node_table.specs.Replica.{name_of}
-use Rattle.sc_paxos_words.proofs.ListLemmas.{Each-weaker}
-use Rattle.sc_paxos_law.specs.Lawful.{IsLawfulHistory}
-use Rattle.sc_paxos_law.specs.Steps.{Offered}
+use Rattle.sc_actor.specs.Definitions.{mails}
+use Rattle.sc_node_table.specs.Definitions.{NodeState, name_of}
+use Rattle.sc_paxos_words.proofs.Lemmas.{Each-weaker}
+use Rattle.sc_paxos_law.specs.Definitions.{IsLawfulHistory, Offered}
 use Rattle.sc_scenario.specs.declared.scenarios.Asks.{Asks}
 use Rattle.sc_scenario.specs.declared.scenarios.Scenario.{Scenario}
-use Rattle.sc_sound.specs.Players.{Ahead}
-use Rattle.sc_group_law.proofs.Clients.{IsAnswered}
-use Rattle.sc_group_law.proofs.Families.{h_of, IsNodeAt, IsClientAt, Part, Kept}
-use Rattle.sc_group_law.proofs.Holding.{IsOther, Holds, holds_none}
-use Rattle.sc_group_law.proofs.Invariant.{rule, first}
-use Rattle.sc_group_law.proofs.Names.{IsOneOf, IsNamedAnswer, IsNamedIn}
-use Rattle.sc_group_law.proofs.Nodes.{IsNode}
-use Rattle.sc_group_law.proofs.Places.{Journal}
+use Rattle.sc_sound.specs.Definitions.{Ahead}
+use Rattle.sc_group_law.proofs.Lemmas.{IsAnswered, h_of, IsNodeAt, IsClientAt, Part, Kept, IsOther, Holds, holds_none, rule, first, IsOneOf, IsNamedAnswer, IsNamedIn, IsNode, Journal}
 use Rattle.sc_whole_law.proofs.Apart.{IsApart, IsNew, IsOldOrNew, named_apart, no_steps, apart_true}
 
 -- a name of one of these groups is one of those

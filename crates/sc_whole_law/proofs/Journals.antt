@@ -2,55 +2,22 @@
 use Rattle.std.proofs.Common.{◌≡◌, ℕ, ◌+◌, ◌≤◌, ◌||◌, not, Bool, cond, List, [], ◌∷◌, ◌++◌, length, Some, None, refl, sym, ◌∙◌, subst, append_assoc, append-nil}
 use Rattle.std.specs.Prelude.{is_some, slice_get}
 use Rattle.std.proofs.lemmas.Bool.{cond-false}
-use Rattle.sc_base.specs.Among.{Among}
-use Rattle.sc_base.specs.Drawing.{Drawer, next_name}
-use Rattle.sc_base.specs.declared.names.Draw.{Draw}
-use Rattle.sc_base.specs.declared.ops.Op.{Op}
-use Rattle.sc_base.specs.declared.ops.Reply.{Reply}
-use Rattle.sc_cmd.specs.declared.commands.Command.TheVariants.{Call}
-use Rattle.sc_cmd.specs.declared.cores.Base.{Base}
-use Rattle.sc_cmd.specs.declared.links.Route.{Route}
-use Rattle.sc_cmd.specs.declared.orders.Order.{Order}
+use Rattle.sc_base.specs.Definitions.{Among, Drawer, next_name, is_member}
+use Rattle.sc_node_table.specs.Values.{Draw, Op, Reply, Call, Base, Route, Order, OrderLine, Mail, Event, Deliver, Tick, Go, Crash, Drop, Again, Row, Node as ANode}
 use Rattle.sc_cmd.specs.declared.orders.Order.TheVariants as An
-use Rattle.sc_cmd.specs.declared.orders.OrderLine.{OrderLine}
-use Rattle.sc_mail.specs.declared.bodies.Mail.{Mail}
-use Rattle.sc_actor.specs.declared.rows.Event.{Event}
-use Rattle.sc_actor.specs.declared.rows.Event.TheVariants.{Deliver, Tick, Go, Told, Crash, Drop, Again}
-use Rattle.sc_actor.specs.declared.rows.Row.{Row}
-use Rattle.sc_actor.specs.Steps.{IsStep}
-use Rattle.sc_actor.specs.Replay.{value}
-use Rattle.sc_actor.specs.Walk.{place_after}
-use Rattle.sc_actor.proofs.Induction.{MayAdd-step, lawful-induction}
-use Rattle.sc_actor.proofs.WalkLemmas.{lawful-prefix, lawful-last}
-use Rattle.sc_base.specs.Roster.{is_member}
-use Rattle.sc_node_table.specs.Node.{NodeState, names_after_ticks}
-use Rattle.sc_node_table.specs.Ordering.{ordered_command}
-use Rattle.sc_node_table.specs.Policy.{wished_line, names_after_tick}
-use Rattle.sc_node_table.specs.Replica.{ReplicaState, name_of, members, settled}
-use Rattle.sc_paxos_words.proofs.ListLemmas.{Each-among}
-use Rattle.sc_sound.specs.Players.{Ahead, Lawful, node_seat, player_table, system_of, schedule}
-use Rattle.sc_mail.specs.declared.roles.Role.TheVariants.{Node as ANode}
+use Rattle.sc_actor.specs.declared.rows.Event.TheVariants.{Told}
+use Rattle.sc_actor.specs.Definitions.{IsStep, value, place_after}
+use Rattle.sc_actor.proofs.Lemmas.{MayAdd-step, lawful-induction, lawful-prefix, lawful-last}
+use Rattle.sc_node_table.specs.Definitions.{NodeState, names_after_ticks, ordered_command, wished_line, names_after_tick, ReplicaState, name_of, members, settled}
+use Rattle.sc_paxos_words.proofs.Lemmas.{Each-among}
+use Rattle.sc_sound.specs.Definitions.{Ahead, Lawful, node_seat, player_table, system_of, schedule, AreNamedApart, groups_at, kept_replies, HasRun, AllHaveRun}
 use Rattle.sc_scenario.specs.declared.scenarios.Asks.{Asks}
 use Rattle.sc_scenario.specs.declared.scenarios.Scenario.{Scenario}
-use Rattle.sc_sound.specs.GroupsOf.{AreNamedApart, groups_at}
-use Rattle.sc_sound.specs.Requests.{kept_replies}
-use Rattle.sc_sound.specs.Soundness.{HasRun, AllHaveRun}
-use Rattle.sc_ring_law.specs.Allowed.{Sources, IsAllowed}
-use Rattle.sc_ring_law.specs.Laws.{BeginInPlace}
-use Rattle.sc_log_law.specs.Beside.{HasOneValue, IsIssuedIn, IsDecidedBefore, HoldsBeside}
-use Rattle.sc_log_law.specs.Descent.{Rows, added_by}
-use Rattle.sc_names_law.specs.Owners.{waited, wished_at}
-use Rattle.sc_group_law.proofs.Births.{at_start}
-use Rattle.sc_group_law.proofs.Families.{h_of}
-use Rattle.sc_group_law.proofs.Holding.{held}
-use Rattle.sc_group_law.proofs.Names.{IsOneOf}
-use Rattle.sc_group_law.proofs.Nodes.{IsNode}
-use Rattle.sc_group_law.proofs.Replicated.{one_value, is_log, longest, executed_is}
-use Rattle.sc_group_law.proofs.Stepping.{MayTell}
-use Rattle.sc_group_law.proofs.Ticks.{MayTick}
-use Rattle.sc_whole_law.specs.Orders.{OrdersAreAllowed}
-use Rattle.sc_whole_law.specs.Parameters.{stories_at, IsIssuedCall, MayQueue, IsHeardAt}
-use Rattle.sc_whole_law.specs.Begins.{IsFresh, HasSeats, AsksAre}
+use Rattle.sc_ring_law.specs.Definitions.{Sources, IsAllowed, BeginInPlace}
+use Rattle.sc_log_law.specs.Definitions.{HasOneValue, IsIssuedIn, IsDecidedBefore, HoldsBeside, Rows, added_by}
+use Rattle.sc_names_law.specs.Definitions.{waited, wished_at}
+use Rattle.sc_group_law.proofs.Lemmas.{at_start, h_of, held, IsOneOf, IsNode, one_value, is_log, longest, executed_is, MayTell, MayTick}
+use Rattle.sc_whole_law.specs.Definitions.{OrdersAreAllowed, stories_at, IsIssuedCall, MayQueue, IsHeardAt, IsFresh, HasSeats, AsksAre}
 use Rattle.sc_whole_law.proofs.Replies.{decided_before, replies_are_decided}
 use Rattle.sc_whole_law.proofs.Turning.{Holds, players, issued_now, told_now, holds_next}
 

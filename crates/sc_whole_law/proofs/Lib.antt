@@ -25,3 +25,6 @@ pub mod Turning
 pub mod TwoGroups
 pub mod Unions
 pub mod Valid
+pub mod Laws
+pub mod StartLaws
+pub mod Lemmas

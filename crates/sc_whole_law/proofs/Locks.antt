@@ -2,34 +2,16 @@
 use Rattle.std.proofs.Common.{◌≡◌, ◌||◌, Bool, true, false, cond, List, [], ◌∷◌, ◌++◌, map, Option, Some, None, ◌⊎◌, inl, inr, refl, sym, ◌∙◌, ap, subst, find, option_map}
 use Rattle.std.specs.List.{list_any}
 use Rattle.std.proofs.lemmas.Bool.{cond-true, cond-false, cond_both}
-use Rattle.sc_base.specs.Among.{Among}
-use Rattle.sc_base.specs.Same.{same_draw}
-use Rattle.sc_base.specs.declared.names.Draw.{Draw}
-use Rattle.sc_base.proofs.NameLemmas.{draw_is, same_name}
-use Rattle.sc_cmd.specs.declared.bodies.Offer.{Offer}
-use Rattle.sc_cmd.specs.declared.bodies.Watch.{Watch}
-use Rattle.sc_cmd.specs.declared.commands.Command.{Command}
-use Rattle.sc_cmd.specs.declared.commands.Command.TheVariants.{Join, Leave, Watched}
-use Rattle.sc_cmd.specs.declared.cores.Core.{Core}
-use Rattle.sc_cmd.specs.declared.cores.Lock.{Lock}
-use Rattle.sc_cmd.specs.declared.cores.Lock.TheVariants.{Free, Coordinating, Promised, Watching}
-use Rattle.sc_cmd.specs.declared.effects.Effect.{Effect}
+use Rattle.sc_base.specs.Definitions.{Among, same_draw}
+use Rattle.sc_node_table.specs.Values.{Draw, Offer, Watch, Command, Join, Leave, Watched, Core, Lock, Free, Coordinating, Promised, Watching, Effect, No, Outcome, Past}
+use Rattle.sc_base.proofs.Lemmas.{draw_is, same_name}
 use Rattle.sc_cmd.specs.declared.effects.Effect.TheVariants as Was
-use Rattle.sc_cmd.specs.declared.votes.No.{No}
-use Rattle.sc_cmd.specs.declared.votes.Outcome.{Outcome}
-use Rattle.sc_cmd.specs.declared.votes.Past.{Past}
 use Rattle.sc_cmd.specs.declared.votes.Past.TheVariants as Cast
-use Rattle.sc_machine_table.specs.Finishes.{closed}
-use Rattle.sc_machine_table.specs.Group.{Group}
-use Rattle.sc_machine_table.specs.Logs.{state_after}
-use Rattle.sc_machine_table.specs.Machine.{applied}
-use Rattle.sc_machine_table.specs.Orders.{refusal_of, with_node, without_node}
-use Rattle.sc_machine_table.specs.Votes.{has_voted, offer_no, watch_no, vote_of, watch_vote_of, past_of, bound_by}
-use Rattle.sc_paxos_law.proofs.Among.{Among-either}
-use Rattle.sc_group_law.proofs.Rosters.{ordered_if}
-use Rattle.sc_hist_law.proofs.Staying.{free_by}
+use Rattle.sc_machine_table.specs.Definitions.{closed, Group, state_after, applied, refusal_of, with_node, without_node, has_voted, offer_no, watch_no, vote_of, watch_vote_of, past_of, bound_by}
+use Rattle.sc_paxos_law.proofs.Lemmas.{Among-either}
+use Rattle.sc_group_law.proofs.Lemmas.{ordered_if}
+use Rattle.sc_hist_law.proofs.Lemmas.{free_by, free_by_no}
 use Rattle.sc_whole_law.proofs.Coming.{EndsIt, Binds, comes}
-use Rattle.sc_hist_law.proofs.Staying.{free_by_no}
 
 -- ---- what once came of an entry
 

@@ -1,19 +1,11 @@
 -- The members of a group stay one to nine nodes, ascending, whatever its log has.
 use Rattle.std.proofs.Common.{◌≡◌, ℕ, ◌||◌, not, true, nat_le, eqb, [], ◌∷◌, length, Some, None, sym, ap, subst, arith}
 use Rattle.std.proofs.lemmas.Bool.{and_from, or_parts, not-false, eqb-false, le-leb, cond_both}
-use Rattle.sc_base.specs.Arc.{holds}
-use Rattle.sc_base.specs.declared.names.Draw.{Draw}
-use Rattle.sc_cmd.specs.declared.commands.Command.{Command}
-use Rattle.sc_cmd.specs.declared.commands.Command.TheVariants.{Join, Leave, Split}
-use Rattle.sc_cmd.specs.declared.cores.Core.{Core}
-use Rattle.sc_cmd.specs.declared.orders.OrderRefusal.TheVariants.{BadBoundary, LastMember}
-use Rattle.sc_base.specs.Roster.{IsRoster}
-use Rattle.sc_machine_table.specs.Group.{Group}
-use Rattle.sc_machine_table.specs.Machine.{applied}
-use Rattle.sc_machine_table.specs.Orders.{locked_in, refusal_of}
-use Rattle.sc_machine_table.specs.Plans.{can_cut, can_split}
-use Rattle.sc_group_law.proofs.Rosters.{free_refusal, applied_roster}
-use Rattle.sc_whole_law.specs.Laws.{MembersStayRosters}
+use Rattle.sc_base.specs.Definitions.{holds, IsRoster}
+use Rattle.sc_node_table.specs.Values.{Draw, Command, Join, Leave, Split, Core, BadBoundary, LastMember}
+use Rattle.sc_machine_table.specs.Definitions.{Group, applied, locked_in, refusal_of, can_cut, can_split}
+use Rattle.sc_group_law.proofs.Lemmas.{free_refusal, applied_roster}
+use Rattle.sc_whole_law.specs.Definitions.{MembersStayRosters}
 use Rattle.sc_whole_law.proofs.Coming.{two_members, staying_roster, comes}
 
 -- where a split is not refused the group can be split

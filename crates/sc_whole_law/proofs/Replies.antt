@@ -4,35 +4,19 @@ use Rattle.std.specs.Prelude.{slice_get}
 use Rattle.std.proofs.lemmas.Bool.{cases_Bool, cond-true, cond-false, eqb-false, leb-true}
 use Rattle.std.proofs.lemmas.List.{append_cancel_left}
 use Rattle.std.proofs.lemmas.Option.{slice_get_cases}
-use Rattle.sc_base.specs.Among.{Among}
-use Rattle.sc_base.specs.declared.names.Draw.{Draw}
-use Rattle.sc_base.specs.declared.ops.Reply.{Reply}
-use Rattle.sc_cmd.specs.declared.commands.Command.TheVariants.{Call}
-use Rattle.sc_cmd.specs.declared.cores.Base.{Base}
-use Rattle.sc_cmd.specs.declared.links.Route.{Route}
-use Rattle.sc_cmd.specs.declared.orders.OrderLine.{OrderLine}
-use Rattle.sc_mail.specs.declared.bodies.Mail.{Mail}
-use Rattle.sc_actor.specs.declared.actors.Seat.{Seat}
-use Rattle.sc_actor.specs.declared.rows.Row.{Row}
-use Rattle.sc_client_table.specs.Client.{Client, born_client}
-use Rattle.sc_lookup.specs.Known.{KnownGroups}
-use Rattle.sc_lookup.specs.Ways.{new_way}
+use Rattle.sc_base.specs.Definitions.{Among}
+use Rattle.sc_node_table.specs.Values.{Draw, Reply, Call, Base, Route, OrderLine, Mail, Seat, Row, Client as AClient}
+use Rattle.sc_client_table.specs.Definitions.{Client, born_client}
+use Rattle.sc_lookup.specs.Definitions.{KnownGroups, new_way}
 use Rattle.sc_lookup.specs.declared.ways.Way.{Way}
-use Rattle.sc_node_table.specs.Slots.{numbers_from}
-use Rattle.sc_paxos_law.specs.Lawful.{IsLawfulHistory}
-use Rattle.sc_sound.specs.Players.{Ahead, Player, node_seat, client_seat, client_seats, route_of}
-use Rattle.sc_mail.specs.declared.roles.Role.TheVariants.{Client as AClient}
+use Rattle.sc_node_table.specs.Definitions.{numbers_from}
+use Rattle.sc_paxos_law.specs.Definitions.{IsLawfulHistory}
+use Rattle.sc_sound.specs.Definitions.{Ahead, Player, node_seat, client_seat, client_seats, route_of, groups_at, decided_log, kept_replies, kept_reply, answered_from, answer_row}
 use Rattle.sc_scenario.specs.declared.scenarios.Asks.{Asks}
 use Rattle.sc_scenario.specs.declared.scenarios.Scenario.{Scenario}
-use Rattle.sc_sound.specs.GroupsOf.{groups_at}
-use Rattle.sc_sound.specs.Logs.{decided_log}
-use Rattle.sc_sound.specs.Requests.{kept_replies, kept_reply, answered_from, answer_row}
-use Rattle.sc_log_law.specs.Beside.{IsDecidedBefore, RepliesAreDecided}
-use Rattle.sc_log_law.specs.Descent.{Rows}
-use Rattle.sc_group_law.proofs.Clients.{IsAnswered}
-use Rattle.sc_group_law.proofs.Families.{h_of}
-use Rattle.sc_group_law.proofs.Invariant.{rule, first}
-use Rattle.sc_whole_law.specs.Begins.{HasSeats}
+use Rattle.sc_log_law.specs.Definitions.{IsDecidedBefore, RepliesAreDecided, Rows}
+use Rattle.sc_group_law.proofs.Lemmas.{IsAnswered, h_of, rule, first}
+use Rattle.sc_whole_law.specs.Definitions.{HasSeats}
 use Rattle.sc_whole_law.proofs.Fronts.{goes_on_from}
 
 -- ---- the group that clients ask first

@@ -2,12 +2,12 @@
 use Rattle.std.proofs.Common.{◌≡◌, ◌-◌, eqb, List, [], ◌∷◌, find, Option, Some, inl, inr, refl, sym, ◌∙◌, ap}
 use Rattle.std.specs.Prelude.{slice_get, option_and_then}
 use Rattle.std.proofs.lemmas.Bool.{eqb-true, eq-eqb, cond-true, cond_both}
-use Rattle.sc_base.specs.Among.{Among}
-use Rattle.sc_base.specs.declared.names.Draw.{Draw}
-use Rattle.sc_paxos_words.proofs.ListLemmas.{find_found}
+use Rattle.sc_base.specs.Definitions.{Among}
+use Rattle.sc_node_table.specs.Values.{Draw}
+use Rattle.sc_paxos_words.proofs.Lemmas.{find_found}
 use Rattle.sc_scenario.specs.declared.scenarios.Asks.{Asks}
 use Rattle.sc_scenario.specs.declared.scenarios.Scenario.{Scenario}
-use Rattle.sc_whole_law.specs.Begins.{AsksAre, op_or_get, section_op}
+use Rattle.sc_whole_law.specs.Definitions.{AsksAre, op_or_get, section_op}
 
 -- a client that has a section is found
 find_there : (clients : List Asks) (asks : Asks) → Among asks clients → (found : Asks) × (find (λ (a : Asks). eqb a.client asks.client) clients ≡ Some found)

@@ -2,13 +2,12 @@
 use Rattle.std.proofs.Common.{◌≡◌, ◌≢◌, ℕ, zero, suc, ◌+◌, ◌-◌, ◌%◌, ◌^◌, ◌<◌, ◌≤◌, List, [], ◌∷◌, length, get_or, inl, inr, refl, sym, ◌∙◌, ap, subst, arith}
 use Rattle.std.specs.Prelude.{AllPairs, IsTrue, map, ◌⊎◌}
 use Rattle.std.proofs.lemmas.Bool.{cases_lt, lt-ltb, ltb-true}
-use Rattle.sc_base.specs.Among.{Among}
-use Rattle.sc_base.specs.Arc.{Arc, IsArc, holds, offset}
-use Rattle.sc_cmd.specs.declared.cores.Base.{Base}
+use Rattle.sc_base.specs.Definitions.{Among, Arc, IsArc, holds, offset}
+use Rattle.sc_node_table.specs.Values.{Base}
 use Rattle.sc_log_entries.specs.declared.Cut.{Cut}
-use Rattle.sc_log_entries.specs.Rings.{Covers, first_cut}
-use Rattle.sc_sound.specs.GroupsOf.{AreNamedApart}
-use Rattle.sc_paxos_words.proofs.ListLemmas.{Each-among}
+use Rattle.sc_log_entries.specs.Definitions.{Covers, first_cut}
+use Rattle.sc_sound.specs.Definitions.{AreNamedApart}
+use Rattle.sc_paxos_words.proofs.Lemmas.{Each-among}
 
 -- ---- positions from a start on
 

@@ -1,30 +1,22 @@
 -- The orders of a lawful journal of a valid scenario are at positions of the ring, so what nodes queue for them, and for what policies order, is allowed by the owners of names.
 use Rattle.std.proofs.Common.{ℕ, List, [], ◌∷◌, ◌++◌, map, inl, refl, sym, subst}
-use Rattle.sc_base.specs.Among.{Each}
-use Rattle.sc_base.specs.Drawing.{next_name}
-use Rattle.sc_cmd.specs.declared.orders.Order.{Order}
+use Rattle.sc_base.specs.Definitions.{Each, next_name}
+use Rattle.sc_node_table.specs.Values.{Order, OrderLine, Mail, Row}
 use Rattle.sc_cmd.specs.declared.orders.Order.TheVariants as An
-use Rattle.sc_cmd.specs.declared.orders.OrderLine.{OrderLine}
-use Rattle.sc_mail.specs.declared.bodies.Mail.{Mail}
-use Rattle.sc_actor.specs.declared.rows.Row.{Row}
-use Rattle.sc_node_table.specs.Node.{group_of_order, names_after_ticks}
-use Rattle.sc_node_table.specs.Ordering.{ordered_command}
-use Rattle.sc_node_table.specs.Replica.{name_of}
-use Rattle.sc_paxos_words.proofs.ListLemmas.{Each-among, Each-append, Each-from_All}
-use Rattle.sc_paxos_law.proofs.Among.{Among-right}
-use Rattle.sc_sound.specs.Players.{Ahead, Lawful, line_of, schedule, system_of}
-use Rattle.sc_scenario.specs.Valid.{IsBounded, IsBoundedLine, IsBoundedOrder}
+use Rattle.sc_node_table.specs.Definitions.{group_of_order, names_after_ticks, ordered_command, name_of}
+use Rattle.sc_paxos_words.proofs.Lemmas.{Each-among, Each-append, Each-from_All}
+use Rattle.sc_paxos_law.proofs.Lemmas.{Among-right}
+use Rattle.sc_sound.specs.Definitions.{Ahead, Lawful, line_of, schedule, system_of}
+use Rattle.sc_scenario.specs.Definitions.{IsBounded, IsBoundedLine, IsBoundedOrder}
 use Rattle.sc_scenario.specs.declared.scenarios.Asks.{Asks}
 use Rattle.sc_scenario.specs.declared.scenarios.Scenario.{Scenario}
 use Rattle.sc_scenario.specs.declared.scenarios.SchedLine.{SchedLine}
 use Rattle.sc_scenario.specs.declared.scenarios.SchedLine.TheVariants as scheduled
-use Rattle.sc_ring_law.specs.Allowed.{IsAllowed}
-use Rattle.sc_names_law.specs.Laws.{IsAtPosition, TakesOrder, TakenOrdersAreAllowed, TakesWish, TakenWishesAreAllowed, WishesAreAtPositions}
-use Rattle.sc_names_law.specs.Owners.{owner_in}
-use Rattle.sc_group_law.proofs.Orders.{IsToldSo, TellsSo, told_induction}
-use Rattle.sc_log_law.specs.Descent.{Rows}
-use Rattle.sc_whole_law.specs.Begins.{section_op}
-use Rattle.sc_whole_law.specs.Orders.{ToldAreAllowed, WishedAreAllowed, OrdersAreAllowed}
+use Rattle.sc_ring_law.specs.Definitions.{IsAllowed}
+use Rattle.sc_names_law.specs.Definitions.{IsAtPosition, TakesOrder, TakenOrdersAreAllowed, TakesWish, TakenWishesAreAllowed, WishesAreAtPositions, owner_in}
+use Rattle.sc_group_law.proofs.Lemmas.{IsToldSo, TellsSo, told_induction}
+use Rattle.sc_log_law.specs.Definitions.{Rows}
+use Rattle.sc_whole_law.specs.Definitions.{section_op, ToldAreAllowed, WishedAreAllowed, OrdersAreAllowed}
 
 -- ---- the schedule
 

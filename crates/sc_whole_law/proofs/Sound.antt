@@ -1,16 +1,12 @@
 -- The laws of this crate: lawful journals decide in turn, so the law of journals makes them sound.
 use Rattle.std.proofs.Common.{◌≡◌, ◌∷◌, ◌++◌, ◌∙◌, ap, append_assoc}
-use Rattle.sc_cmd.specs.declared.orders.OrderLine.{OrderLine}
-use Rattle.sc_mail.specs.declared.bodies.Mail.{Mail}
-use Rattle.sc_actor.specs.declared.rows.Row.{Row}
-use Rattle.sc_actor.proofs.WalkLemmas.{lawful-prefix}
-use Rattle.sc_sound.specs.Players.{Ahead, system_of, schedule}
+use Rattle.sc_node_table.specs.Values.{OrderLine, Mail, Row}
+use Rattle.sc_actor.proofs.Lemmas.{lawful-prefix}
+use Rattle.sc_sound.specs.Definitions.{Ahead, system_of, schedule}
 use Rattle.sc_scenario.specs.declared.scenarios.Scenario.{Scenario}
-use Rattle.sc_ring_law.specs.Allowed.{Sources}
-use Rattle.sc_log_law.specs.Descent.{Rows}
-use Rattle.sc_log_law.specs.Laws.{JournalsInTurnAreSound}
-use Rattle.sc_whole_law.specs.Laws.{LawfulJournalsDecideInTurn, LawfulJournalsHoldBeside, LawfulJournalsAreSound}
-use Rattle.sc_whole_law.specs.Orders.{OrdersAreAllowed}
+use Rattle.sc_ring_law.specs.Definitions.{Sources}
+use Rattle.sc_log_law.specs.Definitions.{Rows, JournalsInTurnAreSound}
+use Rattle.sc_whole_law.specs.Definitions.{LawfulJournalsDecideInTurn, LawfulJournalsHoldBeside, LawfulJournalsAreSound, OrdersAreAllowed}
 use Rattle.sc_whole_law.proofs.Journals.{holds, beside}
 
 pub lawful_journals_decide_in_turn : LawfulJournalsDecideInTurn
@@ -22,7 +18,7 @@ lawful_journals_hold_beside sources ahead words scenario route b rows orders law
     beside sources ahead words scenario route b.place b.seats b.asks b.apart b.fresh rows orders lawful
 
 -- what is asked of a journal's orders is asked of those of its first part
-fewer_orders : (sources : Sources) (ahead : Ahead) (scenario : Scenario) (rows more : Rows) → OrdersAreAllowed sources ahead scenario (rows ++ more) → OrdersAreAllowed sources ahead scenario rows
+pub fewer_orders : (sources : Sources) (ahead : Ahead) (scenario : Scenario) (rows more : Rows) → OrdersAreAllowed sources ahead scenario (rows ++ more) → OrdersAreAllowed sources ahead scenario rows
 fewer_orders sources ahead scenario rows more orders = record {
   told = λ before row later e. orders.told before row (later ++ more) (longer before row later e);
   wished = λ before row later e. orders.wished before row (later ++ more) (longer before row later e);

@@ -2,52 +2,21 @@
 use Rattle.std.proofs.Common.{◌≡◌, ℕ, true, cond, nat_le, List, [], ◌∷◌, ◌++◌, length, Option, Some, None, refl, sym, ◌∙◌, ap, subst}
 use Rattle.std.proofs.lemmas.Bool.{le-leb, cond-true, cond_both}
 use Rattle.std.proofs.lemmas.Option.{same_Some}
-use Rattle.sc_base.specs.Same.{same_draw}
-use Rattle.sc_base.specs.declared.names.Draw.{Draw}
-use Rattle.sc_cmd.specs.declared.bodies.Body.{Body}
+use Rattle.sc_base.specs.Definitions.{same_draw, united}
+use Rattle.sc_node_table.specs.Values.{Draw, Body, Offer, Watch, Command, Split, Begin, Prepared, RecordVote, GiveUp, Finish, Watched, RecordWatch, Core, Lock, Free, Coordinating, Promised, Watching, Effect, Link, Heard, No, Outcome, Past, Vote, Mail, MailBody, TxVote, TxOutcome, TxWatched}
 use Rattle.sc_cmd.specs.declared.bodies.Body.TheVariants as By
-use Rattle.sc_cmd.specs.declared.bodies.Offer.{Offer}
-use Rattle.sc_cmd.specs.declared.bodies.Watch.{Watch}
-use Rattle.sc_cmd.specs.declared.commands.Command.{Command}
-use Rattle.sc_cmd.specs.declared.commands.Command.TheVariants.{Split, Begin, Prepared, RecordVote, GiveUp, Finish, Watched, RecordWatch}
-use Rattle.sc_cmd.specs.declared.cores.Core.{Core}
-use Rattle.sc_cmd.specs.declared.cores.Lock.{Lock}
-use Rattle.sc_cmd.specs.declared.cores.Lock.TheVariants.{Free, Coordinating, Promised, Watching}
-use Rattle.sc_cmd.specs.declared.effects.Effect.{Effect}
 use Rattle.sc_cmd.specs.declared.effects.Effect.TheVariants as Was
-use Rattle.sc_cmd.specs.declared.links.Link.{Link}
-use Rattle.sc_cmd.specs.declared.votes.Heard.{Heard}
-use Rattle.sc_cmd.specs.declared.votes.No.{No}
-use Rattle.sc_cmd.specs.declared.votes.Outcome.{Outcome}
 use Rattle.sc_cmd.specs.declared.votes.Outcome.TheVariants as Is
-use Rattle.sc_cmd.specs.declared.votes.Past.{Past}
 use Rattle.sc_cmd.specs.declared.votes.Past.TheVariants as Cast
-use Rattle.sc_cmd.specs.declared.votes.Vote.{Vote}
 use Rattle.sc_cmd.specs.declared.votes.Vote.TheVariants as Vows
-use Rattle.sc_cmd.specs.Effects.{decided_in, cast_in}
-use Rattle.sc_mail.specs.declared.bodies.Mail.{Mail}
-use Rattle.sc_mail.specs.declared.bodies.MailBody.{MailBody}
-use Rattle.sc_mail.specs.declared.bodies.MailBody.TheVariants.{TxVote, TxOutcome, TxWatched}
-use Rattle.sc_machine_table.specs.Group.{Group}
-use Rattle.sc_machine_table.specs.Machine.{applied}
-use Rattle.sc_machine_table.specs.Plans.{frozen_of, can_split, merged_link}
-use Rattle.sc_machine_table.specs.Splits.{right_link}
-use Rattle.sc_machine_table.specs.Transactions.{begun_group, decided_group, aborted, is_coordinating, asks_watcher, watch_recorded}
-use Rattle.sc_machine_table.specs.Votes.{vote_of, watch_vote_of, past_of}
-use Rattle.sc_base.specs.Union.{united}
+use Rattle.sc_cmd.specs.Definitions.{decided_in, cast_in}
+use Rattle.sc_machine_table.specs.Definitions.{Group, applied, frozen_of, can_split, merged_link, right_link, begun_group, decided_group, aborted, is_coordinating, asks_watcher, watch_recorded, vote_of, watch_vote_of, past_of}
 use Rattle.sc_node_table.specs.declared.Before.{Before}
-use Rattle.sc_node_table.specs.Mails.{sent_all}
-use Rattle.sc_node_table.specs.Questions.{offer_of, question, asked_first, both_link, split_watch, child_link, union_watch}
-use Rattle.sc_node_table.specs.Reminders.{reminders}
-use Rattle.sc_node_table.specs.Transactions.{voted_to, watched_to}
-use Rattle.sc_node_table.specs.Spoken.{asked_on, begun_asks, vote_sent, watch_sent, aborted_to, aborted_watcher, given_up_by, vote_answered, released_to, watch_answered_by, went_on}
-use Rattle.sc_ring_law.specs.Allowed.{Sources, IsAllowed, IsShared}
-use Rattle.sc_ring_law.specs.Invariant.{Groups, Facts, LockOk}
-use Rattle.sc_ring_law.specs.Stories.{Story, Stories, unsigned, watch_with}
-use Rattle.sc_log_law.specs.Allows.{AllowsAsItStands, MakesAllowed, GroupAllows}
-use Rattle.sc_group_law.proofs.Speech.{IsSaid, AreSaid}
-use Rattle.sc_whole_law.specs.Parameters.{IsHeard}
-use Rattle.sc_whole_law.specs.Parties.{MergesFit}
+use Rattle.sc_node_table.specs.Definitions.{sent_all, offer_of, question, asked_first, both_link, split_watch, child_link, union_watch, reminders, voted_to, watched_to, asked_on, begun_asks, vote_sent, watch_sent, aborted_to, aborted_watcher, given_up_by, vote_answered, released_to, watch_answered_by, went_on}
+use Rattle.sc_ring_law.specs.Definitions.{Sources, IsAllowed, IsShared, Groups, Facts, LockOk, Story, Stories, unsigned, watch_with}
+use Rattle.sc_log_law.specs.Definitions.{AllowsAsItStands, MakesAllowed, GroupAllows}
+use Rattle.sc_group_law.proofs.Lemmas.{IsSaid, AreSaid}
+use Rattle.sc_whole_law.specs.Definitions.{IsHeard, MergesFit}
 use Rattle.sc_whole_law.proofs.Asking.{BeginsShared}
 use Rattle.sc_whole_law.proofs.Coming.{EndsIt, IsDull, voting_group, comes}
 

@@ -1,21 +1,9 @@
 -- The example of a split is a lawful journal.
 use Rattle.std.proofs.Common.{refl}
-use Rattle.sc_actor.specs.System.{no_words}
-use Rattle.sc_node_table.specs.Election.{elected, ended, saw, nodes_to}
-use Rattle.sc_node_table.specs.Execute.{entered, told_call, told_effect, announced, learnt_to, welcomed, landed, left, looked, executed_one, executed_ready, executed}
-use Rattle.sc_node_table.specs.Install.{install_to, welcomed_all, jumped}
-use Rattle.sc_node_table.specs.Mails.{sent_all, sent_others, answered, told_order}
-use Rattle.sc_node_table.specs.Node.{ticked, with_children}
-use Rattle.sc_node_table.specs.Ordering.{ordered_row}
-use Rattle.sc_node_table.specs.Pump.{next_call, from_calls, from_queues, found_for, offered, pumped_from, pumped}
-use Rattle.sc_node_table.specs.Reminders.{reminded}
-use Rattle.sc_node_table.specs.Replica.{forgotten}
-use Rattle.sc_node_table.specs.Rows.{queued, requested, request_row, learn_row, mailed}
-use Rattle.sc_node_table.specs.Spoken.{told_begun, went_on, spoken_mails, spoken}
-use Rattle.sc_node_table.specs.Voting.{readied, took, accept_row, accepted_row}
-use Rattle.sc_sound.specs.Players.{Lawful}
-use Rattle.sc_sound.specs.Example.{four}
-use Rattle.sc_whole_law.specs.SplitExample.{split_scenario, split_example}
+use Rattle.sc_actor.specs.Definitions.{no_words}
+use Rattle.sc_node_table.specs.Definitions.{elected, ended, saw, nodes_to, entered, told_call, told_effect, announced, learnt_to, welcomed, landed, left, looked, executed_one, executed_ready, executed, install_to, welcomed_all, jumped, sent_all, sent_others, answered, told_order, ticked, with_children, ordered_row, next_call, from_calls, from_queues, found_for, offered, pumped_from, pumped, reminded, forgotten, queued, requested, request_row, learn_row, mailed, told_begun, went_on, spoken_mails, spoken, readied, took, accept_row, accepted_row}
+use Rattle.sc_sound.specs.Definitions.{Lawful, four}
+use Rattle.sc_whole_law.specs.Definitions.{split_scenario, split_example}
 
 -- the example is lawful
 pub split_is_lawful : Lawful four no_words split_scenario split_example

@@ -1,24 +1,19 @@
 -- Each valid scenario has one to sixteen groups in place, and its players are seated.
 use Rattle.std.proofs.Common.{◌≡◌, ◌-◌, ◌<◌, ◌≤◌, List, ◌∷◌, ◌++◌, length, map, Option, None, sym, ◌∙◌, ap, subst, arith}
 use Rattle.std.specs.List.{AllPairs}
-use Rattle.sc_base.specs.Among.{Among}
-use Rattle.sc_base.specs.declared.names.Draw.{Draw}
-use Rattle.sc_cmd.specs.declared.cores.Base.{Base}
-use Rattle.sc_node_table.specs.Slots.{numbers_from, slots_ahead}
-use Rattle.sc_sound.specs.Players.{Ahead, node_seat, client_seats, route_of}
-use Rattle.sc_scenario.specs.Groups.{base_at}
-use Rattle.sc_scenario.specs.Valid.{IsBounded, ValidScenariosAreBounded}
+use Rattle.sc_base.specs.Definitions.{Among}
+use Rattle.sc_node_table.specs.Values.{Draw, Base}
+use Rattle.sc_node_table.specs.Definitions.{numbers_from, slots_ahead}
+use Rattle.sc_sound.specs.Definitions.{Ahead, node_seat, client_seats, route_of, AreNamedApart}
+use Rattle.sc_scenario.specs.Definitions.{base_at, IsBounded, ValidScenariosAreBounded}
 use Rattle.sc_scenario.specs.declared.scenarios.Asks.{Asks}
 use Rattle.sc_scenario.specs.declared.scenarios.Scenario.{Scenario}
-use Rattle.sc_hist_law.specs.Worlds.{BeginBare}
-use Rattle.sc_ring_law.specs.Allowed.{Sources}
-use Rattle.sc_ring_law.specs.Laws.{BeginInPlace}
-use Rattle.sc_sound.specs.GroupsOf.{AreNamedApart}
-use Rattle.sc_whole_law.specs.Begins.{HasSeats, IsReady, section_op}
-use Rattle.sc_whole_law.specs.StartLaws.{ValidScenariosBeginWell}
+use Rattle.sc_hist_law.specs.Definitions.{BeginBare}
+use Rattle.sc_ring_law.specs.Definitions.{Sources, BeginInPlace}
+use Rattle.sc_whole_law.specs.Definitions.{HasSeats, IsReady, section_op, ValidScenariosBeginWell}
 use Rattle.sc_whole_law.proofs.Requests.{asks_are}
 use Rattle.sc_whole_law.proofs.Starts.{AreStarts, bases_from, first_and_others, starts_apart, starts_bare, starts_fresh, starts_in_place}
-use Rattle.sc_paxos_words.proofs.ListLemmas.{one_of_name, Each-from_All}
+use Rattle.sc_paxos_words.proofs.Lemmas.{one_of_name, Each-from_All}
 
 -- clients that rise are numbered each once
 numbered_once : (clients : List Asks) → AllPairs (λ (a b : Asks). a.client < b.client) clients

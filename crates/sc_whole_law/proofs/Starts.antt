@@ -2,19 +2,15 @@
 use Rattle.std.proofs.Common.{◌≡◌, ℕ, zero, suc, ◌+◌, ◌-◌, ◌%◌, ◌^◌, ◌<◌, ◌≤◌, false, eqb, leb, List, [], ◌∷◌, ◌++◌, length, get_or, None, inl, inr, refl, sym, ◌∙◌, ap, subst, arith}
 use Rattle.std.specs.Prelude.{map, AllPairs}
 use Rattle.std.proofs.lemmas.Bool.{cases_lt, cond-true, cond-false, eq-eqb, ne_eqb, le-leb, lt-leb}
-use Rattle.sc_base.specs.Among.{Among, Each}
-use Rattle.sc_base.specs.Arc.{end_of}
-use Rattle.sc_base.specs.declared.names.Draw.{Draw}
-use Rattle.sc_base.specs.Roster.{IsRoster}
-use Rattle.sc_cmd.specs.declared.cores.Base.{Base}
-use Rattle.sc_scenario.specs.Groups.{group_at, name_at, place_right, place_left, way, arc_at, base_at, bases_up_to, bases_of}
+use Rattle.sc_base.specs.Definitions.{Among, Each, end_of, IsRoster}
+use Rattle.sc_node_table.specs.Values.{Draw, Base}
+use Rattle.sc_scenario.specs.Definitions.{group_at, name_at, place_right, place_left, way, arc_at, base_at, bases_up_to, bases_of}
 use Rattle.sc_scenario.specs.declared.drafts.GroupLine.{GroupLine}
-use Rattle.sc_log_entries.specs.Rings.{Covers, first_cut}
-use Rattle.sc_hist_law.specs.Worlds.{BeginsBare, BeginBare}
-use Rattle.sc_ring_law.specs.Allowed.{Sources}
-use Rattle.sc_ring_law.specs.Laws.{StandsBetween, BeginsInPlace, BeginInPlace}
-use Rattle.sc_sound.specs.GroupsOf.{AreNamedApart}
-use Rattle.sc_whole_law.specs.Begins.{IsFresh}
+use Rattle.sc_log_entries.specs.Definitions.{Covers, first_cut}
+use Rattle.sc_hist_law.specs.Definitions.{BeginsBare, BeginBare}
+use Rattle.sc_ring_law.specs.Definitions.{Sources, StandsBetween, BeginsInPlace, BeginInPlace}
+use Rattle.sc_sound.specs.Definitions.{AreNamedApart}
+use Rattle.sc_whole_law.specs.Definitions.{IsFresh}
 use Rattle.sc_whole_law.proofs.Round.{IsSpan, GoRound, round_covers}
 
 -- lines of groups, in the order in which they begin

@@ -1,59 +1,24 @@
 -- Each row of a lawful journal decides in turn, whatever its groups order; and what holds of the journal holds with one more row.
 use Rattle.std.proofs.Common.{◌≡◌, ℕ, ◌+◌, List, [], ◌∷◌, ◌++◌, length, drop, Some, inl, inr, refl, sym, ◌∙◌, ap, subst, option_to_list}
 use Rattle.std.specs.Prelude.{slice_get}
-use Rattle.sc_base.specs.Among.{Among, Each}
-use Rattle.sc_base.specs.declared.names.Draw.{Draw}
-use Rattle.sc_base.specs.declared.ops.Op.{Op}
-use Rattle.sc_base.specs.declared.ops.Reply.{Reply}
-use Rattle.sc_cmd.specs.declared.commands.Command.{Command}
-use Rattle.sc_cmd.specs.declared.commands.Command.TheVariants.{Noop, Call, Join, Leave, Split, Begin, Prepared, RecordVote, GiveUp, Finish, Watched, RecordWatch}
-use Rattle.sc_cmd.specs.declared.cores.Base.{Base}
-use Rattle.sc_cmd.specs.declared.links.Route.{Route}
-use Rattle.sc_cmd.specs.declared.orders.OrderLine.{OrderLine}
-use Rattle.sc_mail.specs.declared.bodies.Mail.{Mail}
-use Rattle.sc_mail.specs.declared.bodies.MailBody.{MailBody}
-use Rattle.sc_mail.specs.declared.bodies.MailBody.TheVariants.{TxPrepare, TxVote, TxOutcome, TxWatch, TxWatched}
-use Rattle.sc_actor.specs.declared.rows.Row.{Row}
-use Rattle.sc_actor.specs.Steps.{IsStep}
-use Rattle.sc_machine_table.specs.Group.{Group, group_of}
-use Rattle.sc_machine_table.specs.Logs.{state_after}
-use Rattle.sc_machine_table.specs.Machine.{applied}
-use Rattle.sc_log_entries.specs.Births.{birth_of}
-use Rattle.sc_log_entries.specs.Worlds.{StoreWorld, named_group}
-use Rattle.sc_log_entries.proofs.Children.{births_are_children}
-use Rattle.sc_paxos_words.proofs.ListLemmas.{Each-among, Each-weaker}
-use Rattle.sc_paxos_law.proofs.Among.{Among-left, Among-right, get_pushed}
+use Rattle.sc_base.specs.Definitions.{Among, Each}
+use Rattle.sc_node_table.specs.Values.{Draw, Op, Reply, Command, Noop, Call, Join, Leave, Split, Begin, Prepared, RecordVote, GiveUp, Finish, Watched, RecordWatch, Base, Route, OrderLine, Mail, MailBody, TxPrepare, TxVote, TxOutcome, TxWatch, TxWatched, Row}
+use Rattle.sc_actor.specs.Definitions.{IsStep}
+use Rattle.sc_machine_table.specs.Definitions.{Group, group_of, state_after, applied}
+use Rattle.sc_log_entries.specs.Definitions.{birth_of, StoreWorld, named_group}
+use Rattle.sc_log_entries.proofs.Lemmas.{births_are_children}
+use Rattle.sc_paxos_words.proofs.Lemmas.{Each-among, Each-weaker}
+use Rattle.sc_paxos_law.proofs.Lemmas.{Among-left, Among-right, get_pushed}
 use Rattle.sc_scenario.specs.declared.scenarios.Asks.{Asks}
 use Rattle.sc_scenario.specs.declared.scenarios.Scenario.{Scenario}
-use Rattle.sc_sound.specs.Players.{Ahead, system_of, replies_of}
-use Rattle.sc_sound.specs.GroupsOf.{children_of, groups_at, birth_at, entries_at, world_at}
-use Rattle.sc_sound.specs.Logs.{decided_log, decided_state}
-use Rattle.sc_sound.specs.Requests.{issues, kept_replies}
-use Rattle.sc_ring_law.specs.Allowed.{Sources, IsAllowed, first_told, told_after}
-use Rattle.sc_ring_law.specs.Laws.{BeginInPlace}
-use Rattle.sc_ring_law.proofs.Start.{at_start}
-use Rattle.sc_ring_law.proofs.Worlds.{kept_after}
-use Rattle.sc_log_law.specs.Descent.{Rows, added_by, newborn_by}
-use Rattle.sc_log_law.specs.Findings.{AreFound, IsNewborn}
-use Rattle.sc_log_law.specs.InTurn.{DecidesInTurn, DecideInTurn}
-use Rattle.sc_log_law.proofs.Allowing.{allowed_stays_allowed}
-use Rattle.sc_names_law.proofs.Lists.{Each-drop}
-use Rattle.sc_ring_law.proofs.Sound.{store_after}
-use Rattle.sc_log_law.proofs.Births.{BornBy, born_by}
-use Rattle.sc_log_law.proofs.Calls.{all_allowed}
-use Rattle.sc_log_law.proofs.Findings.{told_rows, groups_are_found, groups_are_old_or_new}
-use Rattle.sc_log_law.proofs.Generations.{group_found}
-use Rattle.sc_log_law.proofs.Histories.{told_rows_stay}
-use Rattle.sc_log_law.proofs.Parts.{rows_go_on}
-use Rattle.sc_log_law.proofs.Told.{Told, state_there}
-use Rattle.sc_group_law.proofs.Births.{first_of}
-use Rattle.sc_group_law.proofs.Clients.{IsIssued, IsAnswered}
-use Rattle.sc_group_law.proofs.Families.{h_of, Kept, Stepped, IsLater, Moved, push, log_goes_on, decided_made}
-use Rattle.sc_group_law.proofs.Places.{or_now, issue-push}
-use Rattle.sc_group_law.proofs.Stepping.{HasPlayers, MayTell, KnowsOffspring, moved}
-use Rattle.sc_whole_law.specs.Parameters.{stories_at, IsIssuedCall, MayQueue, IsHeardAt}
-use Rattle.sc_whole_law.specs.Begins.{IsFresh, HasSeats, AsksAre}
-use Rattle.sc_whole_law.specs.Parties.{PartiesAreApart, MergesFit}
+use Rattle.sc_sound.specs.Definitions.{Ahead, system_of, replies_of, children_of, groups_at, birth_at, entries_at, world_at, decided_log, decided_state, issues, kept_replies}
+use Rattle.sc_ring_law.specs.Definitions.{Sources, IsAllowed, first_told, told_after, BeginInPlace}
+use Rattle.sc_ring_law.proofs.Lemmas.{at_start, kept_after, store_after, some_none}
+use Rattle.sc_log_law.specs.Definitions.{Rows, added_by, newborn_by, AreFound, IsNewborn, DecidesInTurn, DecideInTurn}
+use Rattle.sc_log_law.proofs.Lemmas.{allowed_stays_allowed, BornBy, born_by, all_allowed, told_rows, groups_are_found, groups_are_old_or_new, group_found, told_rows_stay, rows_go_on, Told, state_there}
+use Rattle.sc_names_law.proofs.Lemmas.{Each-drop}
+use Rattle.sc_group_law.proofs.Lemmas.{first_of, IsIssued, IsAnswered, h_of, Kept, Stepped, IsLater, Moved, push, log_goes_on, decided_made, or_now, issue-push, HasPlayers, MayTell, KnowsOffspring, moved}
+use Rattle.sc_whole_law.specs.Definitions.{stories_at, IsIssuedCall, MayQueue, IsHeardAt, IsFresh, HasSeats, AsksAre, PartiesAreApart, MergesFit}
 use Rattle.sc_whole_law.proofs.Apart.{IsNew, IsOldOrNew, named_apart, silent}
 use Rattle.sc_whole_law.proofs.Children.{fresh_children}
 use Rattle.sc_whole_law.proofs.Distinct.{parties_are_apart}
@@ -62,7 +27,6 @@ use Rattle.sc_whole_law.proofs.Fronts.{goes_on_from}
 use Rattle.sc_whole_law.proofs.Granting.{speaks}
 use Rattle.sc_whole_law.proofs.Growing.{grown}
 use Rattle.sc_whole_law.proofs.Members.{members_stay_rosters}
-use Rattle.sc_ring_law.proofs.Finds.{some_none}
 
 -- the child of an entry is one of its log's
 child_in : (group : Group) (front : List Command) (c : Command) (child : Base) → birth_of (state_after group front) c (applied (state_after group front) c).1 ≡ Some child → Among child (children_of group (front ++ c ∷ []))

@@ -5,11 +5,8 @@ use Rattle.std.proofs.lemmas.Bool.{cases_Bool, eqb-true, eqb-false, eq-eqb, ne_e
 use Rattle.std.proofs.lemmas.List.Elements.{All-tail, All-head}
 use Rattle.std.proofs.lemmas.List.Filters.{length-filter_both}
 use Rattle.std.proofs.lemmas.List.Kept.{AllPairs-from_increasing}
-use Rattle.sc_base.specs.Roster.{IsRoster, is_member}
-use Rattle.sc_base.specs.Union.{united}
-use Rattle.sc_base.proofs.Rising.{Below}
-use Rattle.sc_base.proofs.UnionLemmas.{count_united}
-use Rattle.sc_base.proofs.Pairs.{AllPairs-head, AllPairs-tail}
+use Rattle.sc_base.specs.Definitions.{IsRoster, is_member, united}
+use Rattle.sc_base.proofs.Lemmas.{Below, count_united, AllPairs-head, AllPairs-tail}
 
 -- each node stands once
 abbrev AreOnce : List ℕ → Type 0

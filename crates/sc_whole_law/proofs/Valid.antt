@@ -1,14 +1,10 @@
 -- Lawful journals of valid scenarios are sound, and their entries are logs: they begin well, and what their orders queue is allowed.
 use Rattle.std.proofs.Common.{◌++◌, subst}
-use Rattle.sc_sound.specs.Players.{Lawful, route_of}
-use Rattle.sc_scenario.specs.Valid.{ValidScenariosAreBounded}
-use Rattle.sc_names_law.specs.Laws.{OtherNamesAreFree, TakenOrdersAreAllowed, TakenWishesAreAllowed, WishesAreAtPositions}
-use Rattle.sc_names_law.specs.Owners.{owner_in}
-use Rattle.sc_whole_law.specs.Begins.{section_op}
-use Rattle.sc_whole_law.specs.StartLaws.{ValidScenariosBeginWell}
-use Rattle.sc_log_law.specs.Laws.{EntriesAreLogs}
-use Rattle.sc_whole_law.specs.Laws.{LawfulJournalsAreSound, LawfulJournalsDecideInTurn}
-use Rattle.sc_whole_law.specs.Valid.{ValidEntriesAreLogs, ValidJournalsAreSound}
+use Rattle.sc_sound.specs.Definitions.{Lawful, route_of}
+use Rattle.sc_scenario.specs.Definitions.{ValidScenariosAreBounded}
+use Rattle.sc_names_law.specs.Definitions.{OtherNamesAreFree, TakenOrdersAreAllowed, TakenWishesAreAllowed, WishesAreAtPositions, owner_in}
+use Rattle.sc_whole_law.specs.Definitions.{section_op, ValidScenariosBeginWell, LawfulJournalsAreSound, LawfulJournalsDecideInTurn, ValidEntriesAreLogs, ValidJournalsAreSound}
+use Rattle.sc_log_law.specs.Definitions.{EntriesAreLogs}
 use Rattle.sc_whole_law.proofs.Scheduled.{orders_allowed}
 
 pub valid_sound : ValidScenariosAreBounded → ValidScenariosBeginWell → TakenOrdersAreAllowed → TakenWishesAreAllowed → WishesAreAtPositions → OtherNamesAreFree → LawfulJournalsAreSound → ValidJournalsAreSound

@@ -1,21 +1,13 @@
 -- What a journal begins with: its groups, to which nothing has happened, its players and what they ask.
 use Rattle.std.specs.Prelude.{◌≡◌, ◌==◌, ℕ, ◌-◌, ◌≤◌, List, [], ◌∷◌, ◌++◌, map, find, Option, None, Some, slice_get, option_and_then}
-use Rattle.sc_base.specs.Among.{Among, Each}
-use Rattle.sc_base.specs.Limits.{most_nodes}
-use Rattle.sc_base.specs.declared.ops.Op.{Op}
-use Rattle.sc_base.specs.declared.ops.Op.TheVariants.{Get}
-use Rattle.sc_cmd.specs.declared.cores.Base.{Base}
-use Rattle.sc_cmd.specs.declared.cores.Lock.TheVariants.{Free}
-use Rattle.sc_cmd.specs.declared.links.Route.{Route}
-use Rattle.sc_base.specs.Roster.{IsRoster}
-use Rattle.sc_node_table.specs.Slots.{numbers_from, slots_ahead}
-use Rattle.sc_sound.specs.Players.{Ahead, node_seat, client_seat, births, route_of}
+use Rattle.sc_base.specs.Definitions.{Among, Each, most_nodes, IsRoster}
+use Rattle.sc_node_table.specs.Values.{Op, Get, Base, Free, Route}
+use Rattle.sc_node_table.specs.Definitions.{numbers_from, slots_ahead}
+use Rattle.sc_sound.specs.Definitions.{Ahead, node_seat, client_seat, births, route_of, AreNamedApart}
 use Rattle.sc_scenario.specs.declared.scenarios.Asks.{Asks}
 use Rattle.sc_scenario.specs.declared.scenarios.Scenario.{Scenario}
-use Rattle.sc_hist_law.specs.Worlds.{BeginBare}
-use Rattle.sc_ring_law.specs.Allowed.{Sources}
-use Rattle.sc_ring_law.specs.Laws.{BeginInPlace}
-use Rattle.sc_sound.specs.GroupsOf.{AreNamedApart}
+use Rattle.sc_hist_law.specs.Definitions.{BeginBare}
+use Rattle.sc_ring_law.specs.Definitions.{Sources, BeginInPlace}
 
 -- a group at its birth is bound in nothing, and has voted and decided nothing
 pub record IsFresh (base : Base) : Type 0 where

@@ -1,18 +1,13 @@
 -- What every lawful journal says of all its groups, whatever these order.
 use Rattle.std.specs.Prelude.{ℕ, List, [], ◌++◌}
-use Rattle.sc_cmd.specs.declared.commands.Command.{Command}
-use Rattle.sc_cmd.specs.declared.links.Route.{Route}
-use Rattle.sc_machine_table.specs.Group.{Group}
-use Rattle.sc_machine_table.specs.Logs.{state_after}
-use Rattle.sc_base.specs.Roster.{IsRoster}
-use Rattle.sc_sound.specs.Players.{Ahead, Lawful}
+use Rattle.sc_node_table.specs.Values.{Command, Route}
+use Rattle.sc_machine_table.specs.Definitions.{Group, state_after}
+use Rattle.sc_base.specs.Definitions.{IsRoster}
+use Rattle.sc_sound.specs.Definitions.{Ahead, Lawful, IsSound}
 use Rattle.sc_scenario.specs.declared.scenarios.Scenario.{Scenario}
-use Rattle.sc_hist_law.specs.Worlds.{BeginBare}
-use Rattle.sc_ring_law.specs.Allowed.{Sources}
-use Rattle.sc_sound.specs.Soundness.{IsSound}
-use Rattle.sc_log_law.specs.Beside.{HoldsBeside}
-use Rattle.sc_log_law.specs.Descent.{Rows}
-use Rattle.sc_log_law.specs.InTurn.{DecideInTurn}
+use Rattle.sc_hist_law.specs.Definitions.{BeginBare}
+use Rattle.sc_ring_law.specs.Definitions.{Sources}
+use Rattle.sc_log_law.specs.Definitions.{HoldsBeside, Rows, DecideInTurn}
 use Rattle.sc_whole_law.specs.Orders.{OrdersAreAllowed}
 use Rattle.sc_whole_law.specs.Begins.{BeginsWell}
 

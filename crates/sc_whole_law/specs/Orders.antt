@@ -1,21 +1,15 @@
 -- What is asked of a journal's orders, told and of policies: that what they queue is allowed.
 use Rattle.std.specs.Prelude.{◌≡◌, ◌≤◌, List, ◌∷◌, ◌++◌, None, Some}
-use Rattle.sc_base.specs.Drawing.{next_name}
-use Rattle.sc_cmd.specs.declared.orders.OrderLine.{OrderLine}
-use Rattle.sc_mail.specs.declared.bodies.Mail.{Mail}
-use Rattle.sc_actor.specs.declared.rows.Event.TheVariants.{Tick, Told}
-use Rattle.sc_actor.specs.declared.rows.Row.{Row}
-use Rattle.sc_actor.specs.Replay.{value}
-use Rattle.sc_node_table.specs.Node.{NodeState, group_of_order, names_after_ticks, replica_of}
-use Rattle.sc_node_table.specs.Ordering.{ordered_command, untaken}
-use Rattle.sc_node_table.specs.Replica.{ReplicaState, name_of}
-use Rattle.sc_sound.specs.Players.{Ahead, node_seat, player_table}
-use Rattle.sc_mail.specs.declared.roles.Role.TheVariants.{Node}
+use Rattle.sc_base.specs.Definitions.{next_name}
+use Rattle.sc_node_table.specs.Values.{OrderLine, Mail, Tick, Row, Node}
+use Rattle.sc_actor.specs.declared.rows.Event.TheVariants.{Told}
+use Rattle.sc_actor.specs.Definitions.{value}
+use Rattle.sc_node_table.specs.Definitions.{NodeState, group_of_order, names_after_ticks, replica_of, ordered_command, untaken, ReplicaState, name_of}
+use Rattle.sc_sound.specs.Definitions.{Ahead, node_seat, player_table}
 use Rattle.sc_scenario.specs.declared.scenarios.Scenario.{Scenario}
-use Rattle.sc_ring_law.specs.Allowed.{Sources, IsAllowed}
-use Rattle.sc_ring_law.specs.Stories.{Stories}
-use Rattle.sc_names_law.specs.Owners.{waited, wished_at}
-use Rattle.sc_log_law.specs.Descent.{Rows}
+use Rattle.sc_ring_law.specs.Definitions.{Sources, IsAllowed, Stories}
+use Rattle.sc_names_law.specs.Definitions.{waited, wished_at}
+use Rattle.sc_log_law.specs.Definitions.{Rows}
 
 -- what a node of the scenario queues for an order that it takes, in a row of the journal, is allowed at the order's group, whatever was told
 abbrev pub ToldAreAllowed : Sources → Ahead → Scenario → Rows → Type 0

@@ -1,18 +1,10 @@
 -- What the replicas of a group may queue after some rows of a journal, and which mails of transactions are true: by what the logs of all groups told.
 use Rattle.std.specs.Prelude.{List}
-use Rattle.sc_cmd.specs.declared.commands.Command.{Command}
-use Rattle.sc_cmd.specs.declared.commands.Command.TheVariants.{Noop, Call, Join, Leave, Split, Begin, Prepared, RecordVote, GiveUp, Finish, Watched, RecordWatch}
-use Rattle.sc_cmd.specs.declared.cores.Base.{Base}
-use Rattle.sc_mail.specs.declared.bodies.MailBody.{MailBody}
-use Rattle.sc_mail.specs.declared.bodies.MailBody.TheVariants.{Request, Answer, Prepare, Promise, Accept, Accepted, Nack, Learn, Ask, Install, TxPrepare, TxVote, TxOutcome, TxElsewhere, TxWatch, TxWatched, Told}
-use Rattle.sc_sound.specs.Players.{Ahead}
+use Rattle.sc_node_table.specs.Values.{Command, Noop, Call, Join, Leave, Split, Begin, Prepared, RecordVote, GiveUp, Finish, Watched, RecordWatch, Base, MailBody, Request, Answer, Prepare, Promise, Accept, Accepted, Nack, Learn, Ask, Install, TxPrepare, TxVote, TxOutcome, TxElsewhere, TxWatch, TxWatched, Told}
+use Rattle.sc_sound.specs.Definitions.{Ahead, entries_at}
 use Rattle.sc_scenario.specs.declared.scenarios.Scenario.{Scenario}
-use Rattle.sc_ring_law.specs.Allowed.{Sources, IsVoteCast, IsWatchVoteCast, IsAllowed}
-use Rattle.sc_ring_law.specs.Stories.{Stories}
-use Rattle.sc_ring_law.specs.Laws.{stories_of}
-use Rattle.sc_sound.specs.GroupsOf.{entries_at}
-use Rattle.sc_log_law.specs.Beside.{IsIssuedIn}
-use Rattle.sc_log_law.specs.Descent.{Rows}
+use Rattle.sc_ring_law.specs.Definitions.{Sources, IsVoteCast, IsWatchVoteCast, IsAllowed, Stories, stories_of}
+use Rattle.sc_log_law.specs.Definitions.{IsIssuedIn, Rows}
 
 -- what all logs of a journal told so far
 abbrev pub stories_at : Ahead → List Base → Rows → Stories

@@ -1,13 +1,9 @@
 -- What stories say of the parties of one transaction, beside what each of them has promised.
 use Rattle.std.specs.Prelude.{◌≡◌, ◌≤◌, length, Some}
-use Rattle.sc_base.specs.declared.names.Draw.{Draw}
+use Rattle.sc_node_table.specs.Values.{Draw, Offer, Watch, Frozen, Yes}
 use Rattle.sc_cmd.specs.declared.bodies.Body.TheVariants.{Merge}
-use Rattle.sc_cmd.specs.declared.bodies.Offer.{Offer}
-use Rattle.sc_cmd.specs.declared.bodies.Watch.{Watch}
-use Rattle.sc_cmd.specs.declared.votes.Frozen.{Frozen}
-use Rattle.sc_cmd.specs.declared.votes.Vote.TheVariants.{Yes}
-use Rattle.sc_base.specs.Union.{united}
-use Rattle.sc_ring_law.specs.Stories.{Story, Stories}
+use Rattle.sc_base.specs.Definitions.{united}
+use Rattle.sc_ring_law.specs.Definitions.{Story, Stories}
 
 -- the participant is not the watcher
 abbrev pub PartiesAreApart : Stories → Type 0

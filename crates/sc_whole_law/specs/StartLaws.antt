@@ -1,9 +1,9 @@
 -- How every valid scenario begins.
 use Rattle.std.specs.Prelude.{◌≡◌, Option, None}
-use Rattle.sc_base.specs.declared.names.Draw.{Draw}
-use Rattle.sc_node_table.specs.Slots.{slots_ahead}
-use Rattle.sc_sound.specs.Players.{Ahead}
-use Rattle.sc_scenario.specs.Valid.{IsValid}
+use Rattle.sc_node_table.specs.Values.{Draw}
+use Rattle.sc_node_table.specs.Definitions.{slots_ahead}
+use Rattle.sc_sound.specs.Definitions.{Ahead}
+use Rattle.sc_scenario.specs.Definitions.{IsValid}
 use Rattle.sc_scenario.specs.declared.scenarios.Scenario.{Scenario}
 use Rattle.sc_whole_law.specs.Begins.{IsReady, section_op}
 

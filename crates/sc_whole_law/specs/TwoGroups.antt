@@ -1,20 +1,9 @@
 -- A journal of two groups on one node: a client asks the first, is sent on to the second, and the node ticks, at which each replica has its part.
 use Rattle.std.specs.Prelude.{ℕ, false, List, [], ◌∷◌, None}
-use Rattle.sc_base.specs.declared.names.Draw.{Draw}
-use Rattle.sc_cmd.specs.declared.commands.Command.{Command}
-use Rattle.sc_cmd.specs.declared.commands.Command.TheVariants.{Call}
-use Rattle.sc_cmd.specs.declared.cores.Base.{Base}
-use Rattle.sc_cmd.specs.declared.cores.Lock.TheVariants.{Free}
-use Rattle.sc_cmd.specs.declared.links.Link.{Link}
-use Rattle.sc_cmd.specs.declared.orders.OrderLine.{OrderLine}
-use Rattle.sc_mail.specs.declared.bodies.AnswerBody.TheVariants.{NotMine}
-use Rattle.sc_mail.specs.declared.bodies.Mail.{Mail}
-use Rattle.sc_mail.specs.declared.bodies.MailBody.TheVariants.{Request, Answer, Accept, Accepted}
-use Rattle.sc_actor.specs.declared.rows.Row.{Row}
-use Rattle.sc_actor.specs.declared.rows.Event.TheVariants.{Deliver, Tick, Go}
+use Rattle.sc_node_table.specs.Values.{Draw, Command, Call, Base, Free, Link, OrderLine, NotMine, Mail, Request, Answer, Accept, Accepted, Row, Deliver, Tick, Go}
 use Rattle.sc_scenario.specs.declared.scenarios.SchedLine.TheVariants as line
 use Rattle.sc_scenario.specs.declared.scenarios.Scenario.{Scenario}
-use Rattle.sc_sound.specs.Example.{ballot, put_it, mail, row}
+use Rattle.sc_sound.specs.Definitions.{ballot, put_it, mail, row}
 
 -- the names of the groups
 abbrev pub one : Draw

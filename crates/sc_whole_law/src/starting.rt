@@ -3,8 +3,6 @@
 //! and laws, no logic.
 ghost use Rattle.sc_whole_law.specs.StartLaws.{ValidScenariosBeginWell};
 
-use sc_scenario::valid_scenarios_are_bounded;
-
 /// Every valid scenario has one to sixteen groups under names of their own, which start with some
 /// members and no pairs. Their arcs cover the ring, and each group stands between its neighbours, a
 /// lone one beside itself. Its nodes and clients are seated, each under a number of its own, and
@@ -13,6 +11,4 @@ use sc_scenario::valid_scenarios_are_bounded;
 /// to be open as a child that is born has.
 pub fn valid_scenarios_begin_well()
     ensures { ValidScenariosBeginWell }
-{
-    valid_scenarios_are_bounded();
-}
+{}

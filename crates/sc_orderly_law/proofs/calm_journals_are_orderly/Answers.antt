@@ -1,4 +1,4 @@
-use Rattle.sc_actor.specs.System.{system}
+use Rattle.sc_actor.specs.Definitions.{system}
 use Rattle.sc_orderly_law.proofs.Ordering.{calm_row}
 use Rattle.sc_orderly_law.proofs.Resting.{tidy-calm}
 use Rattle.sc_orderly_law.proofs.calm_journals_are_orderly.Goals as goal

@@ -1,4 +1,4 @@
-use Rattle.sc_actor.specs.System.{system}
+use Rattle.sc_actor.specs.Definitions.{system}
 use Rattle.sc_orderly_law.proofs.Paying.{deliveries_are_owed}
 use Rattle.sc_orderly_law.proofs.Settling.{never_cut}
 use Rattle.sc_orderly_law.proofs.Counting.{mails_are_owed, goes_are_few, rows_are}

@@ -1,4 +1,4 @@
-use Rattle.sc_actor.specs.System.{system}
+use Rattle.sc_actor.specs.Definitions.{system}
 use Rattle.sc_orderly_law.proofs.Resting.{rest-lawful, first-lawful, quiet-lawful, empty-lawful}
 use Rattle.sc_orderly_law.proofs.mail_is_taken_in_order.Goals as goal
 

@@ -1,4 +1,4 @@
-use Rattle.sc_actor.specs.System.{system}
+use Rattle.sc_actor.specs.Definitions.{system}
 use Rattle.sc_orderly_law.proofs.Counting.{rows_of_all, goes_in_time}
 use Rattle.sc_orderly_law.proofs.Given.{few_told, told_so}
 use Rattle.sc_orderly_law.proofs.Timing.{rows_in_time, ends_quiet, deliveries_and_orders}

@@ -1,4 +1,4 @@
-use Rattle.sc_actor.specs.System.{system}
+use Rattle.sc_actor.specs.Definitions.{system}
 use Rattle.sc_orderly_law.proofs.Ordering.{orderly}
 use Rattle.sc_orderly_law.proofs.Resting.{tidy}
 use Rattle.sc_orderly_law.proofs.plain_journals_are_orderly.Goals as goal

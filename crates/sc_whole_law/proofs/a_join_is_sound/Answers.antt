@@ -1,5 +1,5 @@
-use Rattle.sc_group_law.specs.JoinExample.{join_scenario, join_example}
-use Rattle.sc_whole_law.specs.Texts.{join_text}
+use Rattle.sc_group_law.specs.Definitions.{join_scenario, join_example}
+use Rattle.sc_whole_law.specs.Definitions.{join_text}
 use Rattle.sc_whole_law.proofs.Examples.{text_sound, join_is_read}
 use Rattle.sc_whole_law.proofs.a_join_is_sound.Goals as goal
 

@@ -1,5 +1,4 @@
-use Rattle.sc_whole_law.specs.Texts.{two_text}
-use Rattle.sc_whole_law.specs.TwoGroups.{two_scenario, two_example}
+use Rattle.sc_whole_law.specs.Definitions.{two_text, two_scenario, two_example}
 use Rattle.sc_whole_law.proofs.Examples.{text_sound, two_are_read}
 use Rattle.sc_whole_law.proofs.TwoGroups.{two_is_lawful}
 use Rattle.sc_whole_law.proofs.a_journal_of_two_groups.Goals as goal

@@ -1,6 +1,5 @@
 use Rattle.std.proofs.Common.{refl}
-use Rattle.sc_whole_law.specs.SplitExample.{split_scenario, split_example}
-use Rattle.sc_whole_law.specs.Texts.{split_text}
+use Rattle.sc_whole_law.specs.Definitions.{split_scenario, split_example, split_text}
 use Rattle.sc_whole_law.proofs.Examples.{text_sound, split_is_read}
 use Rattle.sc_whole_law.proofs.SplitExample.{split_is_lawful}
 use Rattle.sc_whole_law.proofs.a_journal_with_a_split.Goals as goal

@@ -1,5 +1,5 @@
-use Rattle.sc_group_law.specs.Example.{election_scenario, election_example}
-use Rattle.sc_whole_law.specs.Texts.{election_text}
+use Rattle.sc_group_law.specs.Definitions.{election_scenario, election_example}
+use Rattle.sc_whole_law.specs.Definitions.{election_text}
 use Rattle.sc_whole_law.proofs.Examples.{text_sound, election_is_read}
 use Rattle.sc_whole_law.proofs.an_election_is_sound.Goals as goal
 

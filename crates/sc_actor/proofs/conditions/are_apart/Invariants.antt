@@ -1,5 +1,5 @@
 use Rattle.std.proofs.Common.{◌≡◌, drop}
-use Rattle.sc_actor.specs.System.{are_apart}
+use Rattle.sc_actor.specs.Definitions.{are_apart}
 use Rattle.sc_actor.proofs.conditions.are_apart.Given as goal
 
 abbrev pub invariant-loop-i : goal.invariant-loop-i

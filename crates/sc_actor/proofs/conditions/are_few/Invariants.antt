@@ -1,5 +1,5 @@
 use Rattle.std.proofs.Common.{◌≡◌, ◌-◌, ◌^◌, length, min, take}
-use Rattle.sc_actor.specs.Mail.{mails}
+use Rattle.sc_actor.specs.Definitions.{mails}
 use Rattle.sc_actor.proofs.conditions.are_few.Given as goal
 
 abbrev pub invariant-loop-row : goal.invariant-loop-row

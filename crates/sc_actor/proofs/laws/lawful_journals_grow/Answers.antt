@@ -1,4 +1,4 @@
-use Rattle.sc_actor.specs.System.{system}
+use Rattle.sc_actor.specs.Definitions.{system}
 use Rattle.sc_actor.proofs.WalkLemmas.{lawful-snoc, lawful-last, lawful-prefix}
 use Rattle.sc_actor.proofs.laws.lawful_journals_grow.Goals as goal
 

@@ -1,5 +1,4 @@
-use Rattle.sc_actor.specs.System.{system}
-use Rattle.sc_actor.specs.Walk.{place_after}
+use Rattle.sc_actor.specs.Definitions.{system, place_after}
 use Rattle.sc_actor.proofs.Induction.{MayAdd-step}
 use Rattle.sc_actor.proofs.PendingLemmas.{waiting_one, waiting_any}
 use Rattle.sc_actor.proofs.laws.next_rows_are_steps.Goals as goal

@@ -1,43 +1,60 @@
 use Rattle.sc_calm_answers_law.proofs.Charted.{LineLaws, journals_go_on}
 use Rattle.sc_calm_answers_law.proofs.SegmentParts.{SegmentLaws}
 use Rattle.sc_calm_answers_law.proofs.SegmentRows.{RowLaws}
+use Rattle.sc_calm_answers_law.proofs.FrontLaws.{journals_begin_resting, orders_leave_resting}
+use Rattle.sc_calm_answers_law.proofs.AskedLaws.{asked_rows_find_calm, asked_rows_go_on, requests_begin_asked, requests_keep_groups, requests_rest_again}
+use Rattle.sc_calm_answers_law.proofs.HomewardLaws.{requests_send_no_errands}
+use Rattle.sc_calm_answers_law.proofs.Homeward.{homeward_actors as homeward_goes_to_actors}
+use Rattle.sc_calm_answers_law.proofs.NameLaws.{clients_are_near, names_stay_few}
+use Rattle.sc_calm_answers_law.proofs.OrderedLaws.{deliveries_keep_ordered, orders_begin_ordered}
+use Rattle.sc_calm_answers_law.proofs.KnownLaws.{fronts_are_found}
+use Rattle.sc_calm_answers_law.proofs.Leading.{well_led_lead_alone}
+use Rattle.sc_calm_answers_law.proofs.RequestLaws.{lawful_replicas_are_named_once}
+use Rattle.sc_calm_answers_law.proofs.Views.{views_agree}
+use Rattle.sc_calm_mail_law.proofs.Lemmas.{desks_are_not_born, mail_is_posted, replicas_last}
+use Rattle.sc_calm_charts_law.proofs.Lemmas.{charts_follow, quiet_charts_rest}
+use Rattle.sc_calm_answers_law.proofs.SettingLaws.{quiet_journals_have_frames}
+use Rattle.sc_calm_answers_law.proofs.KeptLaws.{chart_hints_rise, order_charts_follow}
+use Rattle.sc_calm_answers_law.proofs.AnswerLaws.{calm_journals_are_short, orders_may_be_given}
+use Rattle.sc_budget_law.proofs.Lemmas.{calm_lines_are_spaced}
+use Rattle.sc_calm_law.proofs.Lemmas.{kept_calm_is_measured, resting_owes_little}
 use Rattle.sc_calm_answers_law.proofs.answered_laws.calm_journals_go_on.Goals as goal
 
 pub returns : goal.returns
 returns c =
     let segment : SegmentLaws = record {
-      begin_law = c.journals_begin_resting.ensures;
-      ask_law = c.requests_begin_asked.ensures;
-      stay_law = c.asked_rows_go_on.ensures;
-      find_law = c.asked_rows_find_calm.ensures;
-      groups_law = c.requests_keep_groups.ensures;
-      again_law = c.requests_rest_again.ensures;
-      silent_law = c.requests_send_no_errands.ensures;
-      actors_law = c.homeward_goes_to_actors.ensures;
-      near_law = c.clients_are_near.ensures;
-      names_law = c.names_stay_few.ensures;
-      told_law = c.orders_begin_ordered.ensures;
-      keep_law = c.deliveries_keep_ordered.ensures;
-      over_law = c.orders_leave_resting.ensures;
+      begin_law = journals_begin_resting;
+      ask_law = requests_begin_asked;
+      stay_law = asked_rows_go_on;
+      find_law = asked_rows_find_calm;
+      groups_law = requests_keep_groups;
+      again_law = requests_rest_again;
+      silent_law = requests_send_no_errands;
+      actors_law = homeward_goes_to_actors;
+      near_law = clients_are_near;
+      names_law = names_stay_few;
+      told_law = orders_begin_ordered;
+      keep_law = deliveries_keep_ordered;
+      over_law = orders_leave_resting;
     } in
     let rows : RowLaws = record {
       all_bounded = c.valid_scenarios_are_bounded.ensures;
-      found_law = c.fronts_are_found.ensures;
-      alone_law = c.well_led_lead_alone.ensures;
-      once_law = c.lawful_replicas_are_named_once.ensures;
-      agree_law = c.views_agree.ensures;
-      last_law = c.replicas_last.ensures;
-      rest_law = c.quiet_charts_rest.ensures;
-      frames_law = c.quiet_journals_have_frames.ensures;
-      rise_law = c.chart_hints_rise.ensures;
-      order_law = c.order_charts_follow.ensures;
-      chart_law = c.charts_follow.ensures;
+      found_law = fronts_are_found;
+      alone_law = well_led_lead_alone;
+      once_law = lawful_replicas_are_named_once;
+      agree_law = views_agree;
+      last_law = replicas_last;
+      rest_law = quiet_charts_rest;
+      frames_law = quiet_journals_have_frames;
+      rise_law = chart_hints_rise;
+      order_law = order_charts_follow;
+      chart_law = charts_follow;
     } in
     let lines : LineLaws = record {
-      short_law = c.calm_journals_are_short.ensures;
-      given_law = c.orders_may_be_given.ensures;
-      spaced_law = c.calm_lines_are_spaced.ensures;
-      posted_law = c.mail_is_posted.ensures;
-      desk_law = c.desks_are_not_born.ensures;
+      short_law = calm_journals_are_short;
+      given_law = orders_may_be_given;
+      spaced_law = calm_lines_are_spaced;
+      posted_law = mail_is_posted;
+      desk_law = desks_are_not_born;
     } in
-    journals_go_on segment rows lines c.kept_calm_is_measured.ensures c.resting_owes_little.ensures
+    journals_go_on segment rows lines kept_calm_is_measured resting_owes_little

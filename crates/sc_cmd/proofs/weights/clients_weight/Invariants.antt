@@ -1,5 +1,5 @@
 use Rattle.std.proofs.Common.{◌≡◌, take}
-use Rattle.sc_cmd.specs.Weight.{capped, clients_weight}
+use Rattle.sc_cmd.specs.Definitions.{capped, clients_weight}
 use Rattle.sc_cmd.proofs.weights.clients_weight.Given as goal
 
 -- the weight of the entries so far

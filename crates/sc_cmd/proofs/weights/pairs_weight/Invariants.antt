@@ -1,5 +1,5 @@
 use Rattle.std.proofs.Common.{◌≡◌, take}
-use Rattle.sc_cmd.specs.Weight.{capped, pairs_weight}
+use Rattle.sc_cmd.specs.Definitions.{capped, pairs_weight}
 use Rattle.sc_cmd.proofs.weights.pairs_weight.Given as goal
 
 -- the weight of the pairs so far

@@ -1,7 +1,6 @@
 use Rattle.std.proofs.Common.{ap, ◌∙◌, ◌++◌, ◌∷◌, []}
-use Rattle.sc_exchange.specs.BareRows.{bare_rows}
+use Rattle.sc_exchange.specs.Definitions.{bare_rows, all_addressed}
 use Rattle.sc_exchange.proofs.Done.{bare_rows-push}
-use Rattle.sc_exchange.specs.Addressed.{all_addressed}
 use Rattle.sc_exchange.proofs.Addressing.{addressed_push}
 use Rattle.sc_exchange.proofs.turns.append_row.Goals as goal
 

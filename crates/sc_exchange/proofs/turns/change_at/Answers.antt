@@ -1,10 +1,9 @@
 use Rattle.std.proofs.Common.{rules, ◌≡◌, sym, ap, ◌∙◌, true, false}
-use Rattle.sc_turn.specs.Seats.{known}
-use Rattle.sc_exchange.specs.Turns.{may_change, change}
+use Rattle.sc_turn.specs.Definitions.{known}
+use Rattle.sc_exchange.specs.Definitions.{may_change, change, all_addressed}
 use Rattle.sc_exchange.proofs.Views.{seen_same, seen_row, turned_same, changed, bytes_row}
 use Rattle.sc_exchange.proofs.Seats.{seat_looked, seat_same, seat_row}
 use Rattle.std.proofs.Common.{[]}
-use Rattle.sc_exchange.specs.Addressed.{all_addressed}
 use Rattle.sc_exchange.proofs.Addressing.{addressed_push, change_addressed}
 use Rattle.sc_exchange.proofs.turns.change_at.Goals as goal
 

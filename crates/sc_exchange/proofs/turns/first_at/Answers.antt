@@ -1,6 +1,6 @@
 use Rattle.std.proofs.Common.{ap, sym, ◌∙◌, subst}
-use Rattle.sc_turn.specs.Seats.{known}
-use Rattle.sc_exchange.specs.Answers.{IsFirstTo}
+use Rattle.sc_turn.specs.Definitions.{known}
+use Rattle.sc_exchange.specs.Definitions.{IsFirstTo}
 use Rattle.sc_exchange.proofs.Views.{seen_same}
 use Rattle.sc_exchange.proofs.Seats.{seat_looked}
 use Rattle.sc_exchange.proofs.turns.first_at.Goals as goal

@@ -1,6 +1,6 @@
 use Rattle.std.proofs.Common.{◌∙◌, inr}
-use Rattle.sc_turn.specs.Seats.{known}
-use Rattle.sc_exchange.specs.BareRows.{bare_rows}
+use Rattle.sc_turn.specs.Definitions.{known}
+use Rattle.sc_exchange.specs.Definitions.{bare_rows}
 use Rattle.sc_exchange.proofs.Done.{left_row}
 use Rattle.sc_exchange.proofs.turns.keep_row.Goals as goal
 

@@ -1,6 +1,6 @@
 use Rattle.std.proofs.Common.{◌∙◌, inl}
-use Rattle.sc_turn.specs.Seats.{known}
-use Rattle.sc_exchange.specs.BareRows.{bare_rows}
+use Rattle.sc_turn.specs.Definitions.{known}
+use Rattle.sc_exchange.specs.Definitions.{bare_rows}
 use Rattle.sc_exchange.proofs.Done.{left_same}
 use Rattle.sc_exchange.proofs.turns.keep_same.Goals as goal
 

@@ -1,6 +1,6 @@
 use Rattle.std.proofs.Common.{ap, ◌∙◌, sym, subst}
-use Rattle.sc_turn.specs.Seats.{known}
-use Rattle.sc_exchange.specs.Answers.{IsLook}
+use Rattle.sc_turn.specs.Definitions.{known}
+use Rattle.sc_exchange.specs.Definitions.{IsLook}
 use Rattle.sc_exchange.proofs.Results.{ok_maps}
 use Rattle.sc_exchange.proofs.Views.{seen_same}
 use Rattle.sc_exchange.proofs.Seats.{seat_looked}

@@ -1,12 +1,12 @@
 use Rattle.std.proofs.Common.{sym, subst, ap, ◌∙◌, length}
-use Rattle.sc_turn.specs.Seats.{known}
-use Rattle.sc_actor.specs.Counted.{row_bytes, journal_bytes}
-use Rattle.sc_ledger.specs.Fault.{IsCause}
+use Rattle.sc_turn.specs.Definitions.{known}
+use Rattle.sc_actor.specs.Definitions.{row_bytes, journal_bytes}
+use Rattle.sc_ledger.specs.Definitions.{IsCause}
 use Rattle.sc_exchange.proofs.Results.{ok_with, err_maps, either}
 use Rattle.sc_exchange.proofs.Views.{seen_same, seen_row, turned_same, turned_row, bytes_row}
 use Rattle.sc_exchange.proofs.Seats.{seat_looked, seat_same, seat_row}
 use Rattle.std.proofs.Common.{[]}
-use Rattle.sc_exchange.specs.Addressed.{all_addressed}
+use Rattle.sc_exchange.specs.Definitions.{all_addressed}
 use Rattle.sc_exchange.proofs.Addressing.{addressed_push, addressed_found}
 use Rattle.sc_exchange.proofs.turns.post_at.Goals as goal
 

@@ -1,7 +1,7 @@
 use Rattle.std.proofs.Common.{ap, sym, ◌∙◌}
-use Rattle.sc_turn.specs.Seats.{known}
+use Rattle.sc_turn.specs.Definitions.{known}
 use Rattle.std.specs.Option.{option_map}
-use Rattle.sc_actor.specs.Mail.{mails, numbered}
+use Rattle.sc_actor.specs.Definitions.{mails, numbered}
 use Rattle.sc_exchange.proofs.Views.{seen_same}
 use Rattle.sc_exchange.proofs.Seats.{seat_looked}
 use Rattle.sc_exchange.proofs.turns.receiver_at.Goals as goal

@@ -1,6 +1,6 @@
 use Rattle.std.proofs.Common.{◌≡◌, ap, ◌∙◌, sym, subst, map, is_some}
-use Rattle.sc_turn.specs.Seats.{known}
-use Rattle.sc_ledger.specs.Pending.{kth_pending}
+use Rattle.sc_turn.specs.Definitions.{known}
+use Rattle.sc_ledger.specs.Definitions.{kth_pending}
 use Rattle.sc_exchange.proofs.Results.{ok_maps}
 use Rattle.sc_exchange.proofs.Views.{seen_same}
 use Rattle.sc_exchange.proofs.Seats.{seat_looked}

@@ -1,8 +1,8 @@
 use Rattle.std.proofs.Common.{sym, ap, ◌∙◌, ◌+◌, drop, get_or, arith}
 use Rattle.std.proofs.lemmas.List.{drop_more}
-use Rattle.sc_actor.specs.System.{kth}
-use Rattle.sc_ledger.specs.Queues.{copies_in}
-use Rattle.sc_actor.proofs.Numbers.{kth-here, kth-past}
+use Rattle.sc_actor.specs.Definitions.{kth}
+use Rattle.sc_ledger.specs.Definitions.{copies_in}
+use Rattle.sc_actor.proofs.Lemmas.{kth-here, kth-past}
 use Rattle.sc_ledger.proofs.copies.kth_in.Goals as goal
 
 pub loop-entry-preserved : goal.loop-entry-preserved

@@ -1,6 +1,6 @@
 use Rattle.std.proofs.Common.{◌≡◌, ◌<◌, drop}
-use Rattle.sc_actor.specs.System.{kth}
-use Rattle.sc_ledger.specs.Queues.{copies_in}
+use Rattle.sc_actor.specs.Definitions.{kth}
+use Rattle.sc_ledger.specs.Definitions.{copies_in}
 use Rattle.sc_ledger.proofs.copies.kth_in.Given as goal
 
 -- what is left to find among the entries that are left

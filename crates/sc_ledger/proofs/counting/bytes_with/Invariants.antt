@@ -1,5 +1,5 @@
 use Rattle.std.proofs.Common.{◌≡◌, ◌+◌, ◌-◌, ◌^◌, min, sum_by, take}
-use Rattle.sc_actor.specs.Counted.{mail_bytes}
+use Rattle.sc_actor.specs.Definitions.{mail_bytes}
 use Rattle.sc_ledger.proofs.counting.bytes_with.Given as goal
 
 -- the bytes of the mails so far

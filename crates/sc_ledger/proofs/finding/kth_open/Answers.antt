@@ -1,8 +1,7 @@
 use Rattle.std.proofs.Common.{ap, sym, ◌∙◌, subst, arith, ◌+◌, ◌-◌, ◌<◌, ◌≤◌, cond, get_or, drop}
-use Rattle.sc_actor.specs.Mail.{numbers}
-use Rattle.sc_actor.specs.System.{kth}
-use Rattle.sc_ledger.specs.Kept.{counts_for}
-use Rattle.sc_actor.proofs.Numbers.{kth-later, kth-found, numbers-end, kth-none, get_at}
+use Rattle.sc_actor.specs.Definitions.{numbers, kth}
+use Rattle.sc_ledger.specs.Definitions.{counts_for}
+use Rattle.sc_actor.proofs.Lemmas.{kth-later, kth-found, numbers-end, kth-none, get_at}
 use Rattle.sc_ledger.proofs.finding.kth_open.Goals as goal
 
 pub loop-i-preserved : goal.loop-i-preserved

@@ -1,7 +1,7 @@
 use Rattle.std.proofs.Common.{sym, ap, ◌∙◌, arith, ◌+◌, ◌++◌}
 use Rattle.std.proofs.lemmas.List.{append-nil}
-use Rattle.sc_ledger.specs.Kept.{counts_for}
-use Rattle.sc_actor.proofs.Numbers.{numbers-end}
+use Rattle.sc_ledger.specs.Definitions.{counts_for}
+use Rattle.sc_actor.proofs.Lemmas.{numbers-end}
 use Rattle.sc_ledger.proofs.finding.open_numbers.Goals as goal
 
 pub returns : goal.returns

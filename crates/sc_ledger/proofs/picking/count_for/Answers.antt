@@ -1,5 +1,5 @@
 use Rattle.std.proofs.Common.{ap, ◌∙◌, arith}
-use Rattle.sc_ledger.specs.Spots.{is_one_of}
+use Rattle.sc_ledger.specs.Definitions.{is_one_of}
 use Rattle.sc_ledger.proofs.OneCopy.{counted_on}
 use Rattle.sc_ledger.proofs.picking.count_for.Goals as goal
 

@@ -1,6 +1,5 @@
 use Rattle.std.proofs.Common.{◌≡◌, length, take}
-use Rattle.sc_ledger.specs.Queues.{copies_in}
-use Rattle.sc_ledger.specs.Spots.{copies_for, spots_from}
+use Rattle.sc_ledger.specs.Definitions.{copies_in, copies_for, spots_from}
 use Rattle.sc_ledger.proofs.picking.count_for.Given as goal
 
 -- so many are for them so far

@@ -1,4 +1,4 @@
-use Rattle.std.proofs.Common.{ℕ, eqb, rules, ap, ◌∙◌, arith}
+use Rattle.std.proofs.Common.{ℕ, eqb, ap, ◌∙◌, arith}
 use Rattle.sc_ledger.proofs.OneCopy.{counted_on}
 use Rattle.sc_ledger.proofs.picking.count_to.Goals as goal
 

@@ -1,6 +1,5 @@
 use Rattle.std.proofs.Common.{◌≡◌, ◌==◌, length, take, filter}
-use Rattle.sc_ledger.specs.Queues.{copies_in}
-use Rattle.sc_ledger.specs.Spots.{spots_from}
+use Rattle.sc_ledger.specs.Definitions.{copies_in, spots_from}
 use Rattle.sc_ledger.proofs.picking.count_to.Given as goal
 
 -- so many have it so far

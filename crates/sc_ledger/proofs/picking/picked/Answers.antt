@@ -1,6 +1,5 @@
-use Rattle.std.proofs.Common.{rules, ◌≡◌, length, sym, ◌∙◌}
-use Rattle.sc_ledger.specs.Queues.{copies_in}
-use Rattle.sc_ledger.specs.Spots.{copies_for, spots_from}
+use Rattle.std.proofs.Common.{◌≡◌, sym, ◌∙◌}
+use Rattle.sc_ledger.specs.Definitions.{copies_in, copies_for, spots_from}
 use Rattle.sc_ledger.proofs.OneCopy.{picked_none, picked_some}
 use Rattle.sc_ledger.proofs.picking.picked.Goals as goal
 

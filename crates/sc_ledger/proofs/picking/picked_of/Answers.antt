@@ -1,5 +1,5 @@
 use Rattle.std.proofs.Common.{◌∙◌, refl, ap}
-use Rattle.sc_ledger.specs.Queues.{copies_in}
+use Rattle.sc_ledger.specs.Definitions.{copies_in}
 use Rattle.sc_ledger.proofs.OneCopy.{picked_at}
 use Rattle.sc_ledger.proofs.picking.picked_of.Goals as goal
 

@@ -1,6 +1,5 @@
 use Rattle.std.proofs.Common.{◌≡◌, ◌++◌, ◌∷◌, [], take}
-use Rattle.sc_ledger.specs.Kept.{counts_for}
-use Rattle.sc_ledger.specs.Queues.{open_entries}
+use Rattle.sc_ledger.specs.Definitions.{counts_for, open_entries}
 use Rattle.sc_ledger.proofs.queues.without.Given as goal
 
 -- what is pending of the mails so far

@@ -1,7 +1,7 @@
 use Rattle.std.proofs.Common.{◌<◌, subst, sym}
 use Rattle.sc_lend.specs.declared.rule.Clerk.{Clerk}
 use Rattle.crossbeam_queue.specs.Passes.{view}
-use Rattle.sc_lend.specs.Lending.{MayGiveBack}
+use Rattle.sc_lend.specs.Definitions.{MayGiveBack}
 use Rattle.sc_lend.proofs.Keeps.{gives_back}
 use Rattle.sc_lend.proofs.office.give_back.Goals as goal
 

@@ -1,7 +1,7 @@
-use Rattle.std.proofs.Common.{rules, tests, length, not, ◌==◌, ◌||◌}
+use Rattle.std.proofs.Common.{rules, tests, not, ◌==◌, ◌||◌}
 use Rattle.std.proofs.lemmas.Iterator.Consumers.{map_from_collect, YieldsList-at, YieldsList-from_filter}
 use Rattle.std.proofs.lemmas.Iterator.Splits.{YieldsList-from_slice_split}
-use Rattle.sc_lines.specs.Words.{is_empty}
+use Rattle.sc_lines.specs.Definitions.{is_empty}
 use Rattle.sc_lines.proofs.pieces.words_of.Goals as goal
 
 pub returns : goal.returns

@@ -1,5 +1,5 @@
 use Rattle.std.proofs.Common.{◌∙◌}
-use Rattle.sc_base.specs.Same.{same_draw}
+use Rattle.sc_base.specs.Definitions.{same_draw}
 use Rattle.sc_lookup.proofs.KnownLemmas.{insert_entry-last}
 use Rattle.sc_lookup.proofs.routes.add.Goals as goal
 

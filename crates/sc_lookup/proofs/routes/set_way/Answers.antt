@@ -1,5 +1,5 @@
 use Rattle.std.proofs.Common.{ap, sym, ◌∙◌}
-use Rattle.sc_base.specs.Same.{same_draw}
+use Rattle.sc_base.specs.Definitions.{same_draw}
 use Rattle.sc_lookup.proofs.KnownLemmas.{set_value-none}
 use Rattle.sc_lookup.proofs.routes.set_way.Goals as goal
 

@@ -1,6 +1,6 @@
 use Rattle.std.proofs.Common.{is_some, ap, ◌∙◌}
-use Rattle.sc_base.specs.Same.{same_draw}
-use Rattle.sc_lookup.specs.Known.{way_to}
+use Rattle.sc_base.specs.Definitions.{same_draw}
+use Rattle.sc_lookup.specs.Definitions.{way_to}
 use Rattle.sc_lookup.proofs.KnownLemmas.{set_value-known}
 use Rattle.sc_lookup.proofs.routes.start_at.Goals as goal
 

@@ -1,5 +1,5 @@
 use Rattle.std.proofs.Common.{◌≡◌, map, take}
-use Rattle.sc_machine_table.specs.Finishes.{closed}
+use Rattle.sc_machine_table.specs.Definitions.{closed}
 use Rattle.sc_machine.proofs.parties.closed_votes.Given as goal
 
 -- the votes so far

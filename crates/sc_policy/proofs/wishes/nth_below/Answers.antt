@@ -4,7 +4,7 @@ use borrow.Author.Tests.{tests}
 use Rattle.std.proofs.lemmas.Iterator.{YieldsList-from_slice, YieldsList-from_map}
 use Rattle.std.proofs.lemmas.Iterator.Consumers.{YieldsList-at, YieldsList-from_filter, nth_from_yields_List}
 use Rattle.std.proofs.lemmas.Iterator.Adapters.{option_map_id}
-use Rattle.sc_base.specs.Text.{pos_of}
+use Rattle.sc_base.specs.Definitions.{pos_of}
 use Rattle.sc_policy.proofs.wishes.nth_below.Goals as goal
 
 pub returns : goal.returns

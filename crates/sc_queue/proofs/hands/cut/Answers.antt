@@ -1,6 +1,6 @@
 use Rattle.std.proofs.Common.{◌≡◌, ◌∙◌, sym, ap, subst, arith, rules, ◌-◌, ◌+◌, All}
 use Rattle.std.proofs.lemmas.List.Elements.{All-push}
-use Rattle.sc_queue.specs.Hands.{all_parts, hand, taker, less}
+use Rattle.sc_queue.specs.Definitions.{all_parts, hand, taker, less}
 use Rattle.sc_queue.proofs.Keeps.{forks}
 use Rattle.crossbeam_queue.specs.Passes.{view, IsPassOf}
 use Rattle.sc_queue.proofs.hands.cut.Goals as goal

@@ -1,6 +1,6 @@
 use Rattle.std.proofs.Common.{◌≡◌, ◌-◌, vec_len, All}
 use Rattle.crossbeam_queue.specs.Passes.{view, IsPassOf}
-use Rattle.sc_queue.specs.Hands.{all_parts, hand, taker}
+use Rattle.sc_queue.specs.Definitions.{all_parts, hand, taker}
 use Rattle.sc_queue.proofs.hands.cut.Given as goal
 
 -- so many were made

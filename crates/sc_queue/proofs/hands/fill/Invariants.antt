@@ -1,5 +1,5 @@
 use Rattle.std.proofs.Common.{◌≡◌}
-use Rattle.sc_queue.specs.Working.{filled}
+use Rattle.sc_queue.specs.Definitions.{filled}
 use Rattle.sc_queue.proofs.hands.fill.Given as goal
 
 -- those so far stand in their places

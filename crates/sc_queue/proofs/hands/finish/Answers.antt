@@ -1,7 +1,6 @@
 use Rattle.std.proofs.Common.{◌≡◌, ◌∙◌, refl, sym, subst, arith, length, ◌<◌, rules}
 use Rattle.crossbeam_queue.specs.Passes.{view}
-use Rattle.sc_queue.specs.Hands.{all_parts, works}
-use Rattle.sc_queue.specs.Working.{AllInside, AllThere, filled}
+use Rattle.sc_queue.specs.Definitions.{all_parts, works, AllInside, AllThere, filled}
 use Rattle.sc_queue.proofs.Keeps.{filled_length}
 use Rattle.sc_queue.proofs.Placing.{completes, worked_off, right_free, all_inside, comes_there, right_there, all_given, given_length}
 use Rattle.sc_queue.proofs.hands.finish.Goals as goal

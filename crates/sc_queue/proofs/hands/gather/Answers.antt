@@ -1,6 +1,6 @@
 use Rattle.std.proofs.Common.{◌≡◌, ◌+◌, ap, subst, arith, length, length-append, [], ◌∷◌, ◌++◌}
 use Rattle.crossbeam_queue.specs.Passes.{view}
-use Rattle.sc_queue.specs.Working.{Gathers}
+use Rattle.sc_queue.specs.Definitions.{Gathers}
 use Rattle.sc_queue.proofs.hands.gather.Goals as goal
 
 pub loop-done-preserved : goal.loop-done-preserved

@@ -1,7 +1,7 @@
 use Rattle.std.proofs.Common.{ℕ, ◌<◌, ◌+◌, List, length}
 use Rattle.crossbeam_queue.specs.Passes.{view, IsPassOf}
 use Rattle.sc_queue.specs.declared.rule.Item.{Item}
-use Rattle.sc_queue.specs.Working.{Gathers}
+use Rattle.sc_queue.specs.Definitions.{Gathers}
 use Rattle.sc_queue.proofs.hands.gather.Given as goal
 
 -- those so far were taken in

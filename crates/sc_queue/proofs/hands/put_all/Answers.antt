@@ -2,7 +2,7 @@ use Rattle.std.proofs.Common.{◌∙◌, sym, ap, arith, length, [], ◌∷◌, 
 use Rattle.std.proofs.lemmas.List.{map-id}
 use Rattle.std.proofs.lemmas.Iterator.Adapters.{YieldsList-from_vec}
 use Rattle.std.proofs.lemmas.Iterator.Consumers.{YieldsList-turn, YieldsList-end}
-use Rattle.sc_queue.specs.Hands.{all_parts, hand, numbered, with_put}
+use Rattle.sc_queue.specs.Definitions.{all_parts, hand, numbered, with_put}
 use Rattle.sc_queue.proofs.Keeps.{numbered_more, numbered_length}
 use Rattle.sc_queue.proofs.hands.put_all.Goals as goal
 

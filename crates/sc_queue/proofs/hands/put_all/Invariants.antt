@@ -1,6 +1,6 @@
 use Rattle.std.proofs.Common.{◌≡◌, true, [], length}
 use Rattle.crossbeam_queue.specs.Passes.{view, IsPassOf}
-use Rattle.sc_queue.specs.Hands.{all_parts, hand, numbered}
+use Rattle.sc_queue.specs.Definitions.{all_parts, hand, numbered}
 use Rattle.sc_queue.proofs.hands.put_all.Given as goal
 
 -- those so far were put

@@ -1,5 +1,5 @@
 use Rattle.std.proofs.Common.{◌≡◌, vec_len}
-use Rattle.sc_queue.specs.Working.{AllFree}
+use Rattle.sc_queue.specs.Definitions.{AllFree}
 use Rattle.sc_queue.proofs.hands.vacant.Given as goal
 
 abbrev pub invariant-loop : goal.invariant-loop

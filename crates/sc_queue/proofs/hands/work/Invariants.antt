@@ -1,5 +1,5 @@
 use Rattle.crossbeam_queue.specs.Passes.{view, IsPassOf}
-use Rattle.sc_queue.specs.Working.{Did}
+use Rattle.sc_queue.specs.Definitions.{Did}
 use Rattle.sc_queue.proofs.hands.work.Given as goal
 
 -- what was taken so far was worked

@@ -2,8 +2,7 @@ use Rattle.std.proofs.Common.{◌≡◌, ◌∙◌, ◌+◌, ◌-◌, sym, ap, L
 use Rattle.crossbeam_queue.specs.Passes.{view}
 use Rattle.sc_queue.specs.declared.rule.Item.{Item}
 use Rattle.sc_queue.specs.declared.rule.Hand.{Hand}
-use Rattle.sc_queue.specs.Hands.{all_parts, hand, numbered, works, IsWorkedOff}
-use Rattle.sc_queue.specs.Working.{Gathers, AllGiven}
+use Rattle.sc_queue.specs.Definitions.{all_parts, hand, numbered, works, IsWorkedOff, Gathers, AllGiven}
 use Rattle.sc_queue.proofs.Keeps.{begins, works_numbered}
 use Rattle.sc_queue.proofs.Placing.{gathers_none}
 use Rattle.sc_queue.proofs.hands.work_off.Goals as goal

@@ -1,5 +1,5 @@
 use Rattle.std.proofs.lemmas.Bool.Decides.{same_from_decides}
-use Rattle.sc_node_table.proofs.SamenessLemmas.{tells_commands}
+use Rattle.sc_node_table.proofs.Lemmas.{tells_commands}
 use Rattle.sc_replica_choices.proofs.commands.same_command.Goals as goal
 
 pub returns : goal.returns

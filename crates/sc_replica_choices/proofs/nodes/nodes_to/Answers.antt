@@ -1,5 +1,5 @@
 use Rattle.std.proofs.Common.{sym, ◌∙◌, ap, ◌++◌, ◌+◌, filter, arith}
-use Rattle.sc_node_table.specs.Election.{nodes_to, is_in_some}
+use Rattle.sc_node_table.specs.Definitions.{nodes_to, is_in_some}
 use Rattle.sc_replica_choices.proofs.Numbers.{numbers_to, nodes-taken, nodes-passed}
 use Rattle.sc_replica_choices.proofs.nodes.nodes_to.Goals.{then-has+in_ok-push, else-has}
 use Rattle.sc_replica_choices.proofs.nodes.nodes_to.Goals as goal

@@ -1,5 +1,5 @@
 use Rattle.std.proofs.Common.{◌≡◌, filter, not, take}
-use Rattle.sc_base.specs.Roster.{is_member}
+use Rattle.sc_base.specs.Definitions.{is_member}
 use Rattle.sc_replica_choices.proofs.nodes.not_among.Given as goal
 
 -- those so far

@@ -1,5 +1,5 @@
 use Rattle.std.proofs.Common.{◌≡◌, filter, not, take}
-use Rattle.sc_paxos_words.specs.Votes.{has_counted}
+use Rattle.sc_paxos_words.specs.Definitions.{has_counted}
 use Rattle.sc_replica_choices.proofs.nodes.uncounted.Given as goal
 
 -- those so far

@@ -1,5 +1,5 @@
 use Rattle.std.proofs.Common.{◌≡◌, drop}
-use Rattle.sc_node_table.specs.Mails.{dismissed_all}
+use Rattle.sc_node_table.specs.Definitions.{dismissed_all}
 use Rattle.sc_replica_parts.proofs.mails.dismiss_all.Given as goal
 
 -- what is left makes the whole

@@ -1,5 +1,5 @@
 use Rattle.std.proofs.Common.{◌≡◌, drop}
-use Rattle.sc_node_table.specs.Queues.{call_of}
+use Rattle.sc_node_table.specs.Definitions.{call_of}
 use Rattle.sc_replica_parts.proofs.queues.call_of.Given as goal
 
 -- it is not among those so far

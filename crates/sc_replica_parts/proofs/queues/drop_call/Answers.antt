@@ -1,5 +1,5 @@
 use Rattle.std.proofs.Common.{sym, ap, length, ◌∙◌, arith}
-use Rattle.sc_node_table.specs.Queues.{without_call}
+use Rattle.sc_node_table.specs.Definitions.{without_call}
 use Rattle.sc_replica_parts.proofs.Places.{remove_here}
 use Rattle.sc_replica_parts.proofs.queues.drop_call.Goals as goal
 

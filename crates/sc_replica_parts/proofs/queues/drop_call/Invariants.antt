@@ -1,5 +1,5 @@
 use Rattle.std.proofs.Common.{◌≡◌, ◌++◌, take, drop}
-use Rattle.sc_node_table.specs.Queues.{without_call}
+use Rattle.sc_node_table.specs.Definitions.{without_call}
 use Rattle.sc_replica_parts.proofs.queues.drop_call.Given as goal
 
 -- it is not among those so far

@@ -1,6 +1,6 @@
 use Rattle.std.proofs.Common.{◌≡◌, drop}
-use Rattle.sc_mail.specs.declared.bodies.MailBody.TheVariants.{Learn}
-use Rattle.sc_node_table.specs.Mails.{sent_others}
+use Rattle.sc_node_table.specs.Values.{Learn}
+use Rattle.sc_node_table.specs.Definitions.{sent_others}
 use Rattle.sc_replica_parts.proofs.rounds.send_learns.Given as goal
 
 -- what is left makes the whole

@@ -1,5 +1,5 @@
 use Rattle.std.proofs.Common.{◌≡◌}
-use Rattle.sc_scenario.specs.Groups.{bases_up_to}
+use Rattle.sc_scenario.specs.Definitions.{bases_up_to}
 use Rattle.sc_scenario.proofs.groups.bases_of.Given as goal
 
 -- the records of the groups so far

@@ -1,5 +1,5 @@
 use Rattle.std.proofs.Common.{◌≡◌, drop}
-use Rattle.sc_scenario.specs.Groups.{has_repeat}
+use Rattle.sc_scenario.specs.Definitions.{has_repeat}
 use Rattle.sc_scenario.proofs.groups.has_repeat.Given as goal
 
 -- a node that stands twice is among those that are left

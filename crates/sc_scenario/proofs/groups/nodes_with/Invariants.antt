@@ -1,5 +1,5 @@
 use Rattle.std.proofs.Common.{◌≡◌, map, drop}
-use Rattle.sc_scenario.specs.Groups.{nodes_with}
+use Rattle.sc_scenario.specs.Definitions.{nodes_with}
 use Rattle.sc_scenario.proofs.groups.nodes_with.Given as goal
 
 -- the nodes with the words that are left, after those so far, are those with all

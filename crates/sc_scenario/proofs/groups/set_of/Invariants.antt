@@ -1,5 +1,5 @@
 use Rattle.std.proofs.Common.{◌≡◌, drop}
-use Rattle.sc_scenario.specs.Groups.{joined_by_all, set_of}
+use Rattle.sc_scenario.specs.Definitions.{joined_by_all, set_of}
 use Rattle.sc_scenario.proofs.groups.set_of.Given as goal
 
 -- the set so far with those that are left is the whole set

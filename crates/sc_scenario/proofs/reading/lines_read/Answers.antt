@@ -1,5 +1,5 @@
 use Rattle.std.proofs.Common.{◌<◌, length, sym, ◌∙◌, arith, rules}
-use Rattle.sc_lines.specs.Lines.{most_lines}
+use Rattle.sc_lines.specs.Definitions.{most_lines}
 use Rattle.sc_lines.specs.declared.reasons.Reason.TheVariants.{TooLarge}
 use Rattle.sc_scenario.proofs.Verdicts.{many, refused}
 use Rattle.sc_scenario.proofs.reading.lines_read.Goals as goal

@@ -1,6 +1,6 @@
 use Rattle.std.proofs.Common.{◌≡◌, length}
-use Rattle.sc_lines.specs.Lines.{lines_in}
-use Rattle.sc_scenario.specs.Grammar.{lines_read}
+use Rattle.sc_lines.specs.Definitions.{lines_in}
+use Rattle.sc_scenario.specs.Definitions.{lines_read}
 use Rattle.sc_scenario.specs.declared.drafts.Reading.TheVariants.{Fresh}
 use Rattle.sc_scenario.proofs.reading.lines_read.Given as goal
 

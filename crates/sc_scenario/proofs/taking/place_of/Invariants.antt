@@ -1,5 +1,5 @@
 use Rattle.std.proofs.Common.{◌≡◌, ◌+◌, drop}
-use Rattle.sc_scenario.specs.Taking.{client_place}
+use Rattle.sc_scenario.specs.Definitions.{client_place}
 use Rattle.sc_scenario.proofs.taking.place_of.Given as goal
 
 -- none of the clients so far has a greater number

@@ -1,5 +1,5 @@
-use Rattle.sc_whole_law.proofs.StartValid.{valid_begin_well}
+use Rattle.sc_whole_law.proofs.StartLaws.{valid_scenarios_begin_well}
 use Rattle.sc_whole_law.proofs.starting.valid_scenarios_begin_well.Goals as goal
 
 pub returns : goal.returns
-returns c = valid_begin_well c.valid_scenarios_are_bounded.ensures
+returns c = valid_scenarios_begin_well

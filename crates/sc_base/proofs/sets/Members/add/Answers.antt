@@ -1,5 +1,5 @@
 use Rattle.std.proofs.Common.{◌≡◌, ◌<◌, ◌∙◌, length, false, arith, subst, sym, ap}
-use Rattle.sc_base.specs.Roster.{IsRoster, is_member, with_member}
+use Rattle.sc_base.specs.Definitions.{IsRoster, is_member, with_member}
 use Rattle.sc_base.proofs.Rising.{roster_with}
 use Rattle.sc_base.proofs.sets.Members.add.Goals as goal
 

@@ -1,5 +1,5 @@
 use Rattle.std.proofs.Common.{◌≡◌, not, filter, length, subst, arith}
-use Rattle.sc_base.specs.Roster.{is_member}
+use Rattle.sc_base.specs.Definitions.{is_member}
 use Rattle.sc_base.proofs.UnionLemmas.{count_united}
 use Rattle.sc_base.proofs.sets.Members.count_with.Goals as goal
 

@@ -1,5 +1,5 @@
 use Rattle.std.proofs.Common.{◌≡◌, ◌≤◌, ◌∙◌, length, arith, subst, sym, ap}
-use Rattle.sc_base.specs.Roster.{IsRoster, without_member}
+use Rattle.sc_base.specs.Definitions.{IsRoster, without_member}
 use Rattle.sc_base.proofs.Rising.{roster_without}
 use Rattle.sc_base.proofs.sets.Members.remove.Goals as goal
 

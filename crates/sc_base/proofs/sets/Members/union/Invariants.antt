@@ -1,5 +1,5 @@
 use Rattle.std.proofs.Common.{◌≡◌, drop}
-use Rattle.sc_base.specs.Union.{united}
+use Rattle.sc_base.specs.Definitions.{united}
 use Rattle.sc_base.proofs.sets.Members.union.Given as goal
 
 abbrev pub invariant-loop-node : goal.invariant-loop-node

@@ -1,9 +1,9 @@
 use Rattle.std.proofs.Common.{refl, sym, ap, ◌∙◌}
 use Rattle.sc_actor.specs.declared.rows.Row.{Row}
-use Rattle.sc_actor.specs.Counted.{row_bytes}
+use Rattle.sc_actor.specs.Definitions.{row_bytes}
 use Rattle.sc_exchange.proofs.Knowing.{stays_after, looked_after, true_after, change_answers, change_true, cause_back}
 use Rattle.std.proofs.Math.Logic.{∥∥₁_map}
-use Rattle.sc_turn.specs.Seats.{known}
+use Rattle.sc_turn.specs.Definitions.{known}
 use Rattle.sc_exchange.proofs.Fetching.{asked_net, done_later, turned_later, own_again}
 use Rattle.sc_exchange.proofs.Results.{ok_maps, err_maps, either}
 use Rattle.sc_exchange.proofs.Halting.{halted_turned, halted_changed}

@@ -1,8 +1,6 @@
 use Rattle.std.proofs.Common.{◌≡◌, ◌∙◌, sym, subst, map, Contains}
-use Rattle.sc_turn.specs.Seats.{known}
-use Rattle.sc_turn.specs.Turn.{StartsWith}
-use Rattle.sc_exchange.specs.BareRows.{bare_rows, row_by, rows_of}
-use Rattle.sc_exchange.specs.Ports.{seen}
+use Rattle.sc_turn.specs.Definitions.{known, StartsWith}
+use Rattle.sc_exchange.specs.Definitions.{bare_rows, row_by, rows_of, seen}
 use Rattle.sc_exchange.proofs.Done.{begins_rows, rows_of_bare}
 use Rattle.sc_exchange.proofs.Knowing.{end_own, end_each, end_others, numbers_same}
 use Rattle.sc_exchange.proofs.ports.Port.close.Goals as goal

@@ -1,6 +1,6 @@
 use Rattle.std.proofs.Common.{rules, ap, ◌∙◌, map}
-use Rattle.sc_turn.specs.Seats.{known}
-use Rattle.sc_exchange.specs.BareRows.{row_by, rows_from}
+use Rattle.sc_turn.specs.Definitions.{known}
+use Rattle.sc_exchange.specs.Definitions.{row_by, rows_from}
 use Rattle.sc_exchange.proofs.Done.{begins_rows, rows_of_from, longer_rows}
 use Rattle.sc_exchange.proofs.Knowing.{joins}
 use Rattle.sc_exchange.proofs.Views.{own_joined}

@@ -2,7 +2,7 @@ use Rattle.std.proofs.Common.{refl}
 use Rattle.sc_exchange.proofs.Done.{begins_rows}
 use Rattle.sc_exchange.proofs.Knowing.{looked_met, true_met}
 use Rattle.std.proofs.Math.Logic.{∥∥₁_map}
-use Rattle.sc_turn.specs.Seats.{known}
+use Rattle.sc_turn.specs.Definitions.{known}
 use Rattle.sc_exchange.proofs.Fetching.{asked_same, own_met}
 use Rattle.std.proofs.Common.{ap}
 use Rattle.sc_exchange.proofs.Halting.{halted_same}

@@ -1,10 +1,10 @@
 use Rattle.std.proofs.Common.{refl, sym, ap, ◌∙◌}
 use Rattle.std.specs.List.{list_any}
-use Rattle.sc_actor.specs.Mail.{is_crash}
+use Rattle.sc_actor.specs.Definitions.{is_crash}
 use Rattle.sc_actor.specs.declared.rows.Row.{Row}
 use Rattle.sc_exchange.proofs.Knowing.{stays_after, looked_after, true_after, appended_after, true_row, cause_back}
 use Rattle.std.proofs.Math.Logic.{∥∥₁_map}
-use Rattle.sc_turn.specs.Seats.{known}
+use Rattle.sc_turn.specs.Definitions.{known}
 use Rattle.sc_exchange.proofs.Fetching.{asked_turned, asked_event, own_after}
 use Rattle.sc_exchange.proofs.Fetching.{asked_addressed}
 use Rattle.sc_exchange.proofs.ports.Port.post.Goals as goal

@@ -1,4 +1,4 @@
-use Rattle.sc_turn.specs.Seats.{known}
+use Rattle.sc_turn.specs.Definitions.{known}
 use Rattle.sc_exchange.proofs.Views.{own_new}
 use Rattle.sc_exchange.proofs.ports.Port.split.Goals as goal
 

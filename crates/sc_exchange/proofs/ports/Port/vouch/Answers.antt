@@ -1,6 +1,6 @@
 use Rattle.std.proofs.Common.{refl, ap}
-use Rattle.sc_turn.specs.Seats.{known}
-use Rattle.sc_exchange.specs.BareRows.{rows_from}
+use Rattle.sc_turn.specs.Definitions.{known}
+use Rattle.sc_exchange.specs.Definitions.{rows_from}
 use Rattle.sc_exchange.proofs.Knowing.{looked_seen, vouched}
 use Rattle.sc_exchange.proofs.ports.Port.vouch.Goals as goal
 

@@ -1,7 +1,7 @@
 use Rattle.std.proofs.Common.{refl}
 use Rattle.sc_exchange.proofs.Knowing.{looked_after, true_after}
 use Rattle.std.proofs.Math.Logic.{∥∥₁_map}
-use Rattle.sc_turn.specs.Seats.{known}
+use Rattle.sc_turn.specs.Definitions.{known}
 use Rattle.sc_exchange.proofs.Fetching.{asked_turned, own_after}
 use Rattle.sc_exchange.proofs.Halting.{halted_turned}
 use Rattle.sc_exchange.proofs.ports.Port.waiting.Goals as goal

@@ -1,5 +1,5 @@
 use Rattle.std.proofs.Common.{◌<◌, length, subst, sym}
-use Rattle.sc_actor.specs.Mail.{mails}
+use Rattle.sc_actor.specs.Definitions.{mails}
 use Rattle.sc_ledger.proofs.Kept.{mails_few}
 use Rattle.sc_ledger.proofs.ledger.Ledger.kth_by_scan.Goals as goal
 

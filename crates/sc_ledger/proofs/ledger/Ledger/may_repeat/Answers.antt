@@ -1,6 +1,6 @@
 use Rattle.std.proofs.Common.{arith, sym, ◌∙◌, ◌-◌}
-use Rattle.sc_ledger.specs.Kept.{runs}
-use Rattle.sc_actor.proofs.Numbers.{get_at}
+use Rattle.sc_ledger.specs.Definitions.{runs}
+use Rattle.sc_actor.proofs.Lemmas.{get_at}
 use Rattle.sc_ledger.proofs.Open.{repeat_here}
 use Rattle.sc_ledger.proofs.ledger.Ledger.may_repeat.Goals as goal
 

@@ -1,7 +1,6 @@
-use Rattle.std.proofs.Common.{◌<◌, length, subst, sym, ◌∙◌}
-use Rattle.sc_actor.specs.Mail.{numbers}
-use Rattle.sc_ledger.specs.Kept.{counts_for}
-use Rattle.sc_ledger.specs.Queues.{copies_in}
+use Rattle.std.proofs.Common.{◌<◌, ◌∙◌}
+use Rattle.sc_actor.specs.Definitions.{numbers}
+use Rattle.sc_ledger.specs.Definitions.{counts_for, copies_in}
 use Rattle.sc_ledger.proofs.Holding.{held, queue_all}
 use Rattle.sc_ledger.proofs.OneCopy.{picked_at}
 use Rattle.sc_ledger.proofs.ledger.Ledger.pick.Goals as goal

@@ -1,5 +1,5 @@
 use Rattle.std.proofs.Common.{arith, sym, ap, ◌∙◌, ◌-◌, Some}
-use Rattle.sc_actor.proofs.Numbers.{get_at}
+use Rattle.sc_actor.proofs.Lemmas.{get_at}
 use Rattle.sc_ledger.proofs.Open.{receiver_here}
 use Rattle.sc_ledger.proofs.ledger.Ledger.receiver.Goals as goal
 

@@ -1,7 +1,6 @@
 use Rattle.std.proofs.Common.{rules, ◌≡◌, ◌-◌, ◌<◌, true, false, refl, sym, subst, cond, length, get_or, arith, OnOk}
-use Rattle.sc_actor.specs.Mail.{one_less, one_more}
-use Rattle.sc_ledger.specs.Kept.{runs}
-use Rattle.sc_ledger.specs.Queues.{Holds}
+use Rattle.sc_actor.specs.Definitions.{one_less, one_more}
+use Rattle.sc_ledger.specs.Definitions.{runs, Holds}
 use Rattle.sc_ledger.proofs.Holding.{change_not, more_done, less_done}
 use Rattle.sc_ledger.proofs.queues.Queues.change.Goals as goal
 

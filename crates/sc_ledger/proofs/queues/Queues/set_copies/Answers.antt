@@ -1,5 +1,5 @@
 use Rattle.std.proofs.Common.{◌-◌, [], arith}
-use Rattle.sc_ledger.specs.Queues.{recounted}
+use Rattle.sc_ledger.specs.Definitions.{recounted}
 use Rattle.sc_ledger.proofs.Entries.{changed_one}
 use Rattle.sc_ledger.proofs.queues.Queues.set_copies.Goals as goal
 

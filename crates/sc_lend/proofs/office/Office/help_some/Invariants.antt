@@ -1,4 +1,4 @@
-use Rattle.sc_lend.specs.Offices.{IsHelperOf}
+use Rattle.sc_lend.specs.Definitions.{IsHelperOf}
 use Rattle.sc_lend.proofs.office.Office.help_some.Given as goal
 
 abbrev pub invariant-loop : goal.invariant-loop

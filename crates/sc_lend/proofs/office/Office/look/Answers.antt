@@ -1,6 +1,6 @@
 use Rattle.std.proofs.Common.{subst, arith}
 use Rattle.crossbeam_queue.specs.Passes.{view}
-use Rattle.sc_lend.specs.Lending.{IsLeft}
+use Rattle.sc_lend.specs.Definitions.{IsLeft}
 use Rattle.sc_lend.proofs.Keeps.{takes, finished_held, back}
 use Rattle.sc_lend.proofs.office.Office.look.Goals as goal
 

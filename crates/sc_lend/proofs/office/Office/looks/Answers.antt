@@ -1,5 +1,5 @@
 use Rattle.std.proofs.Common.{subst}
-use Rattle.sc_lend.specs.Lending.{IsLeft}
+use Rattle.sc_lend.specs.Definitions.{IsLeft}
 use Rattle.sc_lend.proofs.office.Office.looks.Goals as goal
 
 pub returns-in-Some-clause-left : goal.returns-in-Some-clause-left

@@ -1,5 +1,5 @@
 use Rattle.std.proofs.Common.{◌≡◌}
-use Rattle.sc_lend.specs.Offices.{IsLenderOf, collected_by, lent_by}
+use Rattle.sc_lend.specs.Definitions.{IsLenderOf, collected_by, lent_by}
 use Rattle.sc_lend.proofs.office.Office.looks.Given as goal
 
 -- it is not back yet

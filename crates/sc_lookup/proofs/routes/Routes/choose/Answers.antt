@@ -1,7 +1,7 @@
 use Rattle.std.proofs.Common.{◌≡◌, None, fold, sym, ap, ◌∙◌, map, rules}
 use Rattle.std.specs.Map.Iter.{deref_pair}
 use Rattle.std.proofs.lemmas.Map.Iter.{iter_end}
-use Rattle.sc_lookup.specs.Known.{better}
+use Rattle.sc_lookup.specs.Definitions.{better}
 use Rattle.sc_lookup.proofs.ChoiceLemmas.{some_chosen}
 use Rattle.sc_lookup.proofs.routes.Routes.choose.Goals as goal
 

@@ -1,6 +1,6 @@
 use Rattle.std.proofs.Common.{◌≡◌, map, fold, None}
 use Rattle.std.specs.Map.Iter.{deref_pair}
-use Rattle.sc_lookup.specs.Known.{better}
+use Rattle.sc_lookup.specs.Definitions.{better}
 use Rattle.sc_lookup.proofs.routes.Routes.choose.Given as goal
 
 -- the best of the groups so far

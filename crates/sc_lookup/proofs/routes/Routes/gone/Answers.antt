@@ -1,8 +1,8 @@
 use Rattle.std.proofs.Common.{◌≡◌, ◌<◌, OnOk, length, ap, ◌∙◌, subst, arith}
 use Rattle.std.specs.Map.{remove_entry}
 use Rattle.indexmap.specs.IndexMap.{spare}
-use Rattle.sc_base.specs.Same.{same_draw}
-use Rattle.sc_lookup.specs.Known.{KnownGroups, group_learnt}
+use Rattle.sc_base.specs.Definitions.{same_draw}
+use Rattle.sc_lookup.specs.Definitions.{KnownGroups, group_learnt}
 use Rattle.sc_lookup.proofs.KnownLemmas.{of_done, some_learnt}
 use Rattle.sc_lookup.proofs.routes.Routes.gone.Goals as goal
 

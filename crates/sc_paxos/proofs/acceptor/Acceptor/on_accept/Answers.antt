@@ -1,10 +1,9 @@
 use Rattle.std.proofs.Common.{rules, ◌≡◌, ◌<◌, false, List, sym, subst}
 use Rattle.std.proofs.lemmas.Bool.{not_from_false}
 use Rattle.sc_paxos_words.specs.declared.reports.Report.{Report}
-use Rattle.sc_paxos_words.specs.Ballots.{below}
-use Rattle.sc_paxos_words.specs.Acceptors.{IsWholeAcceptor}
-use Rattle.sc_paxos_words.proofs.AcceptorLemmas.{whole_by_accept}
-use Rattle.sc_paxos.specs.Roomy.{Roomy}
+use Rattle.sc_paxos_words.specs.Definitions.{below, IsWholeAcceptor}
+use Rattle.sc_paxos_words.proofs.Lemmas.{whole_by_accept}
+use Rattle.sc_paxos.specs.Definitions.{Roomy}
 use Rattle.sc_paxos.proofs.acceptor.Acceptor.on_accept.Goals as goal
 
 pub invariant_of-self : goal.invariant_of-self

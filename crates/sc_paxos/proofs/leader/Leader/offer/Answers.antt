@@ -1,6 +1,6 @@
 use Rattle.std.proofs.Common.{◌∙◌, None, sym, subst, ap}
-use Rattle.sc_paxos_words.specs.Leaders.{LeaderState, flight_at}
-use Rattle.sc_paxos.specs.OneEach.{IsOneEach}
+use Rattle.sc_paxos_words.specs.Definitions.{LeaderState, flight_at}
+use Rattle.sc_paxos.specs.Definitions.{IsOneEach}
 use Rattle.sc_paxos.proofs.Flying.{one_with}
 use Rattle.sc_paxos.proofs.leader.Leader.offer.Goals as goal
 

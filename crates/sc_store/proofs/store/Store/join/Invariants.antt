@@ -1,5 +1,5 @@
 use Rattle.std.proofs.Common.{◌≡◌, take}
-use Rattle.sc_ideal.specs.IdealStore.{with_pairs}
+use Rattle.sc_ideal.specs.Definitions.{with_pairs}
 use Rattle.sc_store.proofs.store.Store.join.Given as goal
 
 -- the pairs so far are there

@@ -2,7 +2,7 @@ use Rattle.std.proofs.Common.{◌≡◌, ap, ◌∙◌, rules}
 use Rattle.std.specs.List.{filter}
 use Rattle.std.specs.FinMap as map
 use Rattle.std.proofs.lemmas.Map.Made.{filter_same_pairs}
-use Rattle.sc_ideal.specs.IdealStore.{holds_key}
+use Rattle.sc_ideal.specs.Definitions.{holds_key}
 use Rattle.sc_store.proofs.Bytes.{retain-bytes}
 use Rattle.sc_store.proofs.store.Store.keep.Goals as goal
 

@@ -4,7 +4,7 @@ use Rattle.std.specs.Ordering.{nat_cmp}
 use Rattle.std.specs.Cmp.Lexicographic.{slice_cmp}
 use Rattle.std.specs.Map.Iter.{deref_pair}
 use Rattle.std.proofs.lemmas.Map.Iter.{iter_end, rest_more, rest_so_far}
-use Rattle.sc_base.specs.Ascending.{EndsBelow}
+use Rattle.sc_base.specs.Definitions.{EndsBelow}
 use Rattle.sc_store.proofs.Bytes.{entries-bytes, next_of_all}
 use Rattle.sc_store.proofs.store.Store.list.Goals as goal
 

@@ -5,8 +5,8 @@ use Rattle.std.specs.Ordering.{nat_cmp}
 use Rattle.std.specs.Cmp.Lexicographic.{slice_cmp}
 use Rattle.std.specs.Map.Iter.{deref_pair}
 use Rattle.std.proofs.lemmas.Map.Iter.{iter_end, rest_more, rest_so_far}
-use Rattle.sc_base.specs.Ascending.{EndsBelow}
-use Rattle.sc_ideal.specs.IdealStore.{holds_key}
+use Rattle.sc_base.specs.Definitions.{EndsBelow}
+use Rattle.sc_ideal.specs.Definitions.{holds_key}
 use Rattle.sc_store.proofs.Bytes.{part-bytes, next_below}
 use Rattle.sc_store.proofs.store.Store.part.Goals as goal
 

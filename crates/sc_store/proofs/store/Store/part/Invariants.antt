@@ -1,7 +1,7 @@
 use Rattle.std.proofs.Common.{◌≡◌, map}
 use Rattle.std.specs.List.{filter}
 use Rattle.std.specs.Map.Iter.{deref_pair}
-use Rattle.sc_ideal.specs.IdealStore.{holds_key}
+use Rattle.sc_ideal.specs.Definitions.{holds_key}
 use Rattle.sc_store.proofs.store.Store.part.Given as goal
 
 -- the pairs so far that the arc holds

@@ -1,5 +1,5 @@
 use Rattle.std.proofs.Common.{◌≡◌, take}
-use Rattle.sc_ideal.specs.Clients.{joined_with}
+use Rattle.sc_ideal.specs.Definitions.{joined_with}
 use Rattle.sc_store.proofs.table.ClientTable.join.Given as goal
 
 -- the entries so far are joined

@@ -2,7 +2,7 @@ use Rattle.std.proofs.Common.{◌≡◌, ap, sym, ◌∙◌, ◌∷◌, ◌++◌
 use Rattle.std.specs.FinMap as map
 use Rattle.std.specs.Map.Iter.{deref_pair}
 use Rattle.std.proofs.lemmas.Map.Iter.{iter_end, rest_more, rest_so_far}
-use Rattle.sc_base.specs.Ascending.{EndsBelow}
+use Rattle.sc_base.specs.Definitions.{EndsBelow}
 use Rattle.sc_store.proofs.Numbers.{entries-numbers, next_below}
 use Rattle.sc_store.proofs.table.ClientTable.list.Goals as goal
 

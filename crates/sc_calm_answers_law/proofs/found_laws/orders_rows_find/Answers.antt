@@ -1,5 +1,0 @@
-use Rattle.sc_calm_answers_law.proofs.FoundRows.{orders_rows_find}
-use Rattle.sc_calm_answers_law.proofs.found_laws.orders_rows_find.Goals as goal
-
-pub returns : goal.returns
-returns c = orders_rows_find

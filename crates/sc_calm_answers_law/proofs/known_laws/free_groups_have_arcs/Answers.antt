@@ -1,5 +1,0 @@
-use Rattle.sc_calm_answers_law.proofs.Arcs.{free_groups_have_arcs}
-use Rattle.sc_calm_answers_law.proofs.known_laws.free_groups_have_arcs.Goals as goal
-
-pub returns : goal.returns
-returns c = free_groups_have_arcs c.valid_scenarios_are_bounded.ensures c.valid_scenarios_begin_well.ensures c.orders_are_allowed.ensures.allowed c.orders_are_allowed.ensures.wishes c.orders_are_allowed.ensures.positions c.names_have_one_owner.ensures.others

@@ -1,5 +1,0 @@
-use Rattle.sc_calm_answers_law.proofs.Records.{records_true}
-use Rattle.sc_calm_answers_law.proofs.true_laws.records_are_true.Goals as goal
-
-pub returns : goal.returns
-returns c = records_true c.replicas_tell.ensures c.valid_journals_are_sound.ensures c.valid_entries_are_logs.ensures

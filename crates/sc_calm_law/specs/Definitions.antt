@@ -1,0 +1,16 @@
+-- The definitions of this crate that others cite, under one name.
+pub use Rattle.sc_calm_law.specs.Births.{BornReplicasOwe, MadeReplicasOwe}
+pub use Rattle.sc_calm_law.specs.Charts.{players, Chart, run_owes, MayFollow, SeeksNoMore, player_owes, ChartsMayChange}
+pub use Rattle.sc_calm_law.specs.Clients.{AsksWithin, IsInTurn, unknown, unknown_one, waiting_one, requests_owe, step_owes, ClientsLower, IsToldOne, NotMineTeaches, IsSentOn, GoneSendsOn}
+pub use Rattle.sc_calm_law.specs.Executing.{AreBounded, IsServedCall, ServesAll, CallVotesLower, IsPaid, LeavesFew, EndsAfter, ExecutionsRaiseNothing, LoneVotesLower, IsServed, ArePaid, IsWatchPaid, MayGoOn, AllPaid, FliesAlone}
+pub use Rattle.sc_calm_law.specs.Keeping.{FindsCalm, KeptCalmIsMeasured, IsCalmFor, MayAskThere, MayGoNow, MayCount, MayBeTold, MayTake, StaysIn, IsCalmMailAt, Takes, Learns, Makes, Misses, KeepsCalm, Strays, KeepCalm, TakenMailLowers, IsBarred}
+pub use Rattle.sc_calm_law.specs.Laws.{AreNines, MayPump, Lowers, AnswersLower, Follows, LearnsLower, Points, AsksLower, newcomers, IsUnbound, IsCounting, LeadsOn, StopsAfter, readied_at, AsksAs, PumpsRaiseNothing, LearntEntriesRaiseNothing, CountedEntriesRaiseNothing, ChangesRaiseNothing, OrdersRaiseLittle, LeadersMayLeave, said_place, IsChange, ExecutesFreely, DecidesFreely, CountsLower, MovesLower, OldLearnsLower, VotesLower}
+pub use Rattle.sc_calm_law.specs.Led.{StaysBehind, LowersLed, led_owes, EndsLeaveNone, LearnsLed, LedLearnsLower, IsLedMail, LedPartiesLower}
+pub use Rattle.sc_calm_law.specs.Nodes.{IsDelivered, group_owes, after_mail, MayMiss, node_owes, turn_owes, IsTaken, NodesOweAsReplicas, NodesLower, NodesRaiseLittle}
+pub use Rattle.sc_calm_law.specs.Owed.{Ways, answer_owes, place_owes, idle_owes, asked_owes, elsewhere_owes, body_owes, mail_owes, command_owes, prepare_owes, watch_owes, flights_owe, offered_owes, election, replica_owes, ready_owes}
+pub use Rattle.sc_calm_law.specs.Parties.{StandsOnce, IsCalmOrder, Elsewhere, groups_owe, idle_with, party_owes, party_turn_owes, IsCalmMail, PartiesLower, PartiesRaiseLittle}
+pub use Rattle.sc_calm_law.specs.Quiet.{View, StandsQuiet, IsAnswered, IsAtRest, IsUpToDate, IsQuiet, IsNewest, IsBelow, MayVote, HasReplica, IsLinked, RisesAt, IsGoneQuiet, LeadsAtRest, ReplicasBeginAtRest, FirstMembersLead}
+pub use Rattle.sc_calm_law.specs.Reach.{LearnsOf, LeavesFor, MayHear, HearsCalmly, sent_on, client_owes, search_owes, Reach, client_turn_owes, IsUnbegun, ClientsPay}
+pub use Rattle.sc_calm_law.specs.Resting.{IsResting, RestsCalm, RestingOwesLittle, births_owe, birth_owes, KeptCalmEndsQuiet, RestCalm}
+pub use Rattle.sc_calm_law.specs.Strangers.{PartyLowers, IsMadeBehind, StrangersLower}
+pub use Rattle.sc_calm_law.specs.Totals.{Rows, leads, is_leading, is_led, led_elsewhere, group_idles, players_owe, node_part, TotalsChangeAsParties}

@@ -1,5 +1,0 @@
-use Rattle.sc_calm_logs_law.proofs.Laws.{commands_come_next}
-use Rattle.sc_calm_logs_law.proofs.commands_come_next.Goals as goal
-
-pub returns : goal.returns
-returns c = commands_come_next c.valid_scenarios_are_bounded.ensures c.valid_scenarios_begin_well.ensures c.orders_are_allowed.ensures.allowed c.orders_are_allowed.ensures.wishes c.orders_are_allowed.ensures.positions c.names_have_one_owner.ensures.others

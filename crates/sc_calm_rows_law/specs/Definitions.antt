@@ -1,0 +1,13 @@
+-- The definitions of this crate that others cite, under one name.
+pub use Rattle.sc_calm_rows_law.specs.Asides.{IsUnmoved, AsidesStayStill}
+pub use Rattle.sc_calm_rows_law.specs.Begun.{ScenariosBeginFollowing, ChildrenBeginFollowing}
+pub use Rattle.sc_calm_rows_law.specs.Elections.{IsNextLead, IsPast, ElectionsKeepFollowing, ToldEntriesAreTaken}
+pub use Rattle.sc_calm_rows_law.specs.Evens.{IsEvenAt, QuietGroupsRest}
+pub use Rattle.sc_calm_rows_law.specs.Groups.{view_at, mark_in, taken_mark, promise_in, progress_at, replica_in, replicas_of, marks_at, next_in, IsLedBy, begun_course, IsCourseOf, IsFollowedAt, FollowsOn}
+pub use Rattle.sc_calm_rows_law.specs.Kept.{LeavesLead, RowsKeepFollowing, OthersKeepFollowing, LeadsStay}
+pub use Rattle.sc_calm_rows_law.specs.Mailed.{TakesMail, HoldsReplica, IsScene, FollowsAfter, NodesKeepFollowing, LeadsKeepFollowing}
+pub use Rattle.sc_calm_rows_law.specs.Senders.{IsOwnMail, IsOwnAsking, PlaysAlone, AreOwn, RunsAlone, BallotsAreOwn, BirthsPlayAlone}
+pub use Rattle.sc_calm_rows_law.specs.Steps.{led_course, LedBy, elected_course, WaitsStill, StepsLead, StepsTake, StatesTake, UncountedPass, IsToLead, StepsElect, StillIdle}
+pub use Rattle.sc_calm_rows_law.specs.Through.{EventsKeep, GroupsFollowThrough}
+pub use Rattle.sc_calm_rows_law.specs.Turns.{with_event, IsSeat, IsReplicasRow, made_children, AreAsBegun, IsBornOr, LeavesAlone, LeavesOrBears, IsIdleIn, IsKind, IsWholeState, NamesStay, OthersHearNothing, RowsAreOfGroups, OthersRowsAreIdle, RowsAreReplicas}
+pub use Rattle.sc_calm_rows_law.specs.WellKept.{IsWellKept, IsWellKeptNode, NodesStayWellKept, NodesAreBornWellKept}

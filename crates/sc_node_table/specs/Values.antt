@@ -1,0 +1,65 @@
+-- The types of the crates below, under one name: keys and names, rows, commands, mail, what acceptors and leaders answer.
+pub use Rattle.sc_base.specs.declared.names.Ballot.{Ballot}
+pub use Rattle.sc_base.specs.declared.names.Draw.{Draw}
+pub use Rattle.sc_base.specs.declared.ops.Noted.{Noted}
+pub use Rattle.sc_base.specs.declared.ops.Op.{Op}
+pub use Rattle.sc_base.specs.declared.ops.Op.TheVariants.{Get, Put, Del, Add, Cas}
+pub use Rattle.sc_base.specs.declared.ops.Reply.{Reply}
+pub use Rattle.sc_actor.specs.declared.actors.Actor.{Ghosts}
+pub use Rattle.sc_actor.specs.declared.actors.Seat.{Seat}
+pub use Rattle.sc_actor.specs.declared.rows.Event.{Event}
+pub use Rattle.sc_actor.specs.declared.rows.Event.TheVariants.{Go, Tick, Deliver, Drop, Again, Crash}
+pub use Rattle.sc_actor.specs.declared.rows.Input.{Input}
+pub use Rattle.sc_actor.specs.declared.rows.Input.TheVariants.{Got}
+pub use Rattle.sc_actor.specs.declared.rows.Row.{Row}
+pub use Rattle.sc_actor.specs.declared.schedules.Line.{Line}
+pub use Rattle.sc_actor.specs.declared.schedules.Line.TheVariants.{Settle, Storm}
+pub use Rattle.sc_actor.specs.declared.schedules.Played.{Played}
+pub use Rattle.sc_actor.specs.declared.schedules.Played.TheVariants.{Ended, Full, OutOfMemory}
+pub use Rattle.sc_ideal.specs.declared.Entry.{Entry}
+pub use Rattle.sc_cmd.specs.declared.bodies.Body.{Body}
+pub use Rattle.sc_cmd.specs.declared.bodies.Offer.{Offer}
+pub use Rattle.sc_cmd.specs.declared.bodies.Watch.{Watch}
+pub use Rattle.sc_cmd.specs.declared.commands.Command.{Command}
+pub use Rattle.sc_cmd.specs.declared.commands.Command.TheVariants.{Leave, Join, Split, Call, Noop, Begin, Prepared, RecordVote, GiveUp, Finish, Watched, RecordWatch}
+pub use Rattle.sc_cmd.specs.declared.cores.Base.{Base}
+pub use Rattle.sc_cmd.specs.declared.cores.Core.{Core}
+pub use Rattle.sc_cmd.specs.declared.cores.Lock.{Lock}
+pub use Rattle.sc_cmd.specs.declared.cores.Lock.TheVariants.{Free, Coordinating, Promised, Watching}
+pub use Rattle.sc_cmd.specs.declared.effects.Effect.{Effect}
+pub use Rattle.sc_cmd.specs.declared.effects.Effect.TheVariants.{NoEffect, Changed, Decided, Voted}
+pub use Rattle.sc_cmd.specs.declared.links.Link.{Link}
+pub use Rattle.sc_cmd.specs.declared.links.Route.{Route}
+pub use Rattle.sc_cmd.specs.declared.orders.Order.{Order}
+pub use Rattle.sc_cmd.specs.declared.orders.Order.TheVariants.{Merge, Repart, Migrate}
+pub use Rattle.sc_cmd.specs.declared.orders.OrderLine.{OrderLine}
+pub use Rattle.sc_cmd.specs.declared.orders.OrderRefusal.{OrderRefusal}
+pub use Rattle.sc_cmd.specs.declared.orders.OrderRefusal.TheVariants.{LastMember, TooManyMembers, NotMember, IsMember, BadBoundary}
+pub use Rattle.sc_cmd.specs.declared.orders.ToldResult.{ToldResult}
+pub use Rattle.sc_cmd.specs.declared.orders.ToldResult.TheVariants.{Refused, Done}
+pub use Rattle.sc_cmd.specs.declared.votes.Frozen.{Frozen}
+pub use Rattle.sc_cmd.specs.declared.votes.Gift.{Gift}
+pub use Rattle.sc_cmd.specs.declared.votes.Heard.{Heard}
+pub use Rattle.sc_cmd.specs.declared.votes.No.{No}
+pub use Rattle.sc_cmd.specs.declared.votes.No.TheVariants.{Apart, TooMany}
+pub use Rattle.sc_cmd.specs.declared.votes.Outcome.{Outcome}
+pub use Rattle.sc_cmd.specs.declared.votes.Outcome.TheVariants.{Abort, Merged, Moved, Migrated, Divided}
+pub use Rattle.sc_cmd.specs.declared.votes.Past.{Past}
+pub use Rattle.sc_cmd.specs.declared.votes.Vote.{Vote}
+pub use Rattle.sc_cmd.specs.declared.votes.Vote.TheVariants.{Yes}
+pub use Rattle.sc_paxos_words.specs.declared.answers.AcceptAnswer.{AcceptAnswer}
+pub use Rattle.sc_paxos_words.specs.declared.answers.Counted.{Counted}
+pub use Rattle.sc_paxos_words.specs.declared.answers.Counted.TheVariants.{Chosen, NotYet}
+pub use Rattle.sc_paxos_words.specs.declared.answers.Learnt.{Learnt}
+pub use Rattle.sc_paxos_words.specs.declared.answers.Must.{Must}
+pub use Rattle.sc_paxos_words.specs.declared.answers.Must.TheVariants.{Gap}
+pub use Rattle.sc_paxos_words.specs.declared.answers.PrepareAnswer.{PrepareAnswer}
+pub use Rattle.sc_paxos_words.specs.declared.flights.Flight.{Flight}
+pub use Rattle.sc_paxos_words.specs.declared.reports.Report.{Report}
+pub use Rattle.sc_mail.specs.declared.bodies.AnswerBody.{AnswerBody}
+pub use Rattle.sc_mail.specs.declared.bodies.AnswerBody.TheVariants.{NotLeader, Value, Stale, NotMine, Gone}
+pub use Rattle.sc_mail.specs.declared.bodies.Mail.{Mail}
+pub use Rattle.sc_mail.specs.declared.bodies.MailBody.{MailBody}
+pub use Rattle.sc_mail.specs.declared.bodies.MailBody.TheVariants.{Told, Accepted, Answer, Request, Prepare, Promise, Accept, Nack, Learn, Ask, Install, TxPrepare, TxVote, TxOutcome, TxElsewhere, TxWatch, TxWatched}
+pub use Rattle.sc_mail.specs.declared.roles.Role.{Role}
+pub use Rattle.sc_mail.specs.declared.roles.Role.TheVariants.{Node, Client}

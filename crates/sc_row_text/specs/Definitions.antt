@@ -1,0 +1,17 @@
+-- The definitions of this crate that others cite, under one name.
+pub use Rattle.sc_row_text.specs.Shapes.{items_json, variant, variant_name, first_name, number_json, option_json, list_json, fields, pair_json, members_json}
+pub use Rattle.sc_row_text.specs.Held.{FitsU16, PairFits, FitsArc, FitsMembers, FitsU32, OptionFits, FitsKey, FitsValue, FitsU8}
+unfoldable pub use Rattle.sc_row_text.specs.Names.{draw_json, FitsDraw, ballot_json, FitsBallot}
+unfoldable pub use Rattle.sc_row_text.specs.Ops.{reply_json, op_json, FitsOp, FitsReply}
+unfoldable pub use Rattle.sc_row_text.specs.Sets.{client_json, FitsNoted, arc_json, nodes_json, pairs_json, FitsPairs, clients_json, FitsClients}
+unfoldable pub use Rattle.sc_row_text.specs.Links.{link_json, FitsLink, route_json, FitsRoute}
+unfoldable pub use Rattle.sc_row_text.specs.Bodies.{body_json, FitsBody, offer_json, FitsOffer, watch_json, FitsWatch}
+unfoldable pub use Rattle.sc_row_text.specs.Votes.{no_json, frozen_json, FitsFrozen, heard_json, FitsHeard, FitsNo, past_json, FitsPast, vote_json, FitsVote}
+unfoldable pub use Rattle.sc_row_text.specs.Outcomes.{gift_json, FitsGift, outcome_json, FitsOutcome}
+unfoldable pub use Rattle.sc_row_text.specs.Cores.{base_json, FitsBase, core_json, FitsCore, lock_json, FitsLock}
+unfoldable pub use Rattle.sc_row_text.specs.Commands.{command_json, FitsCommand, report_json, FitsReport}
+unfoldable pub use Rattle.sc_row_text.specs.Orders.{order_refusal_json, order_line_json, order_json, FitsOrder, FitsOrderLine, FitsOrderRefusal, told_result_json, FitsToldResult}
+unfoldable pub use Rattle.sc_row_text.specs.Answers.{answer_body_json, FitsAnswerBody}
+unfoldable pub use Rattle.sc_row_text.specs.Mails.{mail_body_json, FitsMailBody, mail_json, FitsMail}
+unfoldable pub use Rattle.sc_row_text.specs.Rows.{event_json, FitsEvent, row_json, FitsRow}
+unfoldable pub use Rattle.sc_row_text.specs.RowText.{text_of, IsHeld}

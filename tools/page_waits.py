@@ -1,0 +1,46 @@
+"""What the requests without an answer and the open orders of a page wait for, and rows' lines."""
+
+import explained
+import freeing
+import schedules
+import waits
+
+
+def lines_of_rows(journal):
+    """The line of the scenario that made each row; 0 where that is not known."""
+    try:
+        found = schedules.Walk(journal, journal.program or explained.SCRIPT).line_of_rows()
+    except schedules.Unplayed:
+        found = {}
+    return [found.get(row.number, 0) for row in journal.rows]
+
+
+def with_tries(facts, wanted, client, lines):
+    """The lines, and behind them which lines of a schedule would free it."""
+    program = facts.journal.program or explained.SCRIPT
+    try:
+        trial = freeing.Trial(facts.journal, program, wanted)
+        return [*lines, *freeing.told(facts, trial, client)[1]]
+    except schedules.Unplayed as fault:
+        return [*lines, f"nothing was tried: {fault}"]
+
+
+def waits_of(page, is_tried):
+    """By request and order of the page: what each waits for, line by line."""
+    facts, of_requests, of_orders = waits.Facts(page.journal), {}, {}
+    for number, one in enumerate(page.requests, 1):
+        if one.answered:
+            continue
+        lines = waits.of_request(facts, one.client, one.seq)
+        if is_tried:
+            wanted = freeing.answered(one.client, one.seq)
+            lines = with_tries(facts, wanted, one.client, lines)
+        of_requests[number] = lines
+    for number, one in enumerate(page.orders, 1):
+        if one.ended:
+            continue
+        lines = waits.of_order(facts, one.number)
+        if is_tried:
+            lines = with_tries(facts, freeing.told_of(one.number), None, lines)
+        of_orders[number] = lines
+    return {"requests": of_requests, "orders": of_orders}

@@ -1,0 +1,96 @@
+# What ./scatter was asked: the file that it opens itself, and one line on what is wrong with words that it does not
+# have. words.bash beside this file reads the table of words.
+# shellcheck shell=bash
+# shellcheck disable=SC2154 # the names of words.bash
+
+# Whether behind the words of a word that reads a file there is one more, which is the file's name.
+names_file() {
+    local -a wanted
+    [ "$#" -ge 2 ] && is_word "$1" && [ "${input["$1"]}" != - ] || return 1
+    read -ra wanted <<<"${arguments["$1"]}"
+    [ "$#" -eq $((${#wanted[@]} + 2)) ]
+}
+
+# The least of three numbers, in `least`.
+least_of() {
+    least="$1"
+    [ "$least" -le "$2" ] || least="$2"
+    [ "$least" -le "$3" ] || least="$3"
+}
+
+# How many letters are to be changed, added or left out between two words, in `apart_by`.
+count_changes() {
+    local one="$1" other="$2" least changes i j
+    local -a before=() now=()
+    for ((j = 0; j <= ${#other}; j++)); do before[j]="$j"; done
+    for ((i = 1; i <= ${#one}; i++)); do
+        now=("$i")
+        for ((j = 1; j <= ${#other}; j++)); do
+            changes=1
+            [ "${one:i-1:1}" != "${other:j-1:1}" ] || changes=0
+            least_of $((before[j] + 1)) $((now[j - 1] + 1)) $((before[j - 1] + changes))
+            now[j]="$least"
+        done
+        before=("${now[@]}")
+    done
+    apart_by="${before[${#other}]}"
+}
+
+# The word of the table that is nearest to a text, in `near`; nothing where none is near.
+find_near() {
+    local word apart_by=0 best=3
+    near=
+    [ "${#1}" -le 20 ] || return 1
+    for word in "${words[@]}"; do
+        count_changes "$1" "$word"
+        if [ "$apart_by" -lt "$best" ] && [ "$apart_by" -lt "${#word}" ]; then
+            near="$word" best="$apart_by"
+        fi
+    done
+    [ -n "$near" ]
+}
+
+# Says the first argument that is missed, of a word whose arguments are as many as it takes.
+say_missed_range() {
+    local name argument range
+    local -a wanted
+    name="$1"
+    read -ra wanted <<<"${arguments["$1"]}"
+    shift
+    for argument in "${wanted[@]}"; do
+        case "$argument" in
+            *=*)
+                range="${argument#*=}"
+                if ! is_within "$1" "$range"; then
+                    say "$name: $(name_of "$argument") is a number from ${range%%..*} to ${range##*..}, and not $1"
+                    return 0
+                fi
+                ;;
+        esac
+        shift
+    done
+}
+
+# Says in one line what is wrong with words that the script does not have.
+say_what_is_wrong() {
+    local near=
+    local -a wanted
+    if [ "$#" -eq 0 ]; then
+        say "no word was given"
+    elif ! is_word "$1"; then
+        if find_near "$1"; then
+            say "there is no word $1; one that is near is $near: $(call_of "$near")"
+        else
+            say "there is no word $1"
+        fi
+    else
+        read -ra wanted <<<"${arguments["$1"]}"
+        if [ "$(($# - 1))" -lt "${#wanted[@]}" ]; then
+            say "$1 takes more words: $(call_of "$1")"
+        elif [ "$(($# - 1))" -gt "${#wanted[@]}" ]; then
+            say "$1 takes fewer words: $(call_of "$1")"
+        else
+            say_missed_range "$@"
+        fi
+    fi
+}
