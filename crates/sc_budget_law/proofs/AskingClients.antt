@@ -191,11 +191,7 @@ module _ (words : ℕ → ℕ → ℕ × ℕ) (scenario : Scenario) (begins : Is
     client_event : (event : Event OrderLine) → IsInOrder (system_of as_nodes words scenario) rows (client_actor asks.client) event → IsAsking words scenario set begins.first (rows ++ row_of player_table (client_seat (route_of begins.first) asks) rows event ∷ [])
     client_event (Deliver number) fine = client_turn number fine
     client_event Go fine = client_go fine
-    client_event Tick fine = absurd fine
-    client_event (Told order) fine = absurd fine
-    client_event Crash fine = absurd fine
-    client_event (Drop number) fine = absurd fine
-    client_event (Again number) fine = absurd fine
+    client_event _ fine = absurd fine
 
   -- ---- each row that comes in order
 

@@ -15,21 +15,7 @@ module _ (one two : Requests) (more : IsMore one two) (set : Setting) where
   aside_more : (from to : ℕ) (body : MailBody) → IsAsideBody one set from to body → IsAsideBody two set from to body
   aside_more from to (Request group client seq op) a = (a.0, a.1, more client seq op a.2)
   aside_more from to (Answer group seq answer) a = record { client = a.client; op = a.op; to_is = a.to_is; is_begun = more a.client seq a.op a.is_begun; says = a.says }
-  aside_more from to (Prepare group ballot from_slot) a = absurd a
-  aside_more from to (Promise group ballot reports) a = absurd a
-  aside_more from to (Accept group ballot slot command) a = absurd a
-  aside_more from to (Accepted group ballot slot) a = absurd a
-  aside_more from to (Nack group promised) a = absurd a
-  aside_more from to (Learn group slot command) a = absurd a
-  aside_more from to (Ask group from_slot) a = absurd a
-  aside_more from to (Install group slot base sets) a = absurd a
-  aside_more from to (TxPrepare tx offer) a = absurd a
-  aside_more from to (TxVote tx coord part vote) a = absurd a
-  aside_more from to (TxOutcome tx part outcome) a = absurd a
-  aside_more from to (TxElsewhere tx coord hint) a = absurd a
-  aside_more from to (TxWatch tx watch) a = absurd a
-  aside_more from to (TxWatched tx coord part vote) a = absurd a
-  aside_more from to (Told order result) a = absurd a
+  aside_more from to _ a = absurd a
 
   pub calm_mail_more : (mail : Mail) → IsCalmMail one set mail → IsCalmMail two set mail
   calm_mail_more mail (inl p) = inl (mail_more one two more set.frames mail p)
@@ -45,21 +31,7 @@ aside_mark begun set name mail body e a = ap_mark body e a
     ap_mark : (body : MailBody) → mail.body ≡ body → IsAsideBody begun set mail.from mail.to body → mark name mail ≡ Other
     ap_mark (Request group client seq op) e a = ap (λ (b : MailBody). mark name (record { from = mail.from; to = mail.to; body = b })) e
     ap_mark (Answer group seq answer) e a = ap (λ (b : MailBody). mark name (record { from = mail.from; to = mail.to; body = b })) e
-    ap_mark (Prepare group ballot from_slot) e a = absurd a
-    ap_mark (Promise group ballot reports) e a = absurd a
-    ap_mark (Accept group ballot slot command) e a = absurd a
-    ap_mark (Accepted group ballot slot) e a = absurd a
-    ap_mark (Nack group promised) e a = absurd a
-    ap_mark (Learn group slot command) e a = absurd a
-    ap_mark (Ask group from_slot) e a = absurd a
-    ap_mark (Install group slot base sets) e a = absurd a
-    ap_mark (TxPrepare tx offer) e a = absurd a
-    ap_mark (TxVote tx coord part vote) e a = absurd a
-    ap_mark (TxOutcome tx part outcome) e a = absurd a
-    ap_mark (TxElsewhere tx coord hint) e a = absurd a
-    ap_mark (TxWatch tx watch) e a = absurd a
-    ap_mark (TxWatched tx coord part vote) e a = absurd a
-    ap_mark (Told order result) e a = absurd a
+    ap_mark _ e a = absurd a
 
 -- ---- clients send requests alone, which are nothing to any group
 
@@ -102,22 +74,7 @@ answer_only from group seq (Stale last) client = other_only from group (Stale la
 
 got_only : (from : ℕ) (body : MailBody) (client : ClientState) → AsksOnly (got from body client)
 got_only from (Answer group seq answer) client = cond_both (waits_for client.waiting seq) (answer_taken from group seq answer client) (client, []) AsksOnly (λ _. answer_only from group seq answer client) (λ _. tt)
-got_only from (Request group to seq op) client = tt
-got_only from (Prepare group ballot from_slot) client = tt
-got_only from (Promise group ballot reports) client = tt
-got_only from (Accept group ballot slot command) client = tt
-got_only from (Accepted group ballot slot) client = tt
-got_only from (Nack group promised) client = tt
-got_only from (Learn group slot command) client = tt
-got_only from (Ask group from_slot) client = tt
-got_only from (Install group slot base sets) client = tt
-got_only from (TxPrepare tx offer) client = tt
-got_only from (TxVote tx coord part vote) client = tt
-got_only from (TxOutcome tx part outcome) client = tt
-got_only from (TxElsewhere tx coord hint) client = tt
-got_only from (TxWatch tx watch) client = tt
-got_only from (TxWatched tx coord part vote) client = tt
-got_only from (Told order result) client = tt
+got_only from _ client = tt
 
 pub takes_only : (mail : Mail) (client : ClientState) → AsksOnly (table client (Got mail))
 takes_only mail client = got_only mail.from mail.body client

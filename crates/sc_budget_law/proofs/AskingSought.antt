@@ -34,11 +34,8 @@ use Rattle.sc_budget_law.proofs.ReplicaRows.{Does}
 use Rattle.sc_budget_law.proofs.Sends.{mail_of}
 
 final_ends : (answer : AnswerBody) → IsFinal answer → EndsWait answer
-final_ends (Value reply) f = tt
-final_ends (NotMine arc succ) f = tt
-final_ends (NotLeader hint) f = tt
-final_ends (Gone into) f = tt
 final_ends (Stale last) f = f
+final_ends _ f = tt
 
 aside_ends : (gone : Option Route) (hint : Option ℕ) → EndsWait (aside_answer gone hint)
 aside_ends (Some into) hint = tt
@@ -352,11 +349,7 @@ module _ (words : ℕ → ℕ → ℕ × ℕ) (scenario : Scenario) (begins : Is
       node_event : (event : Event OrderLine) → IsInOrder (system_of as_nodes words scenario) rows me event → AreSought (rows ++ row_of player_table (node_seat as_nodes scenario.groups scenario.policy me) rows event ∷ [])
       node_event (Deliver number) fine = node_turn number fine
       node_event Go fine = node_go fine
-      node_event Tick fine = absurd fine
-      node_event (Told order) fine = absurd fine
-      node_event Crash fine = absurd fine
-      node_event (Drop number) fine = absurd fine
-      node_event (Again number) fine = absurd fine
+      node_event _ fine = absurd fine
 
     -- ---- rows of clients
 
@@ -479,11 +472,7 @@ module _ (words : ℕ → ℕ → ℕ × ℕ) (scenario : Scenario) (begins : Is
           → AreSought (rows ++ row_of player_table (client_seat (route_of begins.first) mine) rows event ∷ [])
       client_event (Deliver number) fine nodes = client_turn number fine nodes
       client_event Go fine nodes = client_go fine nodes
-      client_event Tick fine nodes = absurd fine
-      client_event (Told order) fine nodes = absurd fine
-      client_event Crash fine nodes = absurd fine
-      client_event (Drop number) fine nodes = absurd fine
-      client_event (Again number) fine nodes = absurd fine
+      client_event _ fine nodes = absurd fine
 
     -- ---- each row
 

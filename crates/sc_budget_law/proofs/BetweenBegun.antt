@@ -19,17 +19,7 @@ module _ (one two : Requests) (more : IsMore one two) where
 
   command_more : (frame : Frame) (command : Command) → IsPlainCommand one frame command → IsPlainCommand two frame command
   command_more frame (Call client seq op) p = call_more frame client seq op p
-  command_more frame Noop p = absurd p
-  command_more frame (Join node order) p = absurd p
-  command_more frame (Leave node order) p = absurd p
-  command_more frame (Split at child order) p = absurd p
-  command_more frame (Begin tx body order) p = absurd p
-  command_more frame (Prepared tx offer) p = absurd p
-  command_more frame (RecordVote tx vote by) p = absurd p
-  command_more frame (GiveUp tx) p = absurd p
-  command_more frame (Finish tx outcome) p = absurd p
-  command_more frame (Watched tx watch) p = absurd p
-  command_more frame (RecordWatch tx vote by) p = absurd p
+  command_more frame _ p = absurd p
 
   answer_more : (frame : Frame) (client seq : ℕ) (op : Op) (answer : AnswerBody) → IsPlainAnswer one frame client seq op answer → IsPlainAnswer two frame client seq op answer
   answer_more frame client seq op (Value reply) p = λ value e. written_more value (p value e)
@@ -45,18 +35,7 @@ module _ (one two : Requests) (more : IsMore one two) where
   body_more frame from to (Accept group ballot slot command) p = (p.0, p.1, record { from_is = p.2.from_is; to_in = p.2.to_in; is_call = command_more frame command p.2.is_call })
   body_more frame from to (Accepted group ballot slot) p = p
   body_more frame from to (Learn group slot command) p = (p.0, record { from_is = p.1.from_is; to_in = p.1.to_in; other = p.1.other; is_call = command_more frame command p.1.is_call })
-  body_more frame from to (Prepare group ballot from_slot) p = absurd p
-  body_more frame from to (Promise group ballot reports) p = absurd p
-  body_more frame from to (Nack group promised) p = absurd p
-  body_more frame from to (Ask group from_slot) p = absurd p
-  body_more frame from to (Install group slot base sets) p = absurd p
-  body_more frame from to (TxPrepare tx offer) p = absurd p
-  body_more frame from to (TxVote tx coord part vote) p = absurd p
-  body_more frame from to (TxOutcome tx part outcome) p = absurd p
-  body_more frame from to (TxElsewhere tx coord hint) p = absurd p
-  body_more frame from to (TxWatch tx watch) p = absurd p
-  body_more frame from to (TxWatched tx coord part vote) p = absurd p
-  body_more frame from to (Told order result) p = absurd p
+  body_more frame from to _ p = absurd p
 
   -- mail stays plain
   pub mail_more : (frames : List Frame) (mail : Mail) → IsPlainMail one frames mail → IsPlainMail two frames mail

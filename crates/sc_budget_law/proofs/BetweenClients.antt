@@ -37,19 +37,7 @@ client_mark begun frame name is from to (Accepted group ballot slot) no_node b =
 client_mark begun frame name is from to (Learn group slot command) no_node b =
     absurd (both_ways (is_node to) no_node (is.nodes (frame.from + slots_ahead) to (ap (λ ms. is_member ms to) (is.later (frame.from + slots_ahead) (omega arith)) ∙ b.1.to_in)))
 client_mark begun frame name is from to (Request group client seq op) no_node b = refl
-client_mark begun frame name is from to (Answer group seq answer) no_node b = refl
-client_mark begun frame name is from to (Prepare group ballot from_slot) no_node b = refl
-client_mark begun frame name is from to (Promise group ballot reports) no_node b = refl
-client_mark begun frame name is from to (Nack group promised) no_node b = refl
-client_mark begun frame name is from to (Ask group from_slot) no_node b = refl
-client_mark begun frame name is from to (Install group slot base sets) no_node b = refl
-client_mark begun frame name is from to (TxPrepare tx offer) no_node b = refl
-client_mark begun frame name is from to (TxVote tx coord part vote) no_node b = refl
-client_mark begun frame name is from to (TxOutcome tx part outcome) no_node b = refl
-client_mark begun frame name is from to (TxElsewhere tx coord hint) no_node b = refl
-client_mark begun frame name is from to (TxWatch tx watch) no_node b = refl
-client_mark begun frame name is from to (TxWatched tx coord part vote) no_node b = refl
-client_mark begun frame name is from to (ToldMail order result) no_node b = refl
+client_mark begun frame name is from to _ no_node b = refl
 
 -- what a client sends is nothing to a group
 asked_others : (name : Draw) (who : ℕ) (after : ClientStep) → DidAsk after → Each IsOther (marks_for name who after.1)
@@ -242,8 +230,4 @@ module _ (words : ℕ → ℕ → ℕ × ℕ) (scenario : Scenario) (stage : IsS
   pub client_event : (event : Event OrderLine) → IsInOrder (system_of as_nodes words scenario) rows (client_actor asks.client) event → J (rows ++ row_of player_table (client_seat (route_of stage.first) asks) rows event ∷ [])
   client_event (Deliver number) fine = client_turn number fine
   client_event Go fine = client_go fine
-  client_event Tick fine = absurd fine
-  client_event (Told order) fine = absurd fine
-  client_event Crash fine = absurd fine
-  client_event (Drop number) fine = absurd fine
-  client_event (Again number) fine = absurd fine
+  client_event _ fine = absurd fine

@@ -77,15 +77,4 @@ module _ (begun : Requests) (frame : Frame) (is : IsFrame frame) where
       let kept : MovesBy frame me r taken place.0 after (Tells slot) [] = λ one two v w own. moves one two v (record { bound = λ e. absurd (does.follows e); voters = λ e. absurd (does.follows e); next = w.next }) own in
       subst (λ m. MovesBy frame me r taken place.0 after m place.1) (sym (here group (Tells slot) b.0)) (subst (λ (l : List Mail). MovesBy frame me r taken place.0 after (Tells slot) l) (sym does.sends) kept)
   does_moves me r taken from (Answer group seq answer) place after b does slots slots' = absurd does
-  does_moves me r taken from (Prepare group ballot from_slot) place after b does slots slots' = absurd does
-  does_moves me r taken from (Promise group ballot reports) place after b does slots slots' = absurd does
-  does_moves me r taken from (Nack group promised) place after b does slots slots' = absurd does
-  does_moves me r taken from (Ask group from_slot) place after b does slots slots' = absurd does
-  does_moves me r taken from (Install group slot base sets) place after b does slots slots' = absurd does
-  does_moves me r taken from (TxPrepare tx offer) place after b does slots slots' = absurd does
-  does_moves me r taken from (TxVote tx coord part vote) place after b does slots slots' = absurd does
-  does_moves me r taken from (TxOutcome tx part outcome) place after b does slots slots' = absurd does
-  does_moves me r taken from (TxElsewhere tx coord hint) place after b does slots slots' = absurd does
-  does_moves me r taken from (TxWatch tx watch) place after b does slots slots' = absurd does
-  does_moves me r taken from (TxWatched tx coord part vote) place after b does slots slots' = absurd does
-  does_moves me r taken from (Told order result) place after b does slots slots' = absurd does
+  does_moves me r taken from _ place after b does slots slots' = absurd does

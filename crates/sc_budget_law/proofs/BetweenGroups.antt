@@ -30,19 +30,7 @@ other_mark begun frame name from to (Learn group slot command) ne b = cond-false
     apart : (group : Draw) → group ≡ frame.core.id → same_draw group name ≡ false
     apart group e = elim (cases_Bool (same_draw group name)) [ inl t ↦ absurd (ne (sym (draw_is group name t) ∙ e)) | inr f ↦ f ]
 other_mark begun frame name from to (Request group client seq op) ne b = refl
-other_mark begun frame name from to (Answer group seq answer) ne b = refl
-other_mark begun frame name from to (Prepare group ballot from_slot) ne b = refl
-other_mark begun frame name from to (Promise group ballot reports) ne b = refl
-other_mark begun frame name from to (Nack group promised) ne b = refl
-other_mark begun frame name from to (Ask group from_slot) ne b = refl
-other_mark begun frame name from to (Install group slot base sets) ne b = refl
-other_mark begun frame name from to (TxPrepare tx offer) ne b = refl
-other_mark begun frame name from to (TxVote tx coord part vote) ne b = refl
-other_mark begun frame name from to (TxOutcome tx part outcome) ne b = refl
-other_mark begun frame name from to (TxElsewhere tx coord hint) ne b = refl
-other_mark begun frame name from to (TxWatch tx watch) ne b = refl
-other_mark begun frame name from to (TxWatched tx coord part vote) ne b = refl
-other_mark begun frame name from to (Told order result) ne b = refl
+other_mark begun frame name from to _ ne b = refl
 
 module _ (words : ℕ → ℕ → ℕ × ℕ) (scenario : Scenario) where
   -- ---- when a mail comes
@@ -69,20 +57,7 @@ module _ (words : ℕ → ℕ → ℕ × ℕ) (scenario : Scenario) where
         first_told zero slot rest e = cc
         first_told (suc left) slot rest e = cc
     due to (Request group client seq op) e m b = tt
-    due to (Answer group seq answer) e m b = tt
-    due to (Accepted group ballot slot) e m b = tt
-    due to (Prepare group ballot from_slot) e m b = tt
-    due to (Promise group ballot reports) e m b = tt
-    due to (Nack group promised) e m b = tt
-    due to (Ask group from_slot) e m b = tt
-    due to (Install group slot base sets) e m b = tt
-    due to (TxPrepare tx offer) e m b = tt
-    due to (TxVote tx coord part vote) e m b = tt
-    due to (TxOutcome tx part outcome) e m b = tt
-    due to (TxElsewhere tx coord hint) e m b = tt
-    due to (TxWatch tx watch) e m b = tt
-    due to (TxWatched tx coord part vote) e m b = tt
-    due to (Told order result) e m b = tt
+    due to _ e m b = tt
 
   -- ---- a row that does nothing in a group
 

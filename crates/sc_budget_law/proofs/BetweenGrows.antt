@@ -60,18 +60,4 @@ pub got_grows : (from : ℕ) (body : MailBody) (client : Client) → begun_ones 
 got_grows from (Answer group seq answer) client =
     cond_both (waits_for client.waiting seq) (answer_taken from group seq answer client) (client, []) (λ p. begun_ones client ≤ begun_ones p.0) (λ t. answer_grows from group seq answer client t) (λ _. omega arith)
 got_grows from (Request group to seq op) client = omega arith
-got_grows from (Prepare group ballot from_slot) client = omega arith
-got_grows from (Promise group ballot reports) client = omega arith
-got_grows from (Accept group ballot slot command) client = omega arith
-got_grows from (Accepted group ballot slot) client = omega arith
-got_grows from (Nack group promised) client = omega arith
-got_grows from (Learn group slot command) client = omega arith
-got_grows from (Ask group from_slot) client = omega arith
-got_grows from (Install group slot base sets) client = omega arith
-got_grows from (TxPrepare tx offer) client = omega arith
-got_grows from (TxVote tx coord part vote) client = omega arith
-got_grows from (TxOutcome tx part outcome) client = omega arith
-got_grows from (TxElsewhere tx coord hint) client = omega arith
-got_grows from (TxWatch tx watch) client = omega arith
-got_grows from (TxWatched tx coord part vote) client = omega arith
-got_grows from (Told order result) client = omega arith
+got_grows from _ client = omega arith

@@ -23,20 +23,7 @@ told_of name from (Learn group slot command) rest = cond_both (same_draw group n
     (λ t. ap (λ b. cond b (slot ∷ []) [] ++ told rest) (sym t)) (λ f. ap (λ b. cond b (slot ∷ []) [] ++ told rest) (sym f))
 told_of name from (Accept group ballot slot command) rest = cond_both (same_draw group name) (Asks slot) Other (λ m. told (m ∷ rest) ≡ told rest) (λ _. refl) (λ _. refl)
 told_of name from (Accepted group ballot slot) rest = cond_both (same_draw group name) (Votes from slot) Other (λ m. told (m ∷ rest) ≡ told rest) (λ _. refl) (λ _. refl)
-told_of name from (Request group client seq op) rest = refl
-told_of name from (Answer group seq answer) rest = refl
-told_of name from (Prepare group ballot from_slot) rest = refl
-told_of name from (Promise group ballot reports) rest = refl
-told_of name from (Nack group promised) rest = refl
-told_of name from (Ask group from_slot) rest = refl
-told_of name from (Install group slot base sets) rest = refl
-told_of name from (TxPrepare tx offer) rest = refl
-told_of name from (TxVote tx coord part vote) rest = refl
-told_of name from (TxOutcome tx part outcome) rest = refl
-told_of name from (TxElsewhere tx coord hint) rest = refl
-told_of name from (TxWatch tx watch) rest = refl
-told_of name from (TxWatched tx coord part vote) rest = refl
-told_of name from (Told order result) rest = refl
+told_of name from _ rest = refl
 
 -- the slots that are told to an actor are those of the Learns for it
 pub told_marks : (name : Draw) (who : ℕ) (mails : List Mail) → told (marks_for name who mails) ≡ learns_to name who mails
@@ -71,20 +58,7 @@ row_new : (name : Draw) (from : ℕ) (first free next end : ℕ) (body : MailBod
 row_new name from first free next end (Accept group ballot slot command) le p = cond_both (same_draw group name) (Asks slot) Other (IsNewMark free end) (λ _. p) (λ _. tt)
 row_new name from first free next end (Learn group slot command) le p = cond_both (same_draw group name) (Tells slot) Other (IsNewMark free end) (λ _. (let high = p.1 in omega (arith, high, le))) (λ _. tt)
 row_new name from first free next end (Answer group seq answer) le p = tt
-row_new name from first free next end (Accepted group ballot slot) le p = absurd p
-row_new name from first free next end (Request group client seq op) le p = absurd p
-row_new name from first free next end (Prepare group ballot from_slot) le p = absurd p
-row_new name from first free next end (Promise group ballot reports) le p = absurd p
-row_new name from first free next end (Nack group promised) le p = absurd p
-row_new name from first free next end (Ask group from_slot) le p = absurd p
-row_new name from first free next end (Install group slot base sets) le p = absurd p
-row_new name from first free next end (TxPrepare tx offer) le p = absurd p
-row_new name from first free next end (TxVote tx coord part vote) le p = absurd p
-row_new name from first free next end (TxOutcome tx part outcome) le p = absurd p
-row_new name from first free next end (TxElsewhere tx coord hint) le p = absurd p
-row_new name from first free next end (TxWatch tx watch) le p = absurd p
-row_new name from first free next end (TxWatched tx coord part vote) le p = absurd p
-row_new name from first free next end (Told order result) le p = absurd p
+row_new name from first free next end _ le p = absurd p
 
 -- ---- votes of flights
 

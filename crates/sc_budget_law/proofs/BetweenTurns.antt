@@ -170,8 +170,4 @@ module _ (words : ℕ → ℕ → ℕ × ℕ) (scenario : Scenario) (stage : IsS
     pub node_event : (event : Event OrderLine) → IsInOrder (system_of as_nodes words scenario) rows me event → J (rows ++ row_of player_table (nseat me) rows event ∷ [])
     node_event (Deliver number) fine = node_turn number fine
     node_event Go fine = node_go fine
-    node_event Tick fine = absurd fine
-    node_event (Told order) fine = absurd fine
-    node_event Crash fine = absurd fine
-    node_event (Drop number) fine = absurd fine
-    node_event (Again number) fine = absurd fine
+    node_event _ fine = absurd fine

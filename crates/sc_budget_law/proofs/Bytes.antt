@@ -33,17 +33,7 @@ value_light (Cas key expect v) value s e = (let low = s.2 in let same = ap lengt
 module _ (begun : Requests) (short : (client seq : ℕ) (op : Op) → begun client seq op → IsShortOp op) where
   command_light : (frame : Frame) (command : Command) → IsPlainCommand begun frame command → command_weight command ≤ 576
   command_light frame (Call client seq op) p = op_light op (short client seq op p.is_begun)
-  command_light frame Noop p = absurd p
-  command_light frame (Join node order) p = absurd p
-  command_light frame (Leave node order) p = absurd p
-  command_light frame (Split at child order) p = absurd p
-  command_light frame (Begin tx body order) p = absurd p
-  command_light frame (Prepared tx offer) p = absurd p
-  command_light frame (RecordVote tx vote by) p = absurd p
-  command_light frame (GiveUp tx) p = absurd p
-  command_light frame (Finish tx outcome) p = absurd p
-  command_light frame (Watched tx watch) p = absurd p
-  command_light frame (RecordWatch tx vote by) p = absurd p
+  command_light frame _ p = absurd p
 
   reply_light : (o : Option (List ℕ)) → ((value : List ℕ) → o ≡ Some value → IsWrittenValue begun value) → value_weight o ≤ 576
   reply_light None p = omega arith
@@ -59,18 +49,7 @@ module _ (begun : Requests) (short : (client seq : ℕ) (op : Op) → begun clie
   body_light frame from to (Accept group ballot slot command) b = command_light frame command b.2.is_call
   body_light frame from to (Accepted group ballot slot) b = omega arith
   body_light frame from to (Learn group slot command) b = command_light frame command b.1.is_call
-  body_light frame from to (Prepare group ballot from_slot) b = absurd b
-  body_light frame from to (Promise group ballot reports) b = absurd b
-  body_light frame from to (Nack group promised) b = absurd b
-  body_light frame from to (Ask group from_slot) b = absurd b
-  body_light frame from to (Install group slot base sets) b = absurd b
-  body_light frame from to (TxPrepare tx offer) b = absurd b
-  body_light frame from to (TxVote tx coord part vote) b = absurd b
-  body_light frame from to (TxOutcome tx part outcome) b = absurd b
-  body_light frame from to (TxElsewhere tx coord hint) b = absurd b
-  body_light frame from to (TxWatch tx watch) b = absurd b
-  body_light frame from to (TxWatched tx coord part vote) b = absurd b
-  body_light frame from to (ToldMail order result) b = absurd b
+  body_light frame from to _ b = absurd b
 
   -- each plain mail weighs no more than an operation may
   pub mail_light : (frames : List Frame) (mail : Mail) → IsPlainMail begun frames mail → body_weight mail.body ≤ 576

@@ -79,19 +79,7 @@ module _ (begun : Requests) (set : Setting) (is : IsSetting set) (node : NodeSta
     accepts (Request group client seq op) left b does = absurd (away left does.0)
     accepts (Accepted group ballot slot) left b does = absurd (away left does.0)
     accepts (Learn group slot command) left b does = absurd (both_ways (is_member k.frame.core.members node.me) left b.1.to_in)
-    accepts (Answer group seq answer) left b does = absurd does
-    accepts (Prepare group ballot from_slot) left b does = absurd does
-    accepts (Promise group ballot reports) left b does = absurd does
-    accepts (Nack group promised) left b does = absurd does
-    accepts (Ask group from_slot) left b does = absurd does
-    accepts (Install group slot base sets) left b does = absurd does
-    accepts (TxPrepare tx offer) left b does = absurd does
-    accepts (TxVote tx coord part vote) left b does = absurd does
-    accepts (TxOutcome tx part outcome) left b does = absurd does
-    accepts (TxElsewhere tx coord hint) left b does = absurd does
-    accepts (TxWatch tx watch) left b does = absurd does
-    accepts (TxWatched tx coord part vote) left b does = absurd does
-    accepts (Told order result) left b does = absurd does
+    accepts _ left b does = absurd does
 
     did : is_member k.frame.core.members node.me ≡ false → (slot : ℕ) × DidAccept begun k.frame (is.are k.frame k.is_frame) node.me mail.from slot k.r k.place
     did left = accepts mail.body left says k.row.does
@@ -236,21 +224,7 @@ module _ (begun : Requests) (set : Setting) (is : IsSetting set) (node : NodeSta
   aside_turns : (body : MailBody) → mail.body ≡ body → IsAsideBody begun set mail.from mail.to body → Turns
   aside_turns (Request group client seq op) e a = request_turns group client seq op e a
   aside_turns (Answer group seq answer) e a = absurd (not_client a.client seq a.op a.is_begun (sym to ∙ a.to_is))
-  aside_turns (Prepare group ballot from_slot) e a = absurd a
-  aside_turns (Promise group ballot reports) e a = absurd a
-  aside_turns (Accept group ballot slot command) e a = absurd a
-  aside_turns (Accepted group ballot slot) e a = absurd a
-  aside_turns (Nack group promised) e a = absurd a
-  aside_turns (Learn group slot command) e a = absurd a
-  aside_turns (Ask group from_slot) e a = absurd a
-  aside_turns (Install group slot base sets) e a = absurd a
-  aside_turns (TxPrepare tx offer) e a = absurd a
-  aside_turns (TxVote tx coord part vote) e a = absurd a
-  aside_turns (TxOutcome tx part outcome) e a = absurd a
-  aside_turns (TxElsewhere tx coord hint) e a = absurd a
-  aside_turns (TxWatch tx watch) e a = absurd a
-  aside_turns (TxWatched tx coord part vote) e a = absurd a
-  aside_turns (Told order result) e a = absurd a
+  aside_turns _ e a = absurd a
 
   -- a replica of a group that stands takes it, or one steps aside
   pub turns : IsCalmMail begun set mail → Turns

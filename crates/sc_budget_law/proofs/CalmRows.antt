@@ -49,16 +49,7 @@ module _ (ways : Ways) (begun : Requests) (frame : Frame) (is : IsFrame frame) (
     holds = ap (λ (c : Core). holds_key c.arc (key_of op)) e ∙ p.held;
   }
   served_call core Noop e p = absurd p
-  served_call core (Join node order) e p = absurd p
-  served_call core (Leave node order) e p = absurd p
-  served_call core (Split at child order) e p = absurd p
-  served_call core (Begin tx body order) e p = absurd p
-  served_call core (Prepared tx offer) e p = absurd p
-  served_call core (RecordVote tx vote by) e p = absurd p
-  served_call core (GiveUp tx) e p = absurd p
-  served_call core (Finish tx outcome) e p = absurd p
-  served_call core (Watched tx watch) e p = absurd p
-  served_call core (RecordWatch tx vote by) e p = absurd p
+  served_call core _ e p = absurd p
 
   module _ (r : ReplicaState) (p : IsPlainReplica begun frame frame.lead r) (k : IsLeading begun frame r) where
     pub may_pump : MayPump r
@@ -91,12 +82,9 @@ module _ (ways : Ways) (begun : Requests) (frame : Frame) (is : IsFrame frame) (
       }
 
   answer_some : (group : Draw) (answer : AnswerBody) → 1 ≤ answer_owes ways group answer
-  answer_some group (Says.Value reply) = omega arith
-  answer_some group (Says.NotMine arc succ) = omega arith
-  answer_some group (Says.Gone into) = omega arith
   answer_some group (Says.NotLeader (Some node)) = omega arith
   answer_some group (Says.NotLeader None) = omega arith
-  answer_some group (Says.Stale last) = omega arith
+  answer_some group _ = omega arith
 
   ignored : (me from seq : ℕ) (group : Draw) (answer : AnswerBody) (r : ReplicaState) → Lowers ways from (Answer group seq answer) (r, [])
   unfolding mailed
@@ -119,18 +107,7 @@ module _ (ways : Ways) (begun : Requests) (frame : Frame) (is : IsFrame frame) (
         let f = following_at begun frame is me r b.1.to_in b.1.other k in
         subst (λ (x : Command). Lowers ways from (Learn group slot x) (r, [])) (sym c.3) (learns ways from group slot (Call c.0 c.1 c.2) (r, []) (follows me c.0 c.1 c.2 r f.0 f.1 call) (omega (arith, due)))
     plain_lowers me from (Answer group seq answer) r k b due = ignored me from seq group answer r
-    plain_lowers me from (Prepare group ballot from_slot) r k b due = absurd b
-    plain_lowers me from (Promise group ballot reports) r k b due = absurd b
-    plain_lowers me from (Nack group promised) r k b due = absurd b
-    plain_lowers me from (Ask group from_slot) r k b due = absurd b
-    plain_lowers me from (Install group slot base sets) r k b due = absurd b
-    plain_lowers me from (TxPrepare tx offer) r k b due = absurd b
-    plain_lowers me from (TxVote tx coord part vote) r k b due = absurd b
-    plain_lowers me from (TxOutcome tx part outcome) r k b due = absurd b
-    plain_lowers me from (TxElsewhere tx coord hint) r k b due = absurd b
-    plain_lowers me from (TxWatch tx watch) r k b due = absurd b
-    plain_lowers me from (TxWatched tx coord part vote) r k b due = absurd b
-    plain_lowers me from (Told order result) r k b due = absurd b
+    plain_lowers me from _ r k b due = absurd b
 
 pub mail_lowers : AsksLower → AnswersLower → LearnsLower → CallVotesLower → RequestsLower
 mail_lowers asks answers learns votes = record {

@@ -210,27 +210,12 @@ module _ (frames : List Frame) (round : IsRound frames) (asks : Asks) where
       pub does : DidIgnore client mail after ⊎ (DidAsk after ⊎ DidEnd after)
 
     some_owed : (body : MailBody) → 1 ≤ body_owes body
-    some_owed (Request group to_ seq op) = omega arith
     some_owed (Answer group seq (Value reply)) = omega arith
     some_owed (Answer group seq (NotMine arc succ)) = omega arith
     some_owed (Answer group seq (NotLeader hint)) = omega arith
     some_owed (Answer group seq (Gone into)) = omega arith
     some_owed (Answer group seq (Stale last)) = omega arith
-    some_owed (Prepare group ballot from_slot) = omega arith
-    some_owed (Promise group ballot reports) = omega arith
-    some_owed (Accept group ballot slot command) = omega arith
-    some_owed (Accepted group ballot slot) = omega arith
-    some_owed (Nack group promised) = omega arith
-    some_owed (Learn group slot command) = omega arith
-    some_owed (Ask group from_slot) = omega arith
-    some_owed (Install group slot base sets) = omega arith
-    some_owed (TxPrepare tx offer) = omega arith
-    some_owed (TxVote tx coord part vote) = omega arith
-    some_owed (TxOutcome tx part outcome) = omega arith
-    some_owed (TxElsewhere tx coord hint) = omega arith
-    some_owed (TxWatch tx watch) = omega arith
-    some_owed (TxWatched tx coord part vote) = omega arith
-    some_owed (Told order result) = omega arith
+    some_owed _ = omega arith
 
     ignores : ((seq : ℕ) → client.waiting ≡ Some seq → (group : Draw) (reply : Reply) → mail.body ≡ Answer group seq (Value reply) → ⊥)
         → ((seq target : ℕ) (group : Draw) → client.waiting ≡ Some seq → client.asked ≡ Some (group, target) → (arc : Arc) (succ : Link) → mail.from ≡ target → mail.body ≡ Answer group seq (NotMine arc succ) → ⊥) → TakesMail (client, [])
@@ -369,22 +354,7 @@ module _ (frames : List Frame) (round : IsRound frames) (asks : Asks) where
 
     takes_by : (body : MailBody) → mail.body ≡ body → TakesMail (got mail.from body client)
     takes_by (Answer group seq answer) e = answered_by group seq answer e k.state
-    takes_by (Request group to_ seq op) e = other_mail (λ g n a b. cc)
-    takes_by (Prepare group ballot from_slot) e = other_mail (λ g n a b. cc)
-    takes_by (Promise group ballot reports) e = other_mail (λ g n a b. cc)
-    takes_by (Accept group ballot slot command) e = other_mail (λ g n a b. cc)
-    takes_by (Accepted group ballot slot) e = other_mail (λ g n a b. cc)
-    takes_by (Nack group promised) e = other_mail (λ g n a b. cc)
-    takes_by (Learn group slot command) e = other_mail (λ g n a b. cc)
-    takes_by (Ask group from_slot) e = other_mail (λ g n a b. cc)
-    takes_by (Install group slot base sets) e = other_mail (λ g n a b. cc)
-    takes_by (TxPrepare tx offer) e = other_mail (λ g n a b. cc)
-    takes_by (TxVote tx coord part vote) e = other_mail (λ g n a b. cc)
-    takes_by (TxOutcome tx part outcome) e = other_mail (λ g n a b. cc)
-    takes_by (TxElsewhere tx coord hint) e = other_mail (λ g n a b. cc)
-    takes_by (TxWatch tx watch) e = other_mail (λ g n a b. cc)
-    takes_by (TxWatched tx coord part vote) e = other_mail (λ g n a b. cc)
-    takes_by (Told order result) e = other_mail (λ g n a b. cc)
+    takes_by _ e = other_mail (λ g n a b. cc)
 
     -- what a client does with a mail
     pub client_row : TakesMail (table client (Got mail))

@@ -53,27 +53,12 @@ far_from_last words scenario bounded = (let few = birth_few scenario bounded wor
 
 -- each mail owes something
 pub some_owed : (body : MailBody) → 1 ≤ body_owes body
-some_owed (Request group to seq op) = omega arith
 some_owed (Answer group seq (Value reply)) = omega arith
 some_owed (Answer group seq (NotMine arc succ)) = omega arith
 some_owed (Answer group seq (NotLeader hint)) = omega arith
 some_owed (Answer group seq (Gone into)) = omega arith
 some_owed (Answer group seq (Stale last)) = omega arith
-some_owed (Prepare group ballot from_slot) = omega arith
-some_owed (Promise group ballot reports) = omega arith
-some_owed (Accept group ballot slot command) = omega arith
-some_owed (Accepted group ballot slot) = omega arith
-some_owed (Nack group promised) = omega arith
-some_owed (Learn group slot command) = omega arith
-some_owed (Ask group from_slot) = omega arith
-some_owed (Install group slot base sets) = omega arith
-some_owed (TxPrepare tx offer) = omega arith
-some_owed (TxVote tx coord part vote) = omega arith
-some_owed (TxOutcome tx part outcome) = omega arith
-some_owed (TxElsewhere tx coord hint) = omega arith
-some_owed (TxWatch tx watch) = omega arith
-some_owed (TxWatched tx coord part vote) = omega arith
-some_owed (ToldMail order result) = omega arith
+some_owed _ = omega arith
 
 pub ends_quiet : ValidScenariosAreBounded → PlainLinesEndQuiet
 ends_quiet all_bounded words scenario journal valid at lawful =

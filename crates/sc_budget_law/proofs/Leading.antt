@@ -145,17 +145,7 @@ NoAct c = is_act c ≡ false
 
 pub plain_acts : (begun : Requests) (frame : Frame) (c : Command) → IsPlainCommand begun frame c → is_act c ≡ false
 plain_acts begun frame (Call client seq op) p = refl
-plain_acts begun frame Noop p = absurd p
-plain_acts begun frame (Join node order) p = absurd p
-plain_acts begun frame (Leave node order) p = absurd p
-plain_acts begun frame (Split at child order) p = absurd p
-plain_acts begun frame (Begin tx body order) p = absurd p
-plain_acts begun frame (Prepared tx offer) p = absurd p
-plain_acts begun frame (RecordVote tx vote by) p = absurd p
-plain_acts begun frame (GiveUp tx) p = absurd p
-plain_acts begun frame (Finish tx outcome) p = absurd p
-plain_acts begun frame (Watched tx watch) p = absurd p
-plain_acts begun frame (RecordWatch tx vote by) p = absurd p
+plain_acts begun frame _ p = absurd p
 
 module _ (begun : Requests) (frame : Frame) (taken : ℕ) (r : ReplicaState) (k : IsPlainLeader begun frame taken r) where
   one_plain : (slot : ℕ) (o : Option (Flight Command)) (p : Option Command) → flight_at slot r.leader.flights ≡ o → at_slot r.ready slot ≡ p

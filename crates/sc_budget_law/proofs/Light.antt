@@ -80,18 +80,7 @@ module _ (words : ℕ → ℕ → ℕ × ℕ) (scenario : Scenario) (stage : IsS
   body_born rows frame a from to (Accept group ballot slot command) b = slot_born frame a slot to b.2.to_in
   body_born rows frame a from to (Accepted group ballot slot) b = lead_born frame a to b.2
   body_born rows frame a from to (Learn group slot command) b = member_born frame a to b.1.to_in
-  body_born rows frame a from to (Prepare group ballot from_slot) b = absurd b
-  body_born rows frame a from to (Promise group ballot reports) b = absurd b
-  body_born rows frame a from to (Nack group promised) b = absurd b
-  body_born rows frame a from to (Ask group from_slot) b = absurd b
-  body_born rows frame a from to (Install group slot base sets) b = absurd b
-  body_born rows frame a from to (TxPrepare tx offer) b = absurd b
-  body_born rows frame a from to (TxVote tx coord part vote) b = absurd b
-  body_born rows frame a from to (TxOutcome tx part outcome) b = absurd b
-  body_born rows frame a from to (TxElsewhere tx coord hint) b = absurd b
-  body_born rows frame a from to (TxWatch tx watch) b = absurd b
-  body_born rows frame a from to (TxWatched tx coord part vote) b = absurd b
-  body_born rows frame a from to (ToldMail order result) b = absurd b
+  body_born rows frame a from to _ b = absurd b
 
 -- ---- a schedule in which clients only go
 

@@ -35,18 +35,7 @@ module _ (begun : Requests) (frames : List Frame) (are : (frame : Frame) → Amo
   for_node frame is from to (Accepted group ballot slot) b n = (let m = to_lead frame is to b.2 in record { may = is.nodes slot from b.3; group = ap Some b.0; slot = m.0; member = m.1 })
   for_node frame is from to (Learn group slot command) b n = (let m = to_member frame is to b.1.to_in in record { may = lead_node frame is from b.1.from_is; group = ap Some b.0; slot = m.0; member = m.1 })
   for_node frame is from to (Answer group seq answer) b n = absurd (n b.1.client seq b.1.op b.1.is_begun b.1.to_is)
-  for_node frame is from to (Prepare group ballot from_slot) b n = absurd b
-  for_node frame is from to (Promise group ballot reports) b n = absurd b
-  for_node frame is from to (Nack group promised) b n = absurd b
-  for_node frame is from to (Ask group from_slot) b n = absurd b
-  for_node frame is from to (Install group slot base sets) b n = absurd b
-  for_node frame is from to (TxPrepare tx offer) b n = absurd b
-  for_node frame is from to (TxVote tx coord part vote) b n = absurd b
-  for_node frame is from to (TxOutcome tx part outcome) b n = absurd b
-  for_node frame is from to (TxElsewhere tx coord hint) b n = absurd b
-  for_node frame is from to (TxWatch tx watch) b n = absurd b
-  for_node frame is from to (TxWatched tx coord part vote) b n = absurd b
-  for_node frame is from to (Told order result) b n = absurd b
+  for_node frame is from to _ b n = absurd b
 
   -- ---- the step
 

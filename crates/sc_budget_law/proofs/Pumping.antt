@@ -254,17 +254,7 @@ module _ (begun : Requests) (frame : Frame) (is : IsFrame frame) (first free : �
   -- what is under way here is a call
   pub call_is : (command : Command) → IsPlainCommand begun frame command → (client : ℕ) × (seq : ℕ) × (op : Op) × (command ≡ Call client seq op)
   call_is (Call client seq op) p = (client, seq, op, refl)
-  call_is Noop p = absurd p
-  call_is (Join node order) p = absurd p
-  call_is (Leave node order) p = absurd p
-  call_is (Split at child order) p = absurd p
-  call_is (Begin tx _ order) p = absurd p
-  call_is (Prepared tx offer) p = absurd p
-  call_is (RecordVote tx vote by) p = absurd p
-  call_is (GiveUp tx) p = absurd p
-  call_is (Finish tx outcome) p = absurd p
-  call_is (Watched tx watch) p = absurd p
-  call_is (RecordWatch tx vote by) p = absurd p
+  call_is _ p = absurd p
 
   turned : (slot taken : ℕ) (sets : List (List ℕ)) (r : ReplicaState) (mails : List Mail) (client seq : ℕ) (op : Op) (rest : List Command) → slot ≡ next r + taken → taken < slots_ahead → r.calls ≡ Call client seq op ∷ rest → L taken (r, mails)
       → ((place : Place) → next place.0 ≡ next r → L (taken + 1) place → IsPumped place (pumped_from (slot + 1) sets place))

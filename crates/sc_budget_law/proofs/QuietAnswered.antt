@@ -199,14 +199,7 @@ first_delivery (line_ ∷ lines) e = by (delivers line_) refl e (first_delivery 
 pub many_line : (line_ : SchedLine) → delivers line_ ≡ true → IsManyLine (line_of line_)
 many_line (Settle most) e = tt
 many_line (Free most workers) e = tt
-many_line (Go client) e = cc
-many_line (Deliver who k) e = cc
-many_line (Drop who k) e = cc
-many_line (Again mail) e = cc
-many_line (Tick who) e = cc
-many_line (Crash node) e = cc
-many_line (Told node order) e = cc
-many_line (Storm number most) e = cc
+many_line _ e = cc
 
 -- each request of a client that goes before a line of deliveries is answered in a whole journal
 pub all_answered : ValidScenariosAreBounded → PlainLinesEndQuiet → PlainRequestsAreAnswered

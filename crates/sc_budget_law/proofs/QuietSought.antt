@@ -46,19 +46,7 @@ does_holds begun frame is me r from (Request group client seq op) place lead doe
 does_holds begun frame is me r from (Accept group ballot slot command) place lead does c n h = inl (does.held c n h)
 does_holds begun frame is me r from (Accepted group ballot slot) place lead does c n h = does.1.counted.run.leads.calls c n h
 does_holds begun frame is me r from (Learn group slot command) place lead does c n h = absurd (does.follows lead)
-does_holds begun frame is me r from (Answer group seq answer) place lead does c n h = absurd does
-does_holds begun frame is me r from (Prepare group ballot from_slot) place lead does c n h = absurd does
-does_holds begun frame is me r from (Promise group ballot reports) place lead does c n h = absurd does
-does_holds begun frame is me r from (Nack group promised) place lead does c n h = absurd does
-does_holds begun frame is me r from (Ask group from_slot) place lead does c n h = absurd does
-does_holds begun frame is me r from (Install group slot base sets) place lead does c n h = absurd does
-does_holds begun frame is me r from (TxPrepare tx offer) place lead does c n h = absurd does
-does_holds begun frame is me r from (TxVote tx coord part vote) place lead does c n h = absurd does
-does_holds begun frame is me r from (TxOutcome tx part outcome) place lead does c n h = absurd does
-does_holds begun frame is me r from (TxElsewhere tx coord hint) place lead does c n h = absurd does
-does_holds begun frame is me r from (TxWatch tx watch) place lead does c n h = absurd does
-does_holds begun frame is me r from (TxWatched tx coord part vote) place lead does c n h = absurd does
-does_holds begun frame is me r from (Told order result) place lead does c n h = absurd does
+does_holds begun frame is me r from _ place lead does c n h = absurd does
 
 module _ (words : ℕ → ℕ → ℕ × ℕ) (scenario : Scenario) where
   abbrev left : Journal → ℕ → List Mail

@@ -134,11 +134,7 @@ module _ (words : ℕ → ℕ → ℕ × ℕ) (scenario : Scenario) (stage : IsS
       node_sought : (event : Event OrderLine) → IsInOrder (system_of as_nodes words scenario) rows me event → AreSought (rows ++ row_of player_table (node_seat as_nodes scenario.groups scenario.policy me) rows event ∷ [])
       node_sought (Deliver number) fine = node_turn number fine
       node_sought Go fine = node_go fine
-      node_sought Tick fine = absurd fine
-      node_sought (Told order) fine = absurd fine
-      node_sought Crash fine = absurd fine
-      node_sought (Drop number) fine = absurd fine
-      node_sought (Again number) fine = absurd fine
+      node_sought _ fine = absurd fine
 
     -- ---- rows of clients
 
@@ -303,11 +299,7 @@ module _ (words : ℕ → ℕ → ℕ × ℕ) (scenario : Scenario) (stage : IsS
           → AreSought (rows ++ row_of player_table (client_seat (route_of stage.first) mine) rows event ∷ [])
       client_sought (Deliver number) fine then_ = client_turn number fine then_
       client_sought Go fine then_ = client_go fine then_
-      client_sought Tick fine then_ = absurd fine
-      client_sought (Told order) fine then_ = absurd fine
-      client_sought Crash fine then_ = absurd fine
-      client_sought (Drop number) fine then_ = absurd fine
-      client_sought (Again number) fine then_ = absurd fine
+      client_sought _ fine then_ = absurd fine
 
     -- ---- each row
 

@@ -234,15 +234,4 @@ module _ (begun : Requests) (frame : Frame) (is : IsFrame frame) where
         let follows = following_at me r b.1.to_in b.1.other k in
         subst (λ (x : Command). Row me r from (Learn group slot x)) (sym c.3) (learn_follower me group slot c.0 c.1 c.2 follows.0 follows.1 b.1.other plain due)
     replica_row me (Answer group seq answer) k b due not_client = absurd (not_client b.1.client seq b.1.op b.1.is_begun b.1.to_is)
-    replica_row me (Prepare group ballot from_slot) k b due not_client = absurd b
-    replica_row me (Promise group ballot reports) k b due not_client = absurd b
-    replica_row me (Nack group promised) k b due not_client = absurd b
-    replica_row me (Ask group from_slot) k b due not_client = absurd b
-    replica_row me (Install group slot base sets) k b due not_client = absurd b
-    replica_row me (TxPrepare tx offer) k b due not_client = absurd b
-    replica_row me (TxVote tx coord part vote) k b due not_client = absurd b
-    replica_row me (TxOutcome tx part outcome) k b due not_client = absurd b
-    replica_row me (TxElsewhere tx coord hint) k b due not_client = absurd b
-    replica_row me (TxWatch tx watch) k b due not_client = absurd b
-    replica_row me (TxWatched tx coord part vote) k b due not_client = absurd b
-    replica_row me (Told order result) k b due not_client = absurd b
+    replica_row me _ k b due not_client = absurd b

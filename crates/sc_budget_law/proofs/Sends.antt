@@ -19,22 +19,7 @@ use Rattle.sc_budget_law.proofs.Counts.{one_yes, one_no, count-cons}
 -- the slot that a Learn of a group names
 abbrev pub learns_of : Draw → MailBody → List ℕ
 learns_of name (Learn group slot command) = cond (same_draw group name) (slot ∷ []) []
-learns_of name (Request group client seq op) = []
-learns_of name (Answer group seq answer) = []
-learns_of name (Prepare group ballot from_slot) = []
-learns_of name (Promise group ballot reports) = []
-learns_of name (Accept group ballot slot command) = []
-learns_of name (Accepted group ballot slot) = []
-learns_of name (Nack group promised) = []
-learns_of name (Ask group from_slot) = []
-learns_of name (Install group slot base sets) = []
-learns_of name (TxPrepare tx offer) = []
-learns_of name (TxVote tx coord part vote) = []
-learns_of name (TxOutcome tx part outcome) = []
-learns_of name (TxElsewhere tx coord hint) = []
-learns_of name (TxWatch tx watch) = []
-learns_of name (TxWatched tx coord part vote) = []
-learns_of name (Told order result) = []
+learns_of name _ = []
 
 -- .. where the mail is for this actor
 abbrev pub learns_for : Draw → ℕ → Mail → List ℕ

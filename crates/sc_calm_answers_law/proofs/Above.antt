@@ -20,19 +20,11 @@ above-append top (d ∷ xs) ys f g = (f.0, above-append (top_by top d.0) xs ys f
 -- it never falls, and stays below the bound by what is known
 pub top_up : (top : ℕ) (mark : Mark) → top ≤ top_by top mark
 top_up top (Asks ballot slot) = omega arith
-top_up top (Votes node ballot slot) = omega arith
-top_up top (Tells slot) = omega arith
-top_up top (Installs slot) = omega arith
-top_up top (Prepares ballot) = omega arith
-top_up top (Promises node ballot) = omega arith
+top_up top _ = omega arith
 
 top_known : (course : Course) (top : ℕ) (mark : Mark) → top ≤ course.bound → IsKnown course mark → top_by top mark ≤ course.bound
 top_known course top (Asks ballot slot) low known = omega (arith, low, known)
-top_known course top (Votes node ballot slot) low known = low
-top_known course top (Tells slot) low known = low
-top_known course top (Installs slot) low known = low
-top_known course top (Prepares ballot) low known = low
-top_known course top (Promises node ballot) low known = low
+top_known course top _ low known = low
 
 tops_known : (course : Course) (top : ℕ) (dated : List Dated) → top ≤ course.bound → Each (IsKnown course) (marks_in dated) → tops_by top dated ≤ course.bound
 tops_known course top [] low known = low
@@ -40,12 +32,8 @@ tops_known course top (d ∷ dated) low known = tops_known course (top_by top d.
 
 -- votes and promises ask for nothing
 count_above : (top from : ℕ) (mark : Mark) → IsCount mark → IsAbove top mark from
-count_above top from (Votes node ballot slot) c = tt
-count_above top from (Promises node ballot) c = tt
-count_above top from (Asks ballot slot) c = tt
-count_above top from (Tells slot) c = tt
-count_above top from (Installs slot) c = tt
 count_above top from (Prepares ballot) c = absurd c
+count_above top from _ c = tt
 
 counts_above : (top : ℕ) (dated : List Dated) → Each IsCount (marks_in dated) → AreAbove top dated
 counts_above top [] e = tt
@@ -53,12 +41,8 @@ counts_above top (d ∷ dated) e = (count_above top d.1 d.0 e.0, counts_above (t
 
 -- what is offered asks for no promise
 offer_above : (at : Sets) (course : Course) (bound who top from : ℕ) (mark : Mark) → IsOffer at course bound who mark → IsAbove top mark from
-offer_above at course bound who top from (Asks ballot slot) o = tt
-offer_above at course bound who top from (Votes node ballot slot) o = tt
-offer_above at course bound who top from (Tells slot) o = tt
-offer_above at course bound who top from (Installs slot) o = tt
 offer_above at course bound who top from (Prepares ballot) o = absurd o
-offer_above at course bound who top from (Promises node ballot) o = tt
+offer_above at course bound who top from _ o = tt
 
 offers_above : (at : Sets) (course : Course) (bound who top : ℕ) (dated : List Dated) → Each (IsOffer at course bound who) (marks_in dated) → AreAbove top dated
 offers_above at course bound who top [] e = tt
@@ -204,10 +188,6 @@ elects_asked bound (d ∷ []) e k top most = (above_at d.0 d.1 e.0, tt)
   where
     above_at : (mark : Mark) (from : ℕ) → bound ≤ from → IsAbove top mark from
     above_at (Prepares ballot) from least = omega (arith, most, least)
-    above_at (Asks ballot slot) from least = tt
-    above_at (Votes node ballot slot) from least = tt
-    above_at (Tells slot) from least = tt
-    above_at (Installs slot) from least = tt
-    above_at (Promises node ballot) from least = tt
+    above_at _ from least = tt
 elects_asked bound (d ∷ other ∷ sent) e (inl k) top most = cc
 elects_asked bound (d ∷ other ∷ sent) e (inr k) top most = (let bad = k.1 in cc)

@@ -113,19 +113,9 @@ module _ (P : Report Command → Type 0) where
   heard who (Accept group other slot command) f = absurd f
   heard who (Nack group promised) f = absurd f
   heard who (Promise group other reports) f = subst (Each (IsReported None_ Any)) (sym f) tt
-  heard who (Accepted group other slot) f = tt
   heard who (Learn group slot command) f = (tt, tt)
   heard who (Install group slot base sets) f = (tt, tt)
-  heard who (Ask group from_slot) f = tt
-  heard who (Request group client seq op) f = tt
-  heard who (Answer group seq answer) f = tt
-  heard who (TxPrepare tx offer) f = tt
-  heard who (TxVote tx coord part vote) f = tt
-  heard who (TxOutcome tx part outcome) f = tt
-  heard who (TxElsewhere tx coord hint) f = tt
-  heard who (TxWatch tx watch) f = tt
-  heard who (TxWatched tx coord part vote) f = tt
-  heard who (Told order result) f = tt
+  heard who _ f = tt
 
   abbrev pub RestsAt : ReplicaState → Type 0
   RestsAt r = Each P r.acceptor.accepted × (r.leader.reports ≡ [])

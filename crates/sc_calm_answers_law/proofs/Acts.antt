@@ -17,16 +17,7 @@ IsWork command = (work : Work) × (work_by command ≡ Some work)
 act_works : (command : Command) → is_act command ≡ true → IsWork command
 act_works Noop e = absurd (true≢false (sym e))
 act_works (Call client seq op) e = absurd (true≢false (sym e))
-act_works (Join node order) e = (_, refl)
-act_works (Leave node order) e = (_, refl)
-act_works (Split at child order) e = (_, refl)
-act_works (Begin tx body order) e = (_, refl)
-act_works (Prepared tx offer) e = (_, refl)
-act_works (RecordVote tx vote by) e = (_, refl)
-act_works (GiveUp tx) e = (_, refl)
-act_works (Finish tx outcome) e = (_, refl)
-act_works (Watched tx watch) e = (_, refl)
-act_works (RecordWatch tx vote by) e = (_, refl)
+act_works _ e = (_, refl)
 
 listed_among : (work : Work) (o : Option Work) → o ≡ Some work → Among work (listed o)
 listed_among work None e = cc

@@ -136,15 +136,7 @@ module _ (words : ℕ → ℕ → ℕ × ℕ) (at : Sets) (over : Ends) (by : Te
             let body : mail.body ≡ Nack name promised = e ∙ ap (λ n. Nack n promised) (own_name g (ap group_of_mail e)) in
             aside (subst (IsAside r) (sym body) (so.nacks rows seat number mail promised r t.delivers body view))
         moves (Ask g from_slot) e = absurd (so.asks rows seat number mail from_slot t.delivers (e ∙ ap (λ n. Ask n from_slot) (own_name g (ap group_of_mail e))))
-        moves (Request g client seq op) e = aside (subst (IsAside r) (sym e) tt)
-        moves (TxPrepare tx offer) e = aside (subst (IsAside r) (sym e) tt)
-        moves (TxVote tx coord part vote) e = aside (subst (IsAside r) (sym e) tt)
-        moves (TxOutcome tx part outcome) e = aside (subst (IsAside r) (sym e) tt)
-        moves (TxElsewhere tx coord hint) e = aside (subst (IsAside r) (sym e) tt)
-        moves (TxWatch tx watch) e = aside (subst (IsAside r) (sym e) tt)
-        moves (TxWatched tx coord part vote) e = aside (subst (IsAside r) (sym e) tt)
-        moves (Answer g seq answer) e = aside (subst (IsAside r) (sym e) tt)
-        moves (ToldMail order result) e = aside (subst (IsAside r) (sym e) tt)
+        moves _ e = aside (subst (IsAside r) (sym e) tt)
 
     -- ---- what it accepts by it
 
@@ -175,18 +167,7 @@ module _ (words : ℕ → ℕ → ℕ × ℕ) (at : Sets) (over : Ends) (by : Te
           let body : mail.body ≡ Promise name ballot reports = e ∙ ap (λ n. Promise n ballot reports) (own_name g (ap group_of_mail e)) in
           plainly k (subst (IsPlainMail Below) (sym e) (so.plain rows seat number mail ballot reports t.delivers body))
       accepts (Accepted g ballot slot) e k = plainly k (subst (IsPlainMail Below) (sym e) tt)
-      accepts (Learn g slot command) e k = plainly k (subst (IsPlainMail Below) (sym e) tt)
-      accepts (Install g slot state sets) e k = plainly k (subst (IsPlainMail Below) (sym e) tt)
-      accepts (Ask g from_slot) e k = plainly k (subst (IsPlainMail Below) (sym e) tt)
-      accepts (Request g client seq op) e k = plainly k (subst (IsPlainMail Below) (sym e) tt)
-      accepts (TxPrepare tx offer) e k = plainly k (subst (IsPlainMail Below) (sym e) tt)
-      accepts (TxVote tx coord part vote) e k = plainly k (subst (IsPlainMail Below) (sym e) tt)
-      accepts (TxOutcome tx part outcome) e k = plainly k (subst (IsPlainMail Below) (sym e) tt)
-      accepts (TxElsewhere tx coord hint) e k = plainly k (subst (IsPlainMail Below) (sym e) tt)
-      accepts (TxWatch tx watch) e k = plainly k (subst (IsPlainMail Below) (sym e) tt)
-      accepts (TxWatched tx coord part vote) e k = plainly k (subst (IsPlainMail Below) (sym e) tt)
-      accepts (Answer g seq answer) e k = plainly k (subst (IsPlainMail Below) (sym e) tt)
-      accepts (ToldMail order result) e k = plainly k (subst (IsPlainMail Below) (sym e) tt)
+      accepts _ e k = plainly k (subst (IsPlainMail Below) (sym e) tt)
 
   -- ---- a leader's row
 

@@ -32,16 +32,7 @@ use Rattle.sc_calm_answers_law.proofs.Frames.{nodes_numbered}
 call_works : (begun : Requests) (frame : Frame) (command : Command) → IsPlainCommand begun frame command → work_by command ≡ None
 call_works begun frame (Call client seq op) p = refl
 call_works begun frame Noop p = refl
-call_works begun frame (Join node order) p = absurd p
-call_works begun frame (Leave node order) p = absurd p
-call_works begun frame (Split at child order) p = absurd p
-call_works begun frame (Begin tx body order) p = absurd p
-call_works begun frame (Prepared tx offer) p = absurd p
-call_works begun frame (RecordVote tx vote by) p = absurd p
-call_works begun frame (GiveUp tx) p = absurd p
-call_works begun frame (Finish tx outcome) p = absurd p
-call_works begun frame (Watched tx watch) p = absurd p
-call_works begun frame (RecordWatch tx vote by) p = absurd p
+call_works begun frame _ p = absurd p
 
 calls_work : (begun : Requests) (frame : Frame) (calls : List Command) → Each (IsPlainCommand begun frame) calls → works_in calls ≡ []
 calls_work begun frame [] p = refl

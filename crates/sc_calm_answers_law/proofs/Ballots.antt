@@ -80,19 +80,9 @@ module _ (most : Ballot) where
   heard who (Accept group other slot command) f = absurd f
   heard who (Nack group promised) f = absurd f
   heard who (Promise group other reports) f = subst (Each (IsReported None_ Any)) (sym f) tt
-  heard who (Accepted group other slot) f = tt
   heard who (Learn group slot command) f = (tt, tt)
   heard who (Install group slot base sets) f = (tt, tt)
-  heard who (Ask group from_slot) f = tt
-  heard who (Request group client seq op) f = tt
-  heard who (Answer group seq answer) f = tt
-  heard who (TxPrepare tx offer) f = tt
-  heard who (TxVote tx coord part vote) f = tt
-  heard who (TxOutcome tx part outcome) f = tt
-  heard who (TxElsewhere tx coord hint) f = tt
-  heard who (TxWatch tx watch) f = tt
-  heard who (TxWatched tx coord part vote) f = tt
-  heard who (Told order result) f = tt
+  heard who _ f = tt
 
 -- it saw no later ballot than before, or it has elected itself
 pub mail_sees : (who from : ℕ) (body : MailBody) (r : ReplicaState) → IsPlainlyKept who r → IsPlainMail All_ body → IsAtLeast r.top (mailed from body (r, [])).0.0.top ⊎ ((mailed from body (r, [])).0.0.leader.ballot ≡ (mailed from body (r, [])).0.0.top)

@@ -63,17 +63,7 @@ told_body name from slot (Accepted g ballot other) e = absurd (no_tell (same_dra
 told_body name from slot (Install g other base sets) e = absurd (no_tell (same_draw g name) (Installs other) slot (λ f. cc) e)
 told_body name from slot (Prepare g ballot other) e = absurd (no_tell (same_draw g name) (Prepares ballot) slot (λ f. cc) e)
 told_body name from slot (Promise g ballot reports) e = absurd (no_tell (same_draw g name) (Promises from ballot) slot (λ f. cc) e)
-told_body name from slot (Nack g promised) e = absurd (none-some (Tells slot) e)
-told_body name from slot (Ask g other) e = absurd (none-some (Tells slot) e)
-told_body name from slot (Request g client seq op) e = absurd (none-some (Tells slot) e)
-told_body name from slot (Answer g seq answer) e = absurd (none-some (Tells slot) e)
-told_body name from slot (TxPrepare tx offer) e = absurd (none-some (Tells slot) e)
-told_body name from slot (TxVote tx coord part vote) e = absurd (none-some (Tells slot) e)
-told_body name from slot (TxOutcome tx part outcome) e = absurd (none-some (Tells slot) e)
-told_body name from slot (TxElsewhere tx coord hint) e = absurd (none-some (Tells slot) e)
-told_body name from slot (TxWatch tx watch) e = absurd (none-some (Tells slot) e)
-told_body name from slot (TxWatched tx coord part vote) e = absurd (none-some (Tells slot) e)
-told_body name from slot (ToldMail order result) e = absurd (none-some (Tells slot) e)
+told_body name from slot _ e = absurd (none-some (Tells slot) e)
 
 past_next : (low slot high : ℕ) → low ≤ slot → slot < high → high ≡ low → ⊥
 past_next low slot high least most same = omega (arith, least, most, same)
@@ -232,15 +222,7 @@ module _ (bear : EntriesBearChildren) (words : ℕ → ℕ → ℕ × ℕ) (scen
         by_body (Nack g promised) e =
             aside (subst (IsAside r) (sym e) (so.nacks rows seat number mail promised r d (e ∙ ap (λ n. Nack n promised) (some_is g (sym (ap group_of_mail e) ∙ named))) (view_of r here)))
         by_body (Ask g from_slot) e = absurd (so.asks rows seat number mail from_slot d (e ∙ ap (λ n. Ask n from_slot) (some_is g (sym (ap group_of_mail e) ∙ named))))
-        by_body (Request g client seq op) e = aside (subst (IsAside r) (sym e) tt)
-        by_body (TxPrepare tx offer) e = aside (subst (IsAside r) (sym e) tt)
-        by_body (TxVote tx coord part vote) e = aside (subst (IsAside r) (sym e) tt)
-        by_body (TxOutcome tx part outcome) e = aside (subst (IsAside r) (sym e) tt)
-        by_body (TxElsewhere tx coord hint) e = aside (subst (IsAside r) (sym e) tt)
-        by_body (TxWatch tx watch) e = aside (subst (IsAside r) (sym e) tt)
-        by_body (TxWatched tx coord part vote) e = aside (subst (IsAside r) (sym e) tt)
-        by_body (Answer g seq answer) e = aside (subst (IsAside r) (sym e) tt)
-        by_body (ToldMail order result) e = aside (subst (IsAside r) (sym e) tt)
+        by_body _ e = aside (subst (IsAside r) (sym e) tt)
 
       own_group : group_of_mail mail.body ≡ Some base.core.id → Goal
       own_group named = elim (cases_Bool (may_come mail.from mail.body)) [
@@ -299,10 +281,7 @@ module _ (bear : EntriesBearChildren) (words : ℕ → ℕ → ℕ × ℕ) (scen
             tells_child node is number f.mail (record { row = row_e; sent = f.sent }) timely_e slot (sym (ap (mark_in name) f.sent) ∙ m) child b member
         each_player player Go is row_e calm_e timely_e m = absurd (none-some (Tells slot) m)
         each_player player (Told line) is row_e calm_e timely_e m = absurd (none-some (Tells slot) m)
-        each_player player Tick is row_e calm_e timely_e m = absurd calm_e
-        each_player player Crash is row_e calm_e timely_e m = absurd calm_e
-        each_player player (Drop mail) is row_e calm_e timely_e m = absurd calm_e
-        each_player player (Again mail) is row_e calm_e timely_e m = absurd calm_e
+        each_player player _ is row_e calm_e timely_e m = absurd calm_e
 
     -- .. and so has a leader that executes it
     pub lead_bears : (event : Event OrderLine) → IsRowOf front rows seat event → IsCalmEvent (players words (births as_nodes scenario)) rows seat.who event → AreInTime (players words (births as_nodes scenario)) (with_event rows seat event)
@@ -321,7 +300,4 @@ module _ (bear : EntriesBearChildren) (words : ℕ → ℕ → ℕ × ℕ) (scen
             by_group node is number f.mail (record { row = row_e; sent = f.sent }) r after (here node is) then_ runs counts_e slot child least most b member (group_of_mail f.mail.body) refl
         each_player (Node node) Go is row_e calm_e timely_e then_ counts_e = same_view node is Go row_e r after (here node is) then_ runs slot child least most b member (others_idle.go all_births rows seat base node born is).view
         each_player (Node node) (Told line) is row_e calm_e timely_e then_ counts_e = ordered node is line row_e r after (here node is) then_ runs slot child least most b member
-        each_player (Node node) Tick is row_e calm_e timely_e then_ counts_e = absurd calm_e
-        each_player (Node node) Crash is row_e calm_e timely_e then_ counts_e = absurd calm_e
-        each_player (Node node) (Drop mail) is row_e calm_e timely_e then_ counts_e = absurd calm_e
-        each_player (Node node) (Again mail) is row_e calm_e timely_e then_ counts_e = absurd calm_e
+        each_player (Node node) _ is row_e calm_e timely_e then_ counts_e = absurd calm_e

@@ -195,10 +195,7 @@ module _ (words : ℕ → ℕ → ℕ × ℕ) (scenario : Scenario) (first : Bas
     fresh_now (Comes.Deliver number) c input e f = absurd (is_got _ input e f)
     fresh_now Comes.Go c input e f = k.fresh c
     fresh_now (Comes.Told line) c input e f = absurd (is_told_one line input e f)
-    fresh_now Comes.Tick c input e f = absurd c
-    fresh_now Comes.Crash c input e f = absurd c
-    fresh_now (Comes.Drop mail) c input e f = absurd c
-    fresh_now (Comes.Again mail) c input e f = absurd c
+    fresh_now _ c input e f = absurd c
 
     did : IsActed k.client (input_of (mails rows) event) (acted player_table (value player_table seat rows) (input_of (mails rows) event))
     did = subst (λ p. IsActed k.client (input_of (mails rows) event) (acted player_table p (input_of (mails rows) event))) (sym k.is) (acts k.client (input_of (mails rows) event) k.waits (fresh_now event calm))
@@ -225,10 +222,7 @@ module _ (words : ℕ → ℕ → ℕ × ℕ) (scenario : Scenario) (first : Bas
         no_go (Comes.Deliver number) c s input w g = is_got _ input w g
         no_go Comes.Go c s input w g = true≢false s
         no_go (Comes.Told line) c s input w g = is_told_one line input w g
-        no_go Comes.Tick c s input w g = c
-        no_go Comes.Crash c s input w g = c
-        no_go (Comes.Drop mail) c s input w g = c
-        no_go (Comes.Again mail) c s input w g = c
+        no_go _ c s input w g = c
 
         fresh_after : has_gone (rows ++ row ∷ []) (client_actor asks.client) ≡ false → (did.after.waiting ≡ None) × (did.after.replies ≡ [])
         fresh_after f =

@@ -41,17 +41,7 @@ tells_body name from slot (Accepted group ballot other) e = (let bad : Votes fro
 tells_body name from slot (Install group other state sets) e = (let bad : Installs other ≡ Tells slot = named_is name group (Installs other) (Tells slot) e in cc)
 tells_body name from slot (Prepare group ballot other) e = (let bad : Prepares ballot ≡ Tells slot = named_is name group (Prepares ballot) (Tells slot) e in cc)
 tells_body name from slot (Promise group ballot reports) e = (let bad : Promises from ballot ≡ Tells slot = named_is name group (Promises from ballot) (Tells slot) e in cc)
-tells_body name from slot (Nack group promised) e = cc
-tells_body name from slot (Ask group other) e = cc
-tells_body name from slot (Request group client seq op) e = cc
-tells_body name from slot (Answer group seq answer) e = cc
-tells_body name from slot (TxPrepare tx offer) e = cc
-tells_body name from slot (TxVote tx coord part vote) e = cc
-tells_body name from slot (TxOutcome tx part outcome) e = cc
-tells_body name from slot (TxElsewhere tx coord hint) e = cc
-tells_body name from slot (TxWatch tx watch) e = cc
-tells_body name from slot (TxWatched tx coord part vote) e = cc
-tells_body name from slot (ToldMail order result) e = cc
+tells_body name from slot _ e = cc
 
 -- ---- a row of a replica that does not run
 
@@ -139,10 +129,6 @@ module _ (words : ℕ → ℕ → ℕ × ℕ) (births : List (Seat Player)) (row
     finds_by : (body : MailBody) → mail.body ≡ body → IsPosted births mail → IsUnsettled r body → BesideFinds mail r body
     finds_by (TxPrepare tx offer) e p u = (offers_own births mail tx offer e p, (off, u))
     finds_by (TxWatch tx watch) e p u = (watches_own births mail tx watch e p, (off, u))
-    finds_by (TxVote tx coord part vote) e p u = tt
-    finds_by (TxWatched tx coord part vote) e p u = tt
-    finds_by (TxOutcome tx part outcome) e p u = tt
-    finds_by (TxElsewhere tx coord hint) e p u = tt
     finds_by (Accept named ballot slot command) e p u = goes ballot
     finds_by (Prepare named ballot from_slot) e p u = goes ballot
     finds_by (Nack named ballot) e p u = goes ballot
@@ -150,10 +136,8 @@ module _ (words : ℕ → ℕ → ℕ × ℕ) (births : List (Seat Player)) (row
     finds_by (Accepted named ballot slot) e p u = off
     finds_by (Learn named slot command) e p u = h.idle off
     finds_by (Install named slot base_ sets) e p u = h.idle off
-    finds_by (Ask named slot) e p u = tt
     finds_by (Request named client seq op) e p u = off
-    finds_by (Answer named seq answer) e p u = tt
-    finds_by (ToldMail order result) e p u = tt
+    finds_by _ e p u = tt
 
 -- ---- an order
 

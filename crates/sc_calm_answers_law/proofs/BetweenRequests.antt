@@ -74,38 +74,13 @@ no_mark name begun set mail apart (inl plain) = of mail.body (λ is. apart plain
     of (Accept group ballot slot command) ne says = unnamed group (Asks ballot slot) (λ e. ne (sym says.0 ∙ e))
     of (Accepted group ballot slot) ne says = unnamed group (Votes mail.from ballot slot) (λ e. ne (sym says.0 ∙ e))
     of (Learn group slot command) ne says = unnamed group (Tells slot) (λ e. ne (sym says.0 ∙ e))
-    of (Prepare group ballot from_slot) ne says = absurd says
-    of (Promise group ballot reports) ne says = absurd says
-    of (Nack group promised) ne says = absurd says
-    of (Ask group from_slot) ne says = absurd says
-    of (Install group slot base sets) ne says = absurd says
-    of (TxPrepare tx offer) ne says = absurd says
-    of (TxVote tx coord part vote) ne says = absurd says
-    of (TxOutcome tx part outcome) ne says = absurd says
-    of (TxElsewhere tx coord hint) ne says = absurd says
-    of (TxWatch tx watch) ne says = absurd says
-    of (TxWatched tx coord part vote) ne says = absurd says
-    of (Told order result) ne says = absurd says
+    of _ ne says = absurd says
 no_mark name begun set mail apart (inr aside) = of mail.body aside
   where
     of : (body : MailBody) → IsAsideBody begun set mail.from mail.to body → mark_of name mail.from body ≡ None
     of (Request group client seq op) says = refl
     of (Answer group seq answer) says = refl
-    of (Accept group ballot slot command) says = absurd says
-    of (Accepted group ballot slot) says = absurd says
-    of (Learn group slot command) says = absurd says
-    of (Prepare group ballot from_slot) says = absurd says
-    of (Promise group ballot reports) says = absurd says
-    of (Nack group promised) says = absurd says
-    of (Ask group from_slot) says = absurd says
-    of (Install group slot base sets) says = absurd says
-    of (TxPrepare tx offer) says = absurd says
-    of (TxVote tx coord part vote) says = absurd says
-    of (TxOutcome tx part outcome) says = absurd says
-    of (TxElsewhere tx coord hint) says = absurd says
-    of (TxWatch tx watch) says = absurd says
-    of (TxWatched tx coord part vote) says = absurd says
-    of (Told order result) says = absurd says
+    of _ says = absurd says
 
 no_marks : (name : Draw) (begun : ℕ → ℕ → Op → Type 0) (set : Setting) (mails : List Mail) → ((frame : Frame) → Among frame set.frames → frame.core.id ≡ name → ⊥) → Each (IsCalmMail begun set) mails → marks_of name mails ≡ []
 no_marks name begun set [] apart each = refl

@@ -24,22 +24,7 @@ use Rattle.std.proofs.lemmas.Option.{same_Some}
 pub has_stateless : (from : ℕ) (body : MailBody) (r : ReplicaState) (kid : Base) → Among kid (mailed from body (r, [])).1 → IsStateless body
 unfolding mailed
 has_stateless from (Install group slot base sets) r kid a = absurd a
-has_stateless from (Request group client seq op) r kid a = tt
-has_stateless from (Answer group seq answer) r kid a = tt
-has_stateless from (Prepare group ballot from_slot) r kid a = tt
-has_stateless from (Promise group ballot reports) r kid a = tt
-has_stateless from (Accept group ballot slot command) r kid a = tt
-has_stateless from (Accepted group ballot slot) r kid a = tt
-has_stateless from (Nack group promised) r kid a = tt
-has_stateless from (Learn group slot command) r kid a = tt
-has_stateless from (Ask group from_slot) r kid a = tt
-has_stateless from (TxPrepare tx offer) r kid a = tt
-has_stateless from (TxVote tx coord part vote) r kid a = tt
-has_stateless from (TxOutcome tx part outcome) r kid a = tt
-has_stateless from (TxElsewhere tx coord hint) r kid a = tt
-has_stateless from (TxWatch tx watch) r kid a = tt
-has_stateless from (TxWatched tx coord part vote) r kid a = tt
-has_stateless from (ToldMail order result) r kid a = tt
+has_stateless from _ r kid a = tt
 
 -- its group knows each that it made
 pub knows_made : (from : ℕ) (body : MailBody) (r : ReplicaState) (kid : Base) → Among kid (mailed from body (r, [])).1 → HasBorn kid.core.id (mailed from body (r, [])).0.0.group.core.born

@@ -37,42 +37,12 @@ not_desk who (Node node) mail is other = by mail.body is
   where
     by : (body : MailBody) → IsNodesBody who mail.to body → IsDelivered body
     by (Told order result) k = absurd (other k)
-    by (Request group client seq op) k = tt
-    by (Answer group seq answer) k = tt
-    by (Prepare group ballot from_slot) k = tt
-    by (Promise group ballot reports) k = tt
-    by (Accept group ballot slot command) k = tt
-    by (Accepted group ballot slot) k = tt
-    by (Nack group promised) k = tt
-    by (Learn group slot command) k = tt
-    by (Ask group from_slot) k = tt
-    by (Install group slot base sets) k = tt
-    by (TxPrepare tx offer) k = tt
-    by (TxVote tx coord part vote) k = tt
-    by (TxOutcome tx part outcome) k = tt
-    by (TxElsewhere tx coord hint) k = tt
-    by (TxWatch tx watch) k = tt
-    by (TxWatched tx coord part vote) k = tt
+    by _ k = tt
 not_desk who (Client client) mail is other = by mail.body is.1
   where
     by : (body : MailBody) → IsClientsBody client.me body → IsDelivered body
     by (Told order result) k = absurd k
-    by (Request group from seq op) k = tt
-    by (Answer group seq answer) k = tt
-    by (Prepare group ballot from_slot) k = tt
-    by (Promise group ballot reports) k = tt
-    by (Accept group ballot slot command) k = tt
-    by (Accepted group ballot slot) k = tt
-    by (Nack group promised) k = tt
-    by (Learn group slot command) k = tt
-    by (Ask group from_slot) k = tt
-    by (Install group slot base sets) k = tt
-    by (TxPrepare tx offer) k = tt
-    by (TxVote tx coord part vote) k = tt
-    by (TxOutcome tx part outcome) k = tt
-    by (TxElsewhere tx coord hint) k = tt
-    by (TxWatch tx watch) k = tt
-    by (TxWatched tx coord part vote) k = tt
+    by _ k = tt
 
 -- no seat has a number that is not found
 unseated : (seats : List (Seat Player)) (who : ℕ) → find (λ (other : Seat Player). eqb other.who who) seats ≡ None → list_any (λ actor. eqb actor who) (numbers_of seats) ≡ false

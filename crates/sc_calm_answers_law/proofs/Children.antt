@@ -64,17 +64,7 @@ unmarked name from (Learn group slot command) ne = named_none name group _ ne
 unmarked name from (Install group slot base sets) ne = named_none name group _ ne
 unmarked name from (Prepare group ballot from_slot) ne = named_none name group _ ne
 unmarked name from (Promise group ballot reports) ne = named_none name group _ ne
-unmarked name from (Nack group promised) ne = refl
-unmarked name from (Ask group from_slot) ne = refl
-unmarked name from (Request group client seq op) ne = refl
-unmarked name from (Answer group seq answer) ne = refl
-unmarked name from (TxPrepare tx offer) ne = refl
-unmarked name from (TxVote tx coord part vote) ne = refl
-unmarked name from (TxOutcome tx part outcome) ne = refl
-unmarked name from (TxElsewhere tx coord hint) ne = refl
-unmarked name from (TxWatch tx watch) ne = refl
-unmarked name from (TxWatched tx coord part vote) ne = refl
-unmarked name from (ToldMail order result) ne = refl
+unmarked name from _ ne = refl
 
 pub no_marks : (name : Draw) (mails : List Mail) → Each (IsNoneFor name) mails → marks_of name mails ≡ []
 no_marks name [] k = refl

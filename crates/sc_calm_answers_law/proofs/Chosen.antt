@@ -43,21 +43,7 @@ module _ (group : Draw) (node : ℕ) (ballot : Ballot) (slot : ℕ) (value : Com
       ])
       (λ _ w. absurd w)
   of_body row sent mail a (Request g client seq op) is = λ w. absurd w
-  of_body row sent mail a (Answer g seq answer) is = λ w. absurd w
-  of_body row sent mail a (Prepare g b from) is = λ w. absurd w
-  of_body row sent mail a (Promise g b reports) is = λ w. absurd w
-  of_body row sent mail a (AcceptedMail g b s) is = λ w. absurd w
-  of_body row sent mail a (Nack g b) is = λ w. absurd w
-  of_body row sent mail a (Learn g s c) is = λ w. absurd w
-  of_body row sent mail a (Ask g s) is = λ w. absurd w
-  of_body row sent mail a (Install g s base sets) is = λ w. absurd w
-  of_body row sent mail a (TxPrepare tx offer) is = λ w. absurd w
-  of_body row sent mail a (TxVote tx coord part vote) is = λ w. absurd w
-  of_body row sent mail a (TxOutcome tx part outcome) is = λ w. absurd w
-  of_body row sent mail a (TxElsewhere tx coord hint) is = λ w. absurd w
-  of_body row sent mail a (TxWatch tx watch) is = λ w. absurd w
-  of_body row sent mail a (TxWatched tx coord part vote) is = λ w. absurd w
-  of_body row sent mail a (ToldMail order result) is = λ w. absurd w
+  of_body row sent mail a _ is = λ w. absurd w
 
   of_mail : (row : Row Mail OrderLine) (sent : List Mail) (o : Option Mail) → ((mail : Mail) → o ≡ Some mail → Among mail sent) → Among step (accepts_got group row o) → IsAskedBy group slot sent
   of_mail row sent None there w = absurd w
@@ -65,12 +51,7 @@ module _ (group : Draw) (node : ℕ) (ballot : Ballot) (slot : ℕ) (value : Com
 
   of_event : (row : Row Mail OrderLine) (sent : List Mail) (event : Event OrderLine) → Among step (accepts_at group sent row event) → IsAskedBy group slot sent
   of_event row sent (Deliver number) w = of_mail row sent (numbered sent number) (λ mail e. number_among sent number mail e) w
-  of_event row sent Tick w = absurd w
-  of_event row sent Go w = absurd w
-  of_event row sent (Told order) w = absurd w
-  of_event row sent Crash w = absurd w
-  of_event row sent (Drop mail) w = absurd w
-  of_event row sent (Again mail) w = absurd w
+  of_event row sent _ w = absurd w
 
   more_sent : (sent more : List Mail) → IsAskedBy group slot sent → IsAskedBy group slot (sent ++ more)
   more_sent sent more a = record { mail = a.mail; among = Among-left a.mail sent more a.among; ballot = a.ballot; name = a.name; command = a.command; is = a.is; named = a.named }

@@ -17,16 +17,7 @@ use Rattle.sc_calm_answers_law.proofs.Cores.{called_core}
 pub acts_or_same : (command : Command) (r : ReplicaState) → (is_act command ≡ true) ⊎ ((entered command r).group.core ≡ r.group.core)
 acts_or_same Noop r = inr (entered_core Noop r)
 acts_or_same (Call client seq op) r = inr (entered_core (Call client seq op) r ∙ called_core r.group.core.gone r.group.core.lock r.group client seq op)
-acts_or_same (Join node order) r = inl refl
-acts_or_same (Leave node order) r = inl refl
-acts_or_same (Split at child order) r = inl refl
-acts_or_same (Begin tx body order) r = inl refl
-acts_or_same (Prepared tx offer) r = inl refl
-acts_or_same (RecordVote tx vote by) r = inl refl
-acts_or_same (GiveUp tx) r = inl refl
-acts_or_same (Finish tx outcome) r = inl refl
-acts_or_same (Watched tx watch) r = inl refl
-acts_or_same (RecordWatch tx vote by) r = inl refl
+acts_or_same _ r = inl refl
 
 -- ---- what is executed at once
 

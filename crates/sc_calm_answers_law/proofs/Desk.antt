@@ -22,20 +22,7 @@ other : (name : Draw) (from : ℕ) (body : MailBody) → mark_of name from body 
 other name from (Accept group ballot slot command) e = not_asked (same_draw group name) _ _ e
 other name from (Accepted group ballot slot) e = not_asked (same_draw group name) _ _ e
 other name from (Learn group slot command) e = not_asked (same_draw group name) _ _ e
-other name from (Request group client seq op) e = refl
-other name from (Answer group seq answer) e = refl
-other name from (Prepare group ballot from_slot) e = refl
-other name from (Promise group ballot reports) e = refl
-other name from (Nack group promised) e = refl
-other name from (Ask group from_slot) e = refl
-other name from (Install group slot base sets) e = refl
-other name from (TxPrepare tx offer) e = refl
-other name from (TxVote tx coord part vote) e = refl
-other name from (TxOutcome tx part outcome) e = refl
-other name from (TxElsewhere tx coord hint) e = refl
-other name from (TxWatch tx watch) e = refl
-other name from (TxWatched tx coord part vote) e = refl
-other name from (Told order result) e = refl
+other name from _ e = refl
 
 pub none_first : (o : Option Mark) (marks : List Mark) → listed o ++ marks ≡ [] → (o ≡ None) × (marks ≡ [])
 none_first None marks e = (refl, e)

@@ -197,16 +197,10 @@ module _ (tells : ReplicasTell) (records : RecordsAreTrue) (over : QuietScenesAr
   entry_of : (command : Command) → flight.value ≡ command → IsEntry command r
   entry_of Noop e = absurd (none-some work.0 (sym (ap work_by e) ∙ work.1))
   entry_of (Call client seq op) e = absurd (none-some work.0 (sym (ap work_by e) ∙ work.1))
-  entry_of (Join who order) e = tt
-  entry_of (Leave who order) e = tt
   entry_of (Split at child order) e = free_now child (staged (Opens child) (ap work_by e))
-  entry_of (Begin tx body order) e = tt
-  entry_of (Prepared tx offer) e = tt
-  entry_of (RecordVote tx vote by) e = tt
   entry_of (GiveUp tx) e = absurd (no_order tx (staged (GivesUp tx) (ap work_by e)))
-  entry_of (Finish tx outcome) e = tt
-  entry_of (Watched tx watch) e = tt
   entry_of (RecordWatch tx vote by) e = watch_entry tx vote by e
+  entry_of _ e = tt
 
   pub entries_so : IsEntry flight.value r × (length (applied r.group flight.value).0.core.members ≤ 9)
   entries_so = (entry_of flight.value refl, few)

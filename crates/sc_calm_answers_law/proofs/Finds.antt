@@ -79,17 +79,7 @@ module _ (name : Draw) (slot : ℕ) where
   state_of from (Learn g at command) e = (let f = (same_one (same_draw g name) (Tells at) e).1 in cc)
   state_of from (Prepare g ballot at) e = (let f = (same_one (same_draw g name) (Prepares ballot) e).1 in cc)
   state_of from (Promise g ballot reports) e = (let f = (same_one (same_draw g name) (Promises from ballot) e).1 in cc)
-  state_of from (Nack g promised) e = cc
-  state_of from (Ask g at) e = cc
-  state_of from (Request g client seq op) e = cc
-  state_of from (Answer g seq answer) e = cc
-  state_of from (TxPrepare tx offer) e = cc
-  state_of from (TxVote tx coord part vote) e = cc
-  state_of from (TxOutcome tx part outcome) e = cc
-  state_of from (TxElsewhere tx coord hint) e = cc
-  state_of from (TxWatch tx watch) e = cc
-  state_of from (TxWatched tx coord part vote) e = cc
-  state_of from (ToldMail order result) e = cc
+  state_of from _ e = cc
 
 -- ---- the mail that comes after some rows
 

@@ -54,11 +54,7 @@ module _ (heard : AnswersAreHeardCalmly) (goes : ClientsGoCalmly) (words : ℕ �
     node_finds : (event : Event OrderLine) → IsInOrder (system_of as_nodes words scenario) rows me event → FindsCalm chart (births as_nodes scenario) rows (nseat me) event
     node_finds (Deliver number) fine = node_takes number fine
     node_finds Go fine = subst (MayGoNow chart) (sym n.is) tt
-    node_finds Tick fine = absurd fine
-    node_finds (Told order) fine = absurd fine
-    node_finds Crash fine = absurd fine
-    node_finds (Drop number) fine = absurd fine
-    node_finds (Again number) fine = absurd fine
+    node_finds _ fine = absurd fine
 
   module _ (asks : Asks) (a : Among asks scenario.clients) (born : find (λ (other : Seat Player). eqb other.who (client_actor asks.client)) (births as_nodes scenario) ≡ Some (cseat asks)) where
     abbrev c : IsAskingClient scenario set begins.first rows asks
@@ -86,11 +82,7 @@ module _ (heard : AnswersAreHeardCalmly) (goes : ClientsGoCalmly) (words : ℕ �
     client_finds : (event : Event OrderLine) → IsInOrder (system_of as_nodes words scenario) rows (client_actor asks.client) event → FindsCalm chart (births as_nodes scenario) rows (cseat asks) event
     client_finds (Deliver number) fine = client_takes number fine
     client_finds Go fine = subst (MayGoNow chart) (sym c.is) (goes set chart asks c.client (subst (λ b. IsCalmClient set asks b c.client) fine c.calm) (near asks c.client a c.is fine))
-    client_finds Tick fine = absurd fine
-    client_finds (Told order) fine = absurd fine
-    client_finds Crash fine = absurd fine
-    client_finds (Drop number) fine = absurd fine
-    client_finds (Again number) fine = absurd fine
+    client_finds _ fine = absurd fine
 
   finds : (seat : Seat Player) (event : Event OrderLine) → find (λ (other : Seat Player). eqb other.who seat.who) (births as_nodes scenario) ≡ Some seat → IsInOrder (system_of as_nodes words scenario) rows seat.who event
       → FindsCalm chart (births as_nodes scenario) rows seat event

@@ -148,11 +148,7 @@ module _ (tells : ReplicasTell) (sound : ValidJournalsAreSound) (logs : ValidEnt
     true_by (Begin tx body order) e = asked_or_cast (Begin tx body order) e tt
     true_by (Prepared tx offer) e = asked_or_cast (Prepared tx offer) e tt
     true_by (Watched tx watch) e = asked_or_cast (Watched tx watch) e tt
-    true_by (Join at order) e = tt
-    true_by (Leave at order) e = tt
-    true_by (GiveUp tx) e = tt
-    true_by Noop e = tt
-    true_by (Call client seq op) e = tt
+    true_by _ e = tt
 
     entry_true : IsTrueEntry r.me r.group flight.value
     entry_true = true_by flight.value refl

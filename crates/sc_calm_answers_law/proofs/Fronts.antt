@@ -34,10 +34,7 @@ pub untold_in_order : (s : System Player Mail OrderLine) (rows : Rows) (who : �
 untold_in_order s rows who Go untold fine = fine
 untold_in_order s rows who (Deliver number) untold fine = fine
 untold_in_order s rows who (Told order) untold fine = absurd (true≢false untold)
-untold_in_order s rows who Tick untold fine = absurd fine
-untold_in_order s rows who Crash untold fine = absurd fine
-untold_in_order s rows who (Drop mail) untold fine = absurd fine
-untold_in_order s rows who (Again mail) untold fine = absurd fine
+untold_in_order s rows who _ untold fine = absurd fine
 
 -- no mail of any group is under way in a quiet front
 pub quiet_marks : NoMailForStrangers → (words : ℕ → ℕ → ℕ × ℕ) (scenario : Scenario) (journal front : Rows) → IsQuietFront words scenario journal front → (name : Draw) (who : ℕ) → marks_at (players words (births as_nodes scenario)) front name who ≡ []

@@ -122,16 +122,7 @@ begun_before group stage later (ByEnd (TwoFreed tx one two e l o f)) h = inl (su
 owner_is : (scenario : Scenario) (journal : Rows) (name tx : Draw) (c : Command) → work_by c ≡ Some (Opens tx) → IsAllowedBy scenario journal name c → (sources_of scenario journal).owner tx ≡ Some name
 owner_is scenario journal name tx (Split at child order) e a = (let same : child ≡ tx = cc in subst (λ t. (sources_of scenario journal).owner t ≡ Some name) same a.0)
 owner_is scenario journal name tx (Begin t body order) e a = (let same : t ≡ tx = cc in subst (λ x. (sources_of scenario journal).owner x ≡ Some name) same a.0)
-owner_is scenario journal name tx Noop e a = absurd cc
-owner_is scenario journal name tx (Call client seq op) e a = absurd cc
-owner_is scenario journal name tx (Join node order) e a = absurd cc
-owner_is scenario journal name tx (Leave node order) e a = absurd cc
-owner_is scenario journal name tx (Prepared t offer) e a = absurd cc
-owner_is scenario journal name tx (RecordVote t vote by) e a = absurd cc
-owner_is scenario journal name tx (GiveUp t) e a = absurd cc
-owner_is scenario journal name tx (Finish t outcome) e a = absurd cc
-owner_is scenario journal name tx (Watched t watch) e a = absurd cc
-owner_is scenario journal name tx (RecordWatch t vote by) e a = absurd cc
+owner_is scenario journal name tx _ e a = absurd cc
 
 -- ---- a delivery
 

@@ -80,16 +80,7 @@ elsewhere_mail from to (TxElsewhere t c hint) name tx n e =
     let k = same_elsewhere t tx to n (ap (λ (x : Draw × Errand). x.1) pair) in
     (hint, ap (λ x. TxElsewhere x c hint) k.0 ∙ ap (λ x. TxElsewhere tx x hint) (ap (λ (x : Draw × Errand). x.0) pair), k.1)
 elsewhere_mail from to (Accept g ballot slot command) name tx n e = absurd (true≢false (sym (ap is_on e)))
-elsewhere_mail from to (Accepted g ballot slot) name tx n e = absurd (true≢false (sym (ap is_on e)))
-elsewhere_mail from to (Answer g seq answer) name tx n e = absurd (true≢false (sym (ap is_on e)))
-elsewhere_mail from to (Ask g slot) name tx n e = absurd (true≢false (sym (ap is_on e)))
-elsewhere_mail from to (Install g slot state sets) name tx n e = absurd (true≢false (sym (ap is_on e)))
-elsewhere_mail from to (Learn g slot command) name tx n e = absurd (true≢false (sym (ap is_on e)))
-elsewhere_mail from to (Nack g ballot) name tx n e = absurd (true≢false (sym (ap is_on e)))
-elsewhere_mail from to (Prepare g ballot slot) name tx n e = absurd (true≢false (sym (ap is_on e)))
-elsewhere_mail from to (Promise g ballot reports) name tx n e = absurd (true≢false (sym (ap is_on e)))
-elsewhere_mail from to (Request g client seq op) name tx n e = absurd (true≢false (sym (ap is_on e)))
-elsewhere_mail from to (ToldMail order result) name tx n e = absurd (true≢false (sym (ap is_on e)))
+elsewhere_mail from to _ name tx n e = absurd (true≢false (sym (ap is_on e)))
 
 pub question_mail : (from to : ℕ) (body : MailBody) (name tx c : Draw) (w : Bool) (b n : ℕ) → errand_by from to body ≡ Some (name, Question tx c w b n) → IsQuestion body × ((group_of_mail body ≡ Some name) × (to ≡ n))
 question_mail from to (TxPrepare t offer) name tx c w b n e =
@@ -99,40 +90,13 @@ question_mail from to (TxWatch t watch) name tx c w b n e =
     let pair : (watch.part, Question t watch.coord true watch.by to) ≡ (name, Question tx c w b n) = same_Some (watch.part, Question t watch.coord true watch.by to) (name, Question tx c w b n) e in
     (tt, (ap (λ (x : Draw × Errand). Some x.0) pair, same_to t tx watch.coord c true w watch.by b to n (ap (λ (x : Draw × Errand). x.1) pair)))
 question_mail from to (TxVote t d part vote) name tx c w b n e = absurd (true≢false (sym (ap is_question e)))
-question_mail from to (TxWatched t d part vote) name tx c w b n e = absurd (true≢false (sym (ap is_question e)))
-question_mail from to (TxOutcome t part outcome) name tx c w b n e = absurd (true≢false (sym (ap is_question e)))
-question_mail from to (TxElsewhere t d hint) name tx c w b n e = absurd (true≢false (sym (ap is_question e)))
-question_mail from to (Accept g ballot slot command) name tx c w b n e = absurd (true≢false (sym (ap is_question e)))
-question_mail from to (Accepted g ballot slot) name tx c w b n e = absurd (true≢false (sym (ap is_question e)))
-question_mail from to (Answer g seq answer) name tx c w b n e = absurd (true≢false (sym (ap is_question e)))
-question_mail from to (Ask g slot) name tx c w b n e = absurd (true≢false (sym (ap is_question e)))
-question_mail from to (Install g slot state sets) name tx c w b n e = absurd (true≢false (sym (ap is_question e)))
-question_mail from to (Learn g slot command) name tx c w b n e = absurd (true≢false (sym (ap is_question e)))
-question_mail from to (Nack g ballot) name tx c w b n e = absurd (true≢false (sym (ap is_question e)))
-question_mail from to (Prepare g ballot slot) name tx c w b n e = absurd (true≢false (sym (ap is_question e)))
-question_mail from to (Promise g ballot reports) name tx c w b n e = absurd (true≢false (sym (ap is_question e)))
-question_mail from to (Request g client seq op) name tx c w b n e = absurd (true≢false (sym (ap is_question e)))
-question_mail from to (ToldMail order result) name tx c w b n e = absurd (true≢false (sym (ap is_question e)))
+question_mail from to _ name tx c w b n e = absurd (true≢false (sym (ap is_question e)))
 
 -- one beside the leader that is asked does not run
 pub aside_off : (mail : Mail) (r : ReplicaState) (body : MailBody) → IsQuestion body → BesideFinds mail r body → r.running ≡ false
 aside_off mail r (TxPrepare tx offer) q f = f.1.0
 aside_off mail r (TxWatch tx watch) q f = f.1.0
-aside_off mail r (TxVote t c part vote) q f = absurd q
-aside_off mail r (TxWatched t c part vote) q f = absurd q
-aside_off mail r (TxOutcome t part outcome) q f = absurd q
-aside_off mail r (TxElsewhere t c hint) q f = absurd q
-aside_off mail r (Accept g ballot slot command) q f = absurd q
-aside_off mail r (Accepted g ballot slot) q f = absurd q
-aside_off mail r (Answer g seq answer) q f = absurd q
-aside_off mail r (Ask g slot) q f = absurd q
-aside_off mail r (Install g slot state sets) q f = absurd q
-aside_off mail r (Learn g slot command) q f = absurd q
-aside_off mail r (Nack g ballot) q f = absurd q
-aside_off mail r (Prepare g ballot slot) q f = absurd q
-aside_off mail r (Promise g ballot reports) q f = absurd q
-aside_off mail r (Request g client seq op) q f = absurd q
-aside_off mail r (ToldMail order result) q f = absurd q
+aside_off mail r _ q f = absurd q
 
 -- ---- entries
 
@@ -185,13 +149,7 @@ module _ (r : ReplicaState) (command : Command) (asked tx coord : Draw) (watch :
           no_work : None ≡ Some (Opens child) → ⊥
           no_work e = cc
       of (Join n order) e w t2 = cc
-      of (Leave n order) e w t2 = cc
-      of (Prepared t offer) e w t2 = cc
-      of (RecordVote t vote n) e w t2 = cc
-      of (GiveUp t) e w t2 = cc
-      of (Finish t outcome) e w t2 = cc
-      of (Watched t watch2) e w t2 = cc
-      of (RecordWatch t vote n) e w t2 = cc
+      of _ e w t2 = cc
 
   -- one that hears a participant's Yes asks the least member of its successor, as it handed that over
   pub hears_least : (t first : Draw) (frozen : Frozen) (n : ℕ) → command ≡ RecordVote t (Says.Yes frozen) n → bond_of r.group.core ≡ Asking t first First → IsTrueEntry r.me r.group (RecordVote t (Says.Yes frozen) n)

@@ -37,13 +37,7 @@ hinted_begin words scenario quiet seat line stage t stands = by stage stands
     by : (x : Stage) → IsAt x (scene_at (births as_nodes scenario) (with_event quiet seat (Told line))) → IsHinted scenario quiet (with_event quiet seat (Told line)) x
     by (Asks deal to) a = absurd (no_asking deal.tx deal.asked deal.turn (sym (unbound deal.coord) ∙ ap (λ (h : Here). h.bond) a.parties.0.0))
     by (SentOn deal) a = absurd (no_asking deal.tx deal.asked deal.turn (sym (unbound deal.coord) ∙ ap (λ (h : Here). h.bond) a.parties.0.0))
-    by Still a = tt
-    by (Ordered group chief work) a = tt
-    by (Weighs deal host) a = tt
-    by (Replied deal agreed host) a = tt
-    by (Recorded deal agreed host) a = tt
-    by (Closes tx party) a = tt
-    by (ClosesBoth tx one two) a = tt
+    by _ a = tt
 
 some_mail : (one other : Mail) → Some one ≡ Some other → one ≡ other
 some_mail one other e = cc

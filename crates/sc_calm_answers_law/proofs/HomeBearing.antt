@@ -54,11 +54,7 @@ module _ (scenario : Scenario) where
   -- an order to join names one
   ordered_nodes : (order : Order) → IsBoundedOrder scenario.nodes order → (name : Draw) (number : ℕ) → (BringsNodes (IsUpTo scenario.nodes)) (ordered_command name number order)
   ordered_nodes (An.Join node group) bounded name number = bounded
-  ordered_nodes (An.Leave node group) bounded name number = tt
-  ordered_nodes (An.Split group at) bounded name number = tt
-  ordered_nodes (An.Merge group) bounded name number = tt
-  ordered_nodes (An.Repart group at) bounded name number = tt
-  ordered_nodes (An.Migrate group node) bounded name number = tt
+  ordered_nodes _ bounded name number = tt
 
   -- an order of nodes, whoever is told it and whatever name it takes
   abbrev pub OrdersNodes : ℕ → OrderLine → Type 0

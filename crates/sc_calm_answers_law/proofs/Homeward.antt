@@ -68,10 +68,7 @@ module _ (scenario : Scenario) where
             (refused_home r.acceptor mail (Each-among (IsPosted (births as_nodes scenario)) (mails rows) mail posted (number_among (mails rows) number mail e)) (subst (λ (x : Mail). Refuses r.acceptor x.body) (sym same) n))))
     row_said Go calm = input_said May (value player_table seat rows) GoInput (λ t. cc) (λ node m is got. cc)
     row_said (Told line) calm = input_said May (value player_table seat rows) (ToldInput line) (λ t. cc) (λ node m is got. cc)
-    row_said TickEvent calm = absurd calm
-    row_said Crash calm = absurd calm
-    row_said (Drop mail) calm = absurd calm
-    row_said (Again mail) calm = absurd calm
+    row_said _ calm = absurd calm
 
   said_home : (mail : Mail) → IsRefusal May mail.to mail.body → RefusesHome scenario mail
   said_home mail said = λ group promised body. subst (IsRefusal May mail.to) body said

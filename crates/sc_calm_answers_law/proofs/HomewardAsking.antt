@@ -84,11 +84,7 @@ module _ (nodes_law : NodesStayCalm) (words : ℕ → ℕ → ℕ × ℕ) (scena
     node_sends : (event : Event OrderLine) → IsInOrder (system_of as_nodes words scenario) rows me event → Home (row_of player_table (nseat me) rows event).sent
     node_sends (Deliver number) fine = node_turn number fine
     node_sends Go fine = subst (λ (p : Player). Home (acted player_table p (Some GoInput)).1) (sym (j.nodes me one most).is) tt
-    node_sends Tick fine = absurd fine
-    node_sends (Told order) fine = absurd fine
-    node_sends Crash fine = absurd fine
-    node_sends (Drop number) fine = absurd fine
-    node_sends (Again number) fine = absurd fine
+    node_sends _ fine = absurd fine
 
   row_sends : (row : Row Mail OrderLine) → IsOrderly (system_of as_nodes words scenario) rows row → Home row.sent
   row_sends row o = elim (of_player words scenario begins rows row o) [

@@ -43,17 +43,7 @@ to_is from to (TxElsewhere tx coord hint) entry e = same_to _ entry e
 to_is from to (TxVote tx coord part vote) entry e = same_to _ entry e
 to_is from to (TxWatched tx coord part vote) entry e = same_to _ entry e
 to_is from to (TxOutcome tx part outcome) entry e = same_to _ entry e
-to_is from to (Request group client seq op) entry e = no_pair entry e
-to_is from to (Answer group seq answer) entry e = no_pair entry e
-to_is from to (Prepare group ballot from_slot) entry e = no_pair entry e
-to_is from to (Promise group ballot reports) entry e = no_pair entry e
-to_is from to (Accept group ballot slot command) entry e = no_pair entry e
-to_is from to (Accepted group ballot slot) entry e = no_pair entry e
-to_is from to (Nack group promised) entry e = no_pair entry e
-to_is from to (Learn group slot command) entry e = no_pair entry e
-to_is from to (Ask group from_slot) entry e = no_pair entry e
-to_is from to (Install group slot base sets) entry e = no_pair entry e
-to_is from to (Told order result) entry e = no_pair entry e
+to_is from to _ entry e = no_pair entry e
 
 -- ---- stages
 

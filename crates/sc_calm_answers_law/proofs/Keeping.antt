@@ -129,22 +129,7 @@ off_true false e k = true≢false (sym e)
 
 says_stateless : (task : Task) (body : MailBody) → task.splits ≡ true → SaysWork task body → IsStateless body
 says_stateless task (Install group slot base sets) on s = absurd (off_true task.splits on s.0)
-says_stateless task (Request group client seq op) on s = tt
-says_stateless task (Answer group seq answer) on s = tt
-says_stateless task (Prepare group ballot from_slot) on s = tt
-says_stateless task (Promise group ballot reports) on s = tt
-says_stateless task (Accept group ballot slot command) on s = tt
-says_stateless task (Accepted group ballot slot) on s = tt
-says_stateless task (Nack group promised) on s = tt
-says_stateless task (Learn group slot command) on s = tt
-says_stateless task (Ask group from_slot) on s = tt
-says_stateless task (TxPrepare tx offer) on s = tt
-says_stateless task (TxVote tx coord part vote) on s = tt
-says_stateless task (TxOutcome tx part outcome) on s = tt
-says_stateless task (TxElsewhere tx coord hint) on s = tt
-says_stateless task (TxWatch tx watch) on s = tt
-says_stateless task (TxWatched tx coord part vote) on s = tt
-says_stateless task (ToldMail order result) on s = tt
+says_stateless task _ on s = tt
 
 -- ---- a delivery
 

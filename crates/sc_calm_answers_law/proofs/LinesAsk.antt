@@ -66,10 +66,7 @@ module _ (words : ℕ → ℕ → ℕ × ℕ) (scenario : Scenario) (begins : Is
           let one = h.fresh asks c.client a fine c.is in
           subst (AsksLeaders set) (client_is (sym became ∙ v)) (ask_leaders.go set asks c.client one.0 (clients_of.fresh words scenario begins set is linked rows t j asks a born fine) one.1)
       own_leads Tick fine client v = absurd fine
-      own_leads (Told order) fine client v = absurd fine
-      own_leads Crash fine client v = absurd fine
-      own_leads (Drop number) fine client v = absurd fine
-      own_leads (Again number) fine client v = absurd fine
+      own_leads _ fine client v = absurd fine
 
     leads_row : (row : Row Mail OrderLine) → IsOrderly (system_of as_nodes words scenario) rows row → AllAskLeaders scenario set begins.first (rows ++ row ∷ [])
     leads_row row o = elim (of_player words scenario begins rows row o) [

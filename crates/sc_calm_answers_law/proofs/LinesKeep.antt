@@ -58,18 +58,7 @@ module _ (begun : Requests) (frame : Frame) (is : IsFrame frame) (from to : ℕ)
   nothing_to (Accept group ballot slot command) b = absurd (away slot b.2.to_in)
   nothing_to (Accepted group ballot slot) b = absurd (member_away (ap (is_member frame.core.members) b.2 ∙ is.leads))
   nothing_to (Learn group slot command) b = absurd (member_away b.1.to_in)
-  nothing_to (Prepare group ballot from_slot) b = absurd b
-  nothing_to (Promise group ballot reports) b = absurd b
-  nothing_to (Nack group promised) b = absurd b
-  nothing_to (Ask group from_slot) b = absurd b
-  nothing_to (Install group slot base sets) b = absurd b
-  nothing_to (TxPrepare tx offer) b = absurd b
-  nothing_to (TxVote tx coord part vote) b = absurd b
-  nothing_to (TxOutcome tx part outcome) b = absurd b
-  nothing_to (TxElsewhere tx coord hint) b = absurd b
-  nothing_to (TxWatch tx watch) b = absurd b
-  nothing_to (TxWatched tx coord part vote) b = absurd b
-  nothing_to (ToldBody order result) b = absurd b
+  nothing_to _ b = absurd b
 
 module _ (words : ℕ → ℕ → ℕ × ℕ) (scenario : Scenario) (begins : IsStage scenario) (set : Setting) (is : IsSetting set) (linked : IsLinkedSetting set) (seated : AreSeated scenario set) where
   abbrev sys : System Player Mail OrderLine
@@ -123,10 +112,7 @@ module _ (words : ℕ → ℕ → ℕ × ℕ) (scenario : Scenario) (begins : Is
           let acted_go : acted player_table (value player_table (nseat me) rows) (input_of {O = OrderLine} (mails rows) Go) ≡ (Node n.node, []) = ap (λ p. acted player_table p (Some GoInput)) n.is in
           subst (λ (l : List Mail). Each IsNothing (mail_for sys who l)) (sym (ap (λ (p : Player × List Mail). p.1) acted_go)) tt
       node_sent Tick fine who away = absurd fine
-      node_sent (Told order) fine who away = absurd fine
-      node_sent Crash fine who away = absurd fine
-      node_sent (Drop number) fine who away = absurd fine
-      node_sent (Again number) fine who away = absurd fine
+      node_sent _ fine who away = absurd fine
 
     -- ---- a client
 
@@ -146,10 +132,7 @@ module _ (words : ℕ → ℕ → ℕ × ℕ) (scenario : Scenario) (begins : Is
           let c = clients_of.c words scenario begins set is linked rows t j asks a born in
           sent_only (table c.client GoInput) Go (clients_of.go_is words scenario begins set is linked rows t j asks a born fine) (go_only c.client) who
       client_sent Tick fine who = absurd fine
-      client_sent (Told order) fine who = absurd fine
-      client_sent Crash fine who = absurd fine
-      client_sent (Drop number) fine who = absurd fine
-      client_sent (Again number) fine who = absurd fine
+      client_sent _ fine who = absurd fine
 
       -- ---- no mail is for one that was not told to go
 
@@ -170,21 +153,7 @@ module _ (words : ℕ → ℕ → ℕ × ℕ) (scenario : Scenario) (begins : Is
       aside_none : (body : MailBody) (from to : ℕ) → to ≡ client_actor asks.client → has_gone rows (client_actor asks.client) ≡ false → IsAsideBody (IsBegun scenario rows) set from to body → ⊥
       aside_none (Request group client seq op) from to e not_gone b = (let at = seated.homes group to b.1 in both_ways (is_node (client_actor asks.client)) (client_number words scenario begins asks a) (ap is_node (sym e) ∙ node_number words scenario begins to at.0 at.1))
       aside_none (Answer group seq answer) from to e not_gone b = begun_none not_gone b.client seq b.op b.is_begun (sym e ∙ b.to_is)
-      aside_none (Accept group ballot slot command) from to e not_gone b = b
-      aside_none (Accepted group ballot slot) from to e not_gone b = b
-      aside_none (Learn group slot command) from to e not_gone b = b
-      aside_none (Prepare group ballot from_slot) from to e not_gone b = b
-      aside_none (Promise group ballot reports) from to e not_gone b = b
-      aside_none (Nack group promised) from to e not_gone b = b
-      aside_none (Ask group from_slot) from to e not_gone b = b
-      aside_none (Install group slot base sets) from to e not_gone b = b
-      aside_none (TxPrepare tx offer) from to e not_gone b = b
-      aside_none (TxVote tx coord part vote) from to e not_gone b = b
-      aside_none (TxOutcome tx part outcome) from to e not_gone b = b
-      aside_none (TxElsewhere tx coord hint) from to e not_gone b = b
-      aside_none (TxWatch tx watch) from to e not_gone b = b
-      aside_none (TxWatched tx coord part vote) from to e not_gone b = b
-      aside_none (ToldBody order result) from to e not_gone b = b
+      aside_none _ from to e not_gone b = b
 
       no_mail : has_gone rows (client_actor asks.client) ≡ false → (mail : Mail) → mail.to ≡ client_actor asks.client → IsCalmMail (IsBegun scenario rows) set mail → ⊥
       no_mail not_gone mail to (inr s) = aside_none mail.body mail.from mail.to to not_gone s
@@ -203,10 +172,7 @@ module _ (words : ℕ → ℕ → ℕ × ℕ) (scenario : Scenario) (begins : Is
           ∙ (ap (λ b. has_gone rows (client_actor asks.client) || ((b && true) || false)) (eq-eqb (client_actor asks.client) (client_actor asks.client) refl) ∙ or_right (has_gone rows (client_actor asks.client)) true refl) in
           absurd (both_ways (has_gone (rows ++ row_of player_table (cseat asks) rows Go ∷ []) (client_actor asks.client)) not_gone gone_now)
       own_fresh Tick fine not_gone = absurd fine
-      own_fresh (Told order) fine not_gone = absurd fine
-      own_fresh Crash fine not_gone = absurd fine
-      own_fresh (Drop number) fine not_gone = absurd fine
-      own_fresh (Again number) fine not_gone = absurd fine
+      own_fresh _ fine not_gone = absurd fine
 
     -- ---- each row
 

@@ -33,11 +33,7 @@ counts_silent at by marks e = record { hint = λ promise hint. count-hinted at b
 
 one_rises : (next : ℕ) (promise : Ballot) (mark : Mark) → IsFit next promise mark → IsAtLeast (promise_by promise mark) promise
 one_rises next promise (Prepares ballot) f = f.1
-one_rises next promise (Asks ballot slot) f = at_least_itself promise
-one_rises next promise (Votes node ballot slot) f = at_least_itself promise
-one_rises next promise (Tells slot) f = at_least_itself promise
-one_rises next promise (Installs slot) f = at_least_itself promise
-one_rises next promise (Promises node ballot) f = at_least_itself promise
+one_rises next promise _ f = at_least_itself promise
 
 pub pledged_rises : (next : ℕ) (promise : Ballot) (marks : List Mark) → AreFit next promise marks → IsAtLeast (pledged promise marks) promise
 pledged_rises next promise [] f = at_least_itself promise

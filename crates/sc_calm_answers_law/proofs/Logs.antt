@@ -22,17 +22,7 @@ kids_of me group (command ∷ log) = child_at me (child_by group command) ++ kid
 ready_back : (command : Command) (r : ReplicaState) → (put_back command r).ready ≡ r.ready
 unfolding put_back
 ready_back Noop r = refl
-ready_back (Call client seq op) r = refl
-ready_back (Join node order) r = refl
-ready_back (Leave node order) r = refl
-ready_back (Split at child order) r = refl
-ready_back (Begin tx body order) r = refl
-ready_back (Prepared tx offer) r = refl
-ready_back (RecordVote tx vote by) r = refl
-ready_back (GiveUp tx) r = refl
-ready_back (Finish tx outcome) r = refl
-ready_back (Watched tx watch) r = refl
-ready_back (RecordWatch tx vote by) r = refl
+ready_back _ r = refl
 
 module _ (rs : List (ℕ × Command)) where
   abbrev R : Place → Type 0

@@ -105,18 +105,7 @@ module _ (at : Sets) (over : Ends) (by : Tellers) (words : ℕ → ℕ → ℕ �
   misses_body none (Install g slot state sets) e k = makes slot state sets (e ∙ ap (λ n. Install n slot state sets) (same_Some g name (sym (ap group_of_mail e) ∙ group))) none
   misses_body none (Answer g seq answer) e k = (let bad : None ≡ Some name = sym (ap group_of_mail e) ∙ group in cc)
   misses_body none (ToldMail order result) e k = (let bad : None ≡ Some name = sym (ap group_of_mail e) ∙ group in cc)
-  misses_body none (Prepare g ballot from_slot) e k = misses none (subst MayMiss (sym e) tt)
-  misses_body none (Promise g ballot reports) e k = misses none (subst MayMiss (sym e) tt)
-  misses_body none (Accept g ballot slot command) e k = misses none (subst MayMiss (sym e) tt)
-  misses_body none (Accepted g ballot slot) e k = misses none (subst MayMiss (sym e) tt)
-  misses_body none (Nack g promised) e k = misses none (subst MayMiss (sym e) tt)
-  misses_body none (Ask g from_slot) e k = misses none (subst MayMiss (sym e) tt)
-  misses_body none (TxPrepare tx offer) e k = misses none (subst MayMiss (sym e) tt)
-  misses_body none (TxVote tx coord part vote) e k = misses none (subst MayMiss (sym e) tt)
-  misses_body none (TxOutcome tx part outcome) e k = misses none (subst MayMiss (sym e) tt)
-  misses_body none (TxElsewhere tx coord hint) e k = misses none (subst MayMiss (sym e) tt)
-  misses_body none (TxWatch tx watch) e k = misses none (subst MayMiss (sym e) tt)
-  misses_body none (TxWatched tx coord part vote) e k = misses none (subst MayMiss (sym e) tt)
+  misses_body none _ e k = misses none (subst MayMiss (sym e) tt)
 
   -- ---- one with a replica
 

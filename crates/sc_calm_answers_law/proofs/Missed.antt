@@ -83,19 +83,7 @@ module _ (words : ℕ → ℕ → ℕ × ℕ) (births : List (Seat Player)) (row
       let guide = states slot state sets body in
       state_named words births rows seat number mail group node guide.0.base guide.0.named t guide.0.guided guide.1 slot state sets body
   missed_by (TxVote tx coord part vote) e = tt
-  missed_by (TxWatched tx coord part vote) e = tt
-  missed_by (TxOutcome tx part outcome) e = tt
-  missed_by (TxElsewhere tx coord hint) e = tt
-  missed_by (Accept named ballot slot command) e = tt
-  missed_by (Prepare named ballot from_slot) e = tt
-  missed_by (Nack named ballot) e = tt
-  missed_by (Promise named ballot reports) e = tt
-  missed_by (Accepted named ballot slot) e = tt
-  missed_by (Learn named slot command) e = tt
-  missed_by (Ask named slot) e = tt
-  missed_by (Request named client seq op) e = tt
-  missed_by (Answer named seq answer) e = tt
-  missed_by (ToldMail order result) e = tt
+  missed_by _ e = tt
 
 -- A mail to a node without replica of its group finds what an order needs.
 pub missed_found : MissedAreFound

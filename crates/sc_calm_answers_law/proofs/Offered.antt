@@ -28,42 +28,12 @@ mark_among name (x ∷ sent) mail mark (inr a) e = Among-right mark (listed (mar
 -- what asks below a slot does below a later one
 below_later : (name : Draw) (low high : ℕ) → low ≤ high → (body : MailBody) → AsksBelow name low body → AsksBelow name high body
 below_later name low high up (Accept group ballot slot command) k = λ is. (let lt = k is in omega (arith, lt, up))
-below_later name low high up (Request group client seq op) k = tt
-below_later name low high up (Answer group seq answer) k = tt
-below_later name low high up (Prepare group ballot from_slot) k = tt
-below_later name low high up (Promise group ballot reports) k = tt
-below_later name low high up (Accepted group ballot slot) k = tt
-below_later name low high up (Nack group promised) k = tt
-below_later name low high up (Learn group slot command) k = tt
-below_later name low high up (Ask group from_slot) k = tt
-below_later name low high up (Install group slot base sets) k = tt
-below_later name low high up (TxPrepare tx offer) k = tt
-below_later name low high up (TxVote tx coord part vote) k = tt
-below_later name low high up (TxOutcome tx part outcome) k = tt
-below_later name low high up (TxElsewhere tx coord hint) k = tt
-below_later name low high up (TxWatch tx watch) k = tt
-below_later name low high up (TxWatched tx coord part vote) k = tt
-below_later name low high up (Told order result) k = tt
+below_later name low high up _ k = tt
 
 -- what is known of a mail's mark says so
 known_below : (name : Draw) (course : Course) (from : ℕ) (body : MailBody) → ((mark : Mark) → mark_of name from body ≡ Some mark → IsKnown course mark) → AsksBelow name course.bound body
 known_below name course from (Accept group ballot slot command) k = λ is. k (Asks ballot slot) (cond-true (same_draw group name) (Some (Asks ballot slot)) None (same_name group name is))
-known_below name course from (Request group client seq op) k = tt
-known_below name course from (Answer group seq answer) k = tt
-known_below name course from (Prepare group ballot from_slot) k = tt
-known_below name course from (Promise group ballot reports) k = tt
-known_below name course from (Accepted group ballot slot) k = tt
-known_below name course from (Nack group promised) k = tt
-known_below name course from (Learn group slot command) k = tt
-known_below name course from (Ask group from_slot) k = tt
-known_below name course from (Install group slot base sets) k = tt
-known_below name course from (TxPrepare tx offer) k = tt
-known_below name course from (TxVote tx coord part vote) k = tt
-known_below name course from (TxOutcome tx part outcome) k = tt
-known_below name course from (TxElsewhere tx coord hint) k = tt
-known_below name course from (TxWatch tx watch) k = tt
-known_below name course from (TxWatched tx coord part vote) k = tt
-known_below name course from (Told order result) k = tt
+known_below name course from _ k = tt
 
 module _ (go_on : EventsGoOn) (keep : RowsKeepTaught) (at : Sets) (over : Ends) (by : Tellers) (words : ℕ → ℕ → ℕ × ℕ) (births : List (Seat Player)) (journal : Rows) (base : Base) (wb : AreWellBorn births) (one : HasOneLog at over by births journal base) (so : IsSentSo births journal base) where
   -- the bound never falls

@@ -47,29 +47,13 @@ ends_opens : (t tx : Draw) (c : Command) → EndsIt t c → work_by c ≡ Some (
 ends_opens t tx (RecordVote x vote by) e w = cc
 ends_opens t tx (RecordWatch x vote by) e w = cc
 ends_opens t tx (GiveUp x) e w = cc
-ends_opens t tx Noop e w = absurd e
-ends_opens t tx (Call client seq op) e w = absurd e
-ends_opens t tx (Join node order) e w = absurd e
-ends_opens t tx (Leave node order) e w = absurd e
-ends_opens t tx (Split at child order) e w = absurd e
-ends_opens t tx (Begin x body order) e w = absurd e
-ends_opens t tx (Prepared x offer) e w = absurd e
-ends_opens t tx (Finish x outcome) e w = absurd e
-ends_opens t tx (Watched x watch) e w = absurd e
+ends_opens t tx _ e w = absurd e
 
 ends_answers : (t tx coord : Draw) (watch : Bool) (by : ℕ) (c : Command) → EndsIt t c → work_by c ≡ Some (Answers tx coord watch by) → ⊥
 ends_answers t tx coord watch by (RecordVote x vote n) e w = cc
 ends_answers t tx coord watch by (RecordWatch x vote n) e w = cc
 ends_answers t tx coord watch by (GiveUp x) e w = cc
-ends_answers t tx coord watch by Noop e w = absurd e
-ends_answers t tx coord watch by (Call client seq op) e w = absurd e
-ends_answers t tx coord watch by (Join node order) e w = absurd e
-ends_answers t tx coord watch by (Leave node order) e w = absurd e
-ends_answers t tx coord watch by (Split at child order) e w = absurd e
-ends_answers t tx coord watch by (Begin x body order) e w = absurd e
-ends_answers t tx coord watch by (Prepared x offer) e w = absurd e
-ends_answers t tx coord watch by (Finish x outcome) e w = absurd e
-ends_answers t tx coord watch by (Watched x w2) e w = absurd e
+ends_answers t tx coord watch by _ e w = absurd e
 
 same_opens : (tx child : Draw) → Some (Opens child) ≡ Some (Opens tx) → child ≡ tx
 same_opens tx child e = cc
@@ -220,9 +204,7 @@ module _ (group : Group) (tx2 asked part : Draw) (host : ℕ) (unheard : bond_of
 -- by the first entry nobody is heard
 not_first : (core : Core) (body : Body) (part : Draw) (host : ℕ) → Next part host ≡ turn_of core body None → ⊥
 not_first core At.Merge part host e = cc
-not_first core (At.Repart at) part host e = cc
-not_first core (At.Migrate node) part host e = cc
-not_first core (At.Split at child) part host e = cc
+not_first core _ part host e = cc
 
 -- a group that was free has begun a transaction, and then heard its participant
 pub record HasBoth (group : Group) (tx asked part : Draw) (made : Group) : Type 0 where

@@ -19,20 +19,12 @@ use Rattle.sc_pump_law.proofs.Lemmas.{none_at as free_at, none_from as none_take
 -- its command stands at its group
 pub order_does : (name : Draw) (number : ℕ) (order : Order) → (affair_by (is_split order) (group_of_order order) name).Does (group_of_order order) (ordered_command name number order)
 order_does name number (An.Split group at) = (refl, refl)
-order_does name number (An.Join node group) = tt
-order_does name number (An.Leave node group) = tt
-order_does name number (An.Merge group) = tt
-order_does name number (An.Repart group at) = tt
-order_does name number (An.Migrate group node) = tt
+order_does name number _ = tt
 
 -- it waits for nothing where nothing is under way, and is not turned down
 order_goes : (name : Draw) (number : ℕ) (order : Order) (core : Core) → (waits true Free (ordered_command name number order) ≡ false) × (turned_down core (ordered_command name number order) ≡ None)
 order_goes name number (An.Split group at) core = (refl, refl)
-order_goes name number (An.Join node group) core = (refl, refl)
-order_goes name number (An.Leave node group) core = (refl, refl)
-order_goes name number (An.Merge group) core = (refl, refl)
-order_goes name number (An.Repart group at) core = (refl, refl)
-order_goes name number (An.Migrate group node) core = (refl, refl)
+order_goes name number _ core = (refl, refl)
 
 -- an order is taken by one that is settled
 settled_by : (gone offer : Bool) (why : OrderRefusal) (other : Option OrderRefusal) → cond (gone || not offer) (Some why) other ≡ None → offer ≡ true

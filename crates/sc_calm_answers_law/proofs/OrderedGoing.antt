@@ -33,42 +33,17 @@ use Rattle.sc_calm_answers_law.proofs.OrderedSending.{known_after}
 -- mail that asks elsewhere, or any other
 elsewhere_or : (body : MailBody) → ((tx coord : Draw) × (hint : Option ℕ) × (body ≡ TxElsewhere tx coord hint)) ⊎ ((tx coord : Draw) (hint : Option ℕ) → body ≡ TxElsewhere tx coord hint → ⊥)
 elsewhere_or (TxElsewhere tx coord hint) = inl (tx, coord, hint, refl)
-elsewhere_or (Request group client seq op) = inr (λ tx coord hint e. cc)
-elsewhere_or (Answer group seq answer) = inr (λ tx coord hint e. cc)
-elsewhere_or (Prepare group ballot from_slot) = inr (λ tx coord hint e. cc)
-elsewhere_or (Promise group ballot reports) = inr (λ tx coord hint e. cc)
-elsewhere_or (Accept group ballot slot command) = inr (λ tx coord hint e. cc)
-elsewhere_or (Accepted group ballot slot) = inr (λ tx coord hint e. cc)
-elsewhere_or (Nack group promised) = inr (λ tx coord hint e. cc)
-elsewhere_or (Learn group slot command) = inr (λ tx coord hint e. cc)
-elsewhere_or (Ask group from_slot) = inr (λ tx coord hint e. cc)
-elsewhere_or (Install group slot base sets) = inr (λ tx coord hint e. cc)
 elsewhere_or (TxPrepare tx offer) = inr (λ tx_ coord hint e. cc)
 elsewhere_or (TxVote tx coord part vote) = inr (λ tx_ coord_ hint e. cc)
 elsewhere_or (TxOutcome tx part outcome) = inr (λ tx_ coord hint e. cc)
 elsewhere_or (TxWatch tx watch) = inr (λ tx_ coord hint e. cc)
 elsewhere_or (TxWatched tx coord part vote) = inr (λ tx_ coord_ hint e. cc)
-elsewhere_or (Told order result) = inr (λ tx coord hint e. cc)
+elsewhere_or _ = inr (λ tx coord hint e. cc)
 
 -- a body that is no request
 no_request : (body : MailBody) → ((group : Draw) (client seq : ℕ) (op : Op) → body ≡ Request group client seq op → ⊥) → IsNoRequest body
 no_request (Request group client seq op) none = none group client seq op refl
-no_request (Answer group seq answer) none = tt
-no_request (Prepare group ballot from_slot) none = tt
-no_request (Promise group ballot reports) none = tt
-no_request (Accept group ballot slot command) none = tt
-no_request (Accepted group ballot slot) none = tt
-no_request (Nack group promised) none = tt
-no_request (Learn group slot command) none = tt
-no_request (Ask group from_slot) none = tt
-no_request (Install group slot base sets) none = tt
-no_request (TxPrepare tx offer) none = tt
-no_request (TxVote tx coord part vote) none = tt
-no_request (TxOutcome tx part outcome) none = tt
-no_request (TxElsewhere tx coord hint) none = tt
-no_request (TxWatch tx watch) none = tt
-no_request (TxWatched tx coord part vote) none = tt
-no_request (Told order result) none = tt
+no_request _ none = tt
 
 module _ (all_bounded : ValidScenariosAreBounded) (few_law : SlotsAreLeft) (logs_law : ReplicasRunLogs) (views_law : ViewsAreReplicas) (rosters_law : SlotsHaveRosters) (last_law : ReplicasLast) (next_law : NextRowsAreSent) (newest_law : NewestStay) (found_law : FrontsAreFound) (no_law : NoMailForStrangers)
     (agree_law : ViewsAgree) (alone_law : WellLedLeadAlone) (plain_law : SentReplicas) (meets_law : OrdersRowsMeet) (finds_law : OrdersRowsFind) (rise_law : NextRowsRise) (rounds_law : OrdersKeepRounds) (nowhere_law : ChildrenWereNowhere) (borne_law : ChildrenAreBorne) (fresh_law : FreshGroupsStay) (young_law : YoungGroupsStay) (unsettled_law : MailComesUnsettled) (asked_law : AskedGroupsStood) (true_law : TrueOrdersGoOn)

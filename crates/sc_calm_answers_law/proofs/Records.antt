@@ -341,16 +341,7 @@ module _ (tells : ReplicasTell) (sound : ValidJournalsAreSound) (logs : ValidEnt
     record_by (RecordVote tx (Vows.Yes frozen) by) e k =
         vote_true flight among tx false true by (ap work_by e) refl refl frozen (subst (IsAllowedBy scenario journal name) e (allowed_here flight among tx false true by (ap work_by e)))
     record_by (RecordWatch tx vote by) e k = watch_true flight among tx true (is_cast_yes vote) by (ap work_by e) refl vote
-    record_by (Finish tx outcome) e k = absurd k
-    record_by (Split at child order) e k = absurd k
-    record_by (Begin tx body order) e k = absurd k
-    record_by (Prepared tx offer) e k = absurd k
-    record_by (Watched tx watch) e k = absurd k
-    record_by (Join at order) e k = absurd k
-    record_by (Leave at order) e k = absurd k
-    record_by (GiveUp tx) e k = absurd k
-    record_by Noop e k = absurd k
-    record_by (Call client seq op) e k = absurd k
+    record_by _ e k = absurd k
 
     record_true : IsRecord flight.value → IsTrueEntry r.me r.group flight.value
     record_true k = record_by flight.value refl k

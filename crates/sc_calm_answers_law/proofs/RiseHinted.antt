@@ -184,16 +184,7 @@ module _ (words : ℕ → ℕ → ℕ × ℕ) (at : Sets) (over : Ends) (by : Te
           as_mark (Promises mail.from ballot) (ap (mark_of name mail.from) (e ∙ ap (λ n. Promise n ballot reports) (named_as g (ap group_of_mail e))) ∙ same_mark name (Promises mail.from ballot))
           (inl (ap (λ b. (mailed mail.from b (r, [])).0.0.hint) e ∙ promise_hint mail.from g ballot reports r off))
       hinted_by (Nack g promised) e = unmarked (ap (mark_of name mail.from) e)
-      hinted_by (Ask g from_slot) e = unmarked (ap (mark_of name mail.from) e)
-      hinted_by (Request g client seq op) e = unmarked (ap (mark_of name mail.from) e)
-      hinted_by (TxPrepare tx offer) e = unmarked (ap (mark_of name mail.from) e)
-      hinted_by (TxVote tx coord part vote) e = unmarked (ap (mark_of name mail.from) e)
-      hinted_by (TxOutcome tx part outcome) e = unmarked (ap (mark_of name mail.from) e)
-      hinted_by (TxElsewhere tx coord hint) e = unmarked (ap (mark_of name mail.from) e)
-      hinted_by (TxWatch tx watch) e = unmarked (ap (mark_of name mail.from) e)
-      hinted_by (TxWatched tx coord part vote) e = unmarked (ap (mark_of name mail.from) e)
-      hinted_by (Answer g seq answer) e = unmarked (ap (mark_of name mail.from) e)
-      hinted_by (ToldMail order result) e = unmarked (ap (mark_of name mail.from) e)
+      hinted_by _ e = unmarked (ap (mark_of name mail.from) e)
 
   -- ---- the row of one that takes a mail
 

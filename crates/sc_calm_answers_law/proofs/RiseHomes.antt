@@ -49,20 +49,13 @@ module _ (births : List (Seat Player)) (rows : Rows) (base : Base) where
 
   pub mark_seen : (promise : Ballot) (mark : Mark) → Seen promise → AsksSeen births rows base mark → Seen (promise_by promise mark)
   mark_seen promise (Prepares ballot) p a = a
-  mark_seen promise (Asks ballot slot) p a = p
-  mark_seen promise (Votes node ballot slot) p a = p
-  mark_seen promise (Tells slot) p a = p
-  mark_seen promise (Installs slot) p a = p
-  mark_seen promise (Promises node ballot) p a = p
+  mark_seen promise _ p a = p
 
   -- what a node answers asks for no promise
   pub answered_seen : (node : ℕ) (promise : Ballot) (mark : Mark) (who : ℕ) → AllSeen (answered node promise mark who)
   answered_seen node promise (Asks ballot slot) who = either_way AllSeen (eqb who ballot.node) (Votes node ballot slot ∷ []) [] (tt, tt) tt
   answered_seen node promise (Prepares ballot) who = either_way AllSeen _ (Promises node ballot ∷ []) [] (tt, tt) tt
-  answered_seen node promise (Votes other ballot slot) who = tt
-  answered_seen node promise (Tells slot) who = tt
-  answered_seen node promise (Installs slot) who = tt
-  answered_seen node promise (Promises other ballot) who = tt
+  answered_seen node promise _ who = tt
 
   -- what a leader tells asks to promise its own ballot
   module _ (at : Sets) (course : Course) (own : IsSeen births rows base course.ballot) where
@@ -80,11 +73,7 @@ module _ (births : List (Seat Player)) (rows : Rows) (base : Base) where
 
   offer_seen : (at : Sets) (course : Course) (from who : ℕ) (mark : Mark) → IsOffer at course from who mark → AsksSeen births rows base mark
   offer_seen at course from who (Asks ballot slot) o = tt
-  offer_seen at course from who (Votes node ballot slot) o = absurd o
-  offer_seen at course from who (Tells slot) o = absurd o
-  offer_seen at course from who (Installs slot) o = absurd o
-  offer_seen at course from who (Prepares ballot) o = absurd o
-  offer_seen at course from who (Promises node ballot) o = absurd o
+  offer_seen at course from who _ o = absurd o
 
   pub offers_seen : (at : Sets) (course : Course) (from who : ℕ) (marks : List Mark) → Each (IsOffer at course from who) marks → AllSeen marks
   offers_seen at course from who marks o = Each-weaker (IsOffer at course from who) (AsksSeen births rows base) (λ mark is. offer_seen at course from who mark is) marks o
@@ -174,11 +163,7 @@ module _ (words : ℕ → ℕ → ℕ × ℕ) (at : Sets) (over : Ends) (by : Te
 
   mark_grown : (mark : Mark) → AsksSeen all rows base mark → AsksSeen all then_ base mark
   mark_grown (Prepares ballot) a = grown ballot a
-  mark_grown (Asks ballot slot) a = tt
-  mark_grown (Votes node ballot slot) a = tt
-  mark_grown (Tells slot) a = tt
-  mark_grown (Installs slot) a = tt
-  mark_grown (Promises node ballot) a = tt
+  mark_grown _ a = tt
 
   marks_grown : (ms : List Mark) → Each (AsksSeen all rows base) ms → Each (AsksSeen all then_ base) ms
   marks_grown ms a = Each-weaker (AsksSeen all rows base) (AsksSeen all then_ base) (λ mark s. mark_grown mark s) ms a
@@ -281,20 +266,7 @@ module _ (words : ℕ → ℕ → ℕ × ℕ) (at : Sets) (over : Ends) (by : Te
           let own : mail.from ≡ ballot.node = subst (IsOwnAsking mail.from) e own_mail in
           own ∙ ap (λ (b : Ballot). b.node) (fit_first (Asks ballot slot) mark).0.2
       refused_by (Promise g ballot reports) e n = absurd n
-      refused_by (Accepted g ballot slot) e n = absurd n
-      refused_by (Nack g promised) e n = absurd n
-      refused_by (Learn g slot command) e n = absurd n
-      refused_by (Ask g from_slot) e n = absurd n
-      refused_by (Install g slot state sets) e n = absurd n
-      refused_by (Request g client seq op) e n = absurd n
-      refused_by (Answer g seq answer) e n = absurd n
-      refused_by (TxPrepare tx offer) e n = absurd n
-      refused_by (TxVote tx coord part vote) e n = absurd n
-      refused_by (TxOutcome tx part outcome) e n = absurd n
-      refused_by (TxElsewhere tx coord hint) e n = absurd n
-      refused_by (TxWatch tx watch) e n = absurd n
-      refused_by (TxWatched tx coord part vote) e n = absurd n
-      refused_by (ToldMail order result) e n = absurd n
+      refused_by _ e n = absurd n
 
     -- what an event gives is its mail
     abbrev IsDelivered : Mail → Type 0
@@ -307,11 +279,7 @@ module _ (words : ℕ → ℕ → ℕ × ℕ) (at : Sets) (over : Ends) (by : Te
         got_by None at_ g = cc
         got_by (Some other) at_ g = (let same : other ≡ mail = cc in (number, is, at_ ∙ ap Some same))
     delivered TickEvent mail is got = cc
-    delivered Go mail is got = cc
-    delivered (Told line) mail is got = cc
-    delivered Crash mail is got = cc
-    delivered (Drop other) mail is got = cc
-    delivered (Again other) mail is got = cc
+    delivered _ mail is got = cc
 
     may_refuse : (node : NodeState) (mail : Mail) → value player_table seat rows ≡ Node node → input_of (mails rows) event ≡ Some (Got mail) → MayRefuse May node mail.from mail.body
     may_refuse node mail is got = λ group r g here n named.
@@ -329,10 +297,7 @@ module _ (words : ℕ → ℕ → ℕ × ℕ) (at : Sets) (over : Ends) (by : Te
         got_by (Some mail) g = cc
     no_tick Go c input got t = cc
     no_tick (Told line) c input got t = cc
-    no_tick TickEvent c input got t = absurd c
-    no_tick Crash c input got t = absurd c
-    no_tick (Drop mail) c input got t = absurd c
-    no_tick (Again mail) c input got t = absurd c
+    no_tick _ c input got t = absurd c
 
     row_said : AreSaid May row.sent
     row_said = by_input (input_of (mails rows) event) refl

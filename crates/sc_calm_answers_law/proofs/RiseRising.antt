@@ -46,17 +46,7 @@ module _ (name : Draw) (slot : ℕ) where
   entry_of from (Install g at state sets) e = (let f = (same_one (same_draw g name) (Installs at) e).1 in cc)
   entry_of from (Prepare g ballot at) e = (let f = (same_one (same_draw g name) (Prepares ballot) e).1 in cc)
   entry_of from (Promise g ballot reports) e = (let f = (same_one (same_draw g name) (Promises from ballot) e).1 in cc)
-  entry_of from (Nack g promised) e = cc
-  entry_of from (Ask g at) e = cc
-  entry_of from (Request g client seq op) e = cc
-  entry_of from (Answer g seq answer) e = cc
-  entry_of from (TxPrepare tx offer) e = cc
-  entry_of from (TxVote tx coord part vote) e = cc
-  entry_of from (TxOutcome tx part outcome) e = cc
-  entry_of from (TxElsewhere tx coord hint) e = cc
-  entry_of from (TxWatch tx watch) e = cc
-  entry_of from (TxWatched tx coord part vote) e = cc
-  entry_of from (ToldMail order result) e = cc
+  entry_of from _ e = cc
 
 module _ (words : ℕ → ℕ → ℕ × ℕ) (at : Sets) (over : Ends) (by : Tellers) (scenario : Scenario) (rows : Rows) (seat : Seat Player) (event : Event OrderLine) (base : Base) (course : Course) (idle : JournalsKeepIdle) (wb : AreWellBorn (births as_nodes scenario))
     (one : HasOneLog at over by (births as_nodes scenario) (with_event rows seat event) base) (so : IsSentSo (births as_nodes scenario) (with_event rows seat event) base) (timely : AreInTime (players words (births as_nodes scenario)) (with_event rows seat event))

@@ -29,12 +29,7 @@ use Rattle.sc_calm_answers_law.proofs.Stages.{Before, work_leads, must_lead, ste
 -- nothing is taken where an order is told
 told_none : (event : Event OrderLine) (name : Draw) (rows : Rows) → IsTelling event → taken_mark name (mails rows) event ≡ None
 told_none (Told line) name rows t = refl
-told_none (Deliver number) name rows t = absurd t
-told_none Tick name rows t = absurd t
-told_none Go name rows t = absurd t
-told_none Crash name rows t = absurd t
-told_none (Drop mail) name rows t = absurd t
-told_none (Again mail) name rows t = absurd t
+told_none _ name rows t = absurd t
 
 -- what stands at the one that leads is of the order
 module _ (words : ℕ → ℕ → ℕ × ℕ) (at : Sets) (over : Ends) (by : Tellers) (scenario : Scenario) (rows : Rows) (base : Base) (t : IsSentThrough at over by words (births as_nodes scenario) rows base) (stage : Stage) (a : IsAt stage (scene_at (births as_nodes scenario) rows)) (seat : Seat Player)

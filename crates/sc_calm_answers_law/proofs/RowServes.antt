@@ -191,11 +191,7 @@ module _ (words : ℕ → ℕ → ℕ × ℕ) (scenario : Scenario) (stage : IsS
     node_leaves : (event : Event OrderLine) → IsInOrder (system_of as_nodes words scenario) rows me event → RowLeaves words scenario set.frames rows (later event)
     node_leaves (Deliver number) fine = delivered number fine
     node_leaves Go fine = went
-    node_leaves Tick fine = absurd fine
-    node_leaves (Told order) fine = absurd fine
-    node_leaves Crash fine = absurd fine
-    node_leaves (Drop number) fine = absurd fine
-    node_leaves (Again number) fine = absurd fine
+    node_leaves _ fine = absurd fine
 
   -- no client has a replica
   client_leaves : (asks : Asks) → Among asks scenario.clients → (row : Row Mail OrderLine) → row.who ≡ client_actor asks.client → RowLeaves words scenario set.frames rows (rows ++ row ∷ [])

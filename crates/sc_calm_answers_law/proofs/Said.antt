@@ -65,22 +65,7 @@ module _ (may : Draw → ℕ → Ballot → Type 0) where
 
   pub calm_said : (to : ℕ) (body : MailBody) → IsCalmBody body → IsRefusal to body
   calm_said to (Nack group promised) c = absurd c
-  calm_said to (Ask group from_slot) c = tt
-  calm_said to (Request group client seq op) c = tt
-  calm_said to (Accept group ballot slot command) c = tt
-  calm_said to (Accepted group ballot slot) c = tt
-  calm_said to (Learn group slot command) c = tt
-  calm_said to (Install group slot base sets) c = tt
-  calm_said to (Prepare group ballot from_slot) c = tt
-  calm_said to (Promise group ballot reports) c = tt
-  calm_said to (Answer group seq answer) c = tt
-  calm_said to (TxPrepare tx offer) c = tt
-  calm_said to (TxVote tx coord part vote) c = tt
-  calm_said to (TxOutcome tx part outcome) c = tt
-  calm_said to (TxElsewhere tx coord hint) c = tt
-  calm_said to (TxWatch tx watch) c = tt
-  calm_said to (TxWatched tx coord part vote) c = tt
-  calm_said to (Told order result) c = tt
+  calm_said to _ c = tt
 
   pub one_sent : (me to : ℕ) (body : MailBody) (mails : List Mail) → IsCalmBody body → AreSaid mails → AreSaid (sent me to body mails)
   one_sent me to body mails q m = Each-append (IsSaid) mails (record { from = me; to = to; body = body } ∷ []) m (calm_said to body q, tt)
@@ -211,11 +196,7 @@ module _ (may : Draw → ℕ → Ballot → Type 0) where
   went_said me group before effect (GiveUp tx) mails m = given_up_said (decided_in effect) me before tx mails m
   went_said me group before effect (Watched tx watch) mails m = watch_said (cast_in effect) me tx watch mails m
   went_said me group before effect (RecordWatch tx vote by) mails m = watch_replied (decided_in effect) vote me before tx by mails m
-  went_said me group before effect (Finish tx outcome) mails m = m
-  went_said me group before effect Noop mails m = m
-  went_said me group before effect (Call client seq op) mails m = m
-  went_said me group before effect (Join node order) mails m = m
-  went_said me group before effect (Leave node order) mails m = m
+  went_said me group before effect _ mails m = m
 
   begun_said : (me : ℕ) (before : Before) (effect : Effect) (command : Command) (mails : List Mail) → AreSaid mails → AreSaid (told_begun me before effect command mails)
   unfolding told_begun

@@ -21,16 +21,7 @@ module _ (may : Draw → ℕ → Ballot → Type 0) where
   unknown_said from (Learn group slot command) node = (tt, tt)
   unknown_said from (TxPrepare tx offer) node = (tt, tt)
   unknown_said from (TxWatch tx watch) node = (tt, tt)
-  unknown_said from (Answer group seq answer) node = tt
-  unknown_said from (Promise group ballot reports) node = tt
-  unknown_said from (Accepted group ballot slot) node = tt
-  unknown_said from (Nack group promised) node = tt
-  unknown_said from (Ask group from_slot) node = tt
-  unknown_said from (TxVote tx coord part vote) node = tt
-  unknown_said from (TxOutcome tx part outcome) node = tt
-  unknown_said from (TxElsewhere tx coord hint) node = tt
-  unknown_said from (TxWatched tx coord part vote) node = tt
-  unknown_said from (Told order result) node = tt
+  unknown_said from _ node = tt
 
   -- what a replica of a node may refuse
   abbrev pub MayRefuse : NodeState → ℕ → MailBody → Type 0

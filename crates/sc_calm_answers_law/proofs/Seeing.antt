@@ -200,12 +200,7 @@ module _ (r : ReplicaState) where
   mail_idly from (TxWatch tx watch) a off = watch_idly from tx watch (r, []) (off, refl)
   mail_idly from (TxWatched tx coord part vote) a off = watched_idly from tx part vote (r, []) (off, refl)
   mail_idly from (Told order result) a off = (off, refl)
-  mail_idly from (Prepare group ballot from_slot) a off = absurd a
-  mail_idly from (Accept group ballot slot command) a off = absurd a
-  mail_idly from (Nack group promised) a off = absurd a
-  mail_idly from (Learn group slot command) a off = absurd a
-  mail_idly from (Ask group from_slot) a off = absurd a
-  mail_idly from (Install group slot base sets) a off = absurd a
+  mail_idly from _ a off = absurd a
 
   -- ---- an entry that is told, by which it does not elect itself
 

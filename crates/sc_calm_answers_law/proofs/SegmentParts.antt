@@ -20,12 +20,7 @@ use Rattle.sc_calm_answers_law.proofs.Segments.{Parts, IsSegment, segments}
 -- an order that is told
 pub told_line : (event : Event OrderLine) → is_told event ≡ true → (line : OrderLine) × (event ≡ Told line)
 told_line (Told line) told = (line, refl)
-told_line (Deliver number) told = absurd (true≢false (sym told))
-told_line Go told = absurd (true≢false (sym told))
-told_line Tick told = absurd (true≢false (sym told))
-told_line Crash told = absurd (true≢false (sym told))
-told_line (Drop mail) told = absurd (true≢false (sym told))
-told_line (Again mail) told = absurd (true≢false (sym told))
+told_line _ told = absurd (true≢false (sym told))
 
 -- the laws that stand below segments
 pub record SegmentLaws : Type 0 where

@@ -208,9 +208,7 @@ module _ (segment : SegmentLaws) (laws : RowLaws) (words : ℕ → ℕ → ℕ �
       | inr order ↦ (let d = only_delivers order (ap is_told (ap event_of is)) in let bad : Go ≡ Deliver d.0 = sym (ap event_of is) ∙ d.1 in cc)
     ]
     finds seat Tick seated is = tt
-    finds seat Crash seated is = tt
-    finds seat (Drop mail) seated is = tt
-    finds seat (Again mail) seated is = tt
+    finds seat _ seated is = tt
 
     -- ---- the chart after it
 

@@ -118,12 +118,7 @@ module _ (s : System Player Mail OrderLine) where
         -- an order comes where it is quiet
         pub told_quiet : (event : Event OrderLine) → is_told event ≡ true → ComesInTime s rows event → is_quiet s rows ≡ true
         told_quiet (Told order) told comes = comes
-        told_quiet (Deliver number) told comes = absurd (true≢false (sym told))
-        told_quiet Tick told comes = absurd (true≢false (sym told))
-        told_quiet Go told comes = absurd (true≢false (sym told))
-        told_quiet Crash told comes = absurd (true≢false (sym told))
-        told_quiet (Drop mail) told comes = absurd (true≢false (sym told))
-        told_quiet (Again mail) told comes = absurd (true≢false (sym told))
+        told_quiet _ told comes = absurd (true≢false (sym told))
 
         -- while an order is under way, nobody goes
         nobody_goes : (quiet behind : Rows) → rows ≡ quiet ++ behind → quiet_front s rows ≡ quiet → IsOrdered quiet behind → IsClear s rows → ⊥
@@ -149,10 +144,7 @@ module _ (s : System Player Mail OrderLine) where
             by (Deliver number) same fine = (number, same)
             by Go same fine = absurd (nobody_goes quiet behind e front order (subst (ComesInTime s rows) same calm.1))
             by (Told order_) same fine = absurd (true≢false (sym (ap is_told same) ∙ untold))
-            by Tick same fine = absurd fine
-            by Crash same fine = absurd fine
-            by (Drop mail) same fine = absurd fine
-            by (Again mail) same fine = absurd fine
+            by _ same fine = absurd fine
 
         -- whatever stands behind the last quiet journal
         untold_row : (quiet behind : Rows) → rows ≡ quiet ++ behind → quiet_front s rows ≡ quiet → Rests quiet → is_told row.event ≡ false → IsBehind quiet behind → IsSegment after

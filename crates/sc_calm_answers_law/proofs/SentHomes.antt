@@ -105,20 +105,14 @@ module _ (at : Sets) (now after : Progress) (node : ℕ) (taken : Option Mark) (
     held_of (Prepares ballot) fit f who = cond_both (eqb who ballot.node && below (now.promise node) ballot) (Promises node ballot ∷ []) [] (λ l. (l ≡ []) ⊎ ((1 ≤ now.next who) × Each (FindsOne after who) l))
         (λ e. (let some : 1 ≤ now.next who = subst (λ n. 1 ≤ now.next n) (sym (eqb-true who ballot.node (and_parts (eqb who ballot.node) (below (now.promise node) ballot) e).0)) f in let u = up who in inr (some, (omega (arith, some, u), tt)))) (λ _. inl refl)
     held_of (Votes other ballot slot) fit f who = inl refl
-    held_of (Tells slot) fit f who = inl refl
-    held_of (Installs slot) fit f who = inl refl
-    held_of (Promises other ballot) fit f who = inl refl
+    held_of _ fit f who = inl refl
 
     answers : (who : ℕ) → (sent who ≡ []) ⊎ ((1 ≤ now.next who) × Each (FindsOne after who) (sent who))
     answers who = subst (λ l. (l ≡ []) ⊎ ((1 ≤ now.next who) × Each (FindsOne after who) l)) (sym (t.sends who)) (held_of t.mark is_fit finds_head who)
 
     promise_held : (mark : Mark) → FindsOne now node mark → IsHeld now (promise_by (now.promise node) mark)
     promise_held (Prepares ballot) f = f
-    promise_held (Asks ballot slot) f = h.promised node
-    promise_held (Votes other ballot slot) f = h.promised node
-    promise_held (Tells slot) f = h.promised node
-    promise_held (Installs slot) f = h.promised node
-    promise_held (Promises other ballot) f = h.promised node
+    promise_held _ f = h.promised node
 
     takes_homes : IsAtHome at after marks_after
     takes_homes = kept own (λ who. elim (answers who) [ inl none ↦ subst (Each (FindsOne after who)) (sym none) tt | inr some ↦ some.1 ])

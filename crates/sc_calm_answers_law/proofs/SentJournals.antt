@@ -37,20 +37,7 @@ module _ (name : Draw) (old new : Ballot) (rises : (b : Ballot) → IsAtLeast ol
   later_well (Ask group from_slot) k = k
   later_well (Nack group promised) k = λ is. rises promised (k is)
   later_well (Promise group other reports) k = k
-  later_well (Request group client seq op) k = tt
-  later_well (Answer group seq answer) k = tt
-  later_well (Prepare group other from_slot) k = tt
-  later_well (Accept group other slot command) k = tt
-  later_well (Accepted group other slot) k = tt
-  later_well (Learn group slot command) k = tt
-  later_well (Install group slot base sets) k = tt
-  later_well (TxPrepare tx offer) k = tt
-  later_well (TxVote tx coord part vote) k = tt
-  later_well (TxOutcome tx part outcome) k = tt
-  later_well (TxElsewhere tx coord hint) k = tt
-  later_well (TxWatch tx watch) k = tt
-  later_well (TxWatched tx coord part vote) k = tt
-  later_well (Told order result) k = tt
+  later_well _ k = tt
 
   all_later : (mails_ : List Mail) → AreSaidWell name old mails_ → AreSaidWell name new mails_
   all_later mails_ k = Each-weaker (λ (mail : Mail). SaysWell name old mail.body) (λ (mail : Mail). SaysWell name new mail.body) (λ mail s. later_well mail.body s) mails_ k

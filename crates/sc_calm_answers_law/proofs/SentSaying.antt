@@ -106,20 +106,10 @@ module _ (name : Draw) (ballot : Ballot) (slots : ℕ) (Own : Type 0) where
   heard who (Prepare group other from_slot) f = (λ o. absurd (f o), λ o. f o)
   heard who (Promise group other reports) f = reported reports f
   heard who (Accept group other slot command) f = (f, tt)
-  heard who (Accepted group other slot) f = tt
   heard who (Nack group promised) f = f
   heard who (Learn group slot command) f = (tt, f)
   heard who (Install group slot base sets) f = (tt, tt)
-  heard who (Ask group from_slot) f = tt
-  heard who (Request group client seq op) f = tt
-  heard who (Answer group seq answer) f = tt
-  heard who (TxPrepare tx offer) f = tt
-  heard who (TxVote tx coord part vote) f = tt
-  heard who (TxOutcome tx part outcome) f = tt
-  heard who (TxElsewhere tx coord hint) f = tt
-  heard who (TxWatch tx watch) f = tt
-  heard who (TxWatched tx coord part vote) f = tt
-  heard who (Told order result) f = tt
+  heard who _ f = tt
 
   said : (State : Base → Type 0) (who : ℕ) (mails : List Mail) → AreSaid (talking State who) mails → AreSaidWell name ballot mails
   said State who mails k = Each-weaker (Sends (talking State who)) (λ (mail : Mail). SaysWell name ballot mail.body) (λ mail s. s.1) mails k

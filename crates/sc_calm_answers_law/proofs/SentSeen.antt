@@ -184,15 +184,7 @@ module _ (words : ℕ → ℕ → ℕ × ℕ) (at : Sets) (over : Ends) (by : Te
         let body : mail.body ≡ Promise name ballot reports = e ∙ ap (λ n. Promise n ballot reports) (named_as g (ap group_of_mail e)) in
         idly (subst (IsPlainMail All_) (sym e) (so.plain rows seat number mail ballot reports t.delivers body)) (subst (IsIdleMail r) (sym e) tt)
     shows (Accepted g ballot slot) e = idly (subst (IsPlainMail All_) (sym e) tt) (subst (IsIdleMail r) (sym e) tt)
-    shows (Request g client seq op) e = idly (subst (IsPlainMail All_) (sym e) tt) (subst (IsIdleMail r) (sym e) tt)
-    shows (TxPrepare tx offer) e = idly (subst (IsPlainMail All_) (sym e) tt) (subst (IsIdleMail r) (sym e) tt)
-    shows (TxVote tx coord part vote) e = idly (subst (IsPlainMail All_) (sym e) tt) (subst (IsIdleMail r) (sym e) tt)
-    shows (TxOutcome tx part outcome) e = idly (subst (IsPlainMail All_) (sym e) tt) (subst (IsIdleMail r) (sym e) tt)
-    shows (TxElsewhere tx coord hint) e = idly (subst (IsPlainMail All_) (sym e) tt) (subst (IsIdleMail r) (sym e) tt)
-    shows (TxWatch tx watch) e = idly (subst (IsPlainMail All_) (sym e) tt) (subst (IsIdleMail r) (sym e) tt)
-    shows (TxWatched tx coord part vote) e = idly (subst (IsPlainMail All_) (sym e) tt) (subst (IsIdleMail r) (sym e) tt)
-    shows (Answer g seq answer) e = idly (subst (IsPlainMail All_) (sym e) tt) (subst (IsIdleMail r) (sym e) tt)
-    shows (ToldMail order result) e = idly (subst (IsPlainMail All_) (sym e) tt) (subst (IsIdleMail r) (sym e) tt)
+    shows _ e = idly (subst (IsPlainMail All_) (sym e) tt) (subst (IsIdleMail r) (sym e) tt)
 
   -- ---- an order
 

@@ -51,18 +51,9 @@ module _ (name : Draw) (ballot : Ballot) (node : NodeState) (from : ℕ) where
   missed (Accept g b slot command) group e late = (let same : g ≡ group = cc in ((λ is. accept_late g (Accept g b slot command) (Asks b slot) is refl (λ s state sets i. (let bad : Accept g b slot command ≡ Install name s state sets = i in cc)) (late (sym same ∙ is))), tt))
   missed (Learn g slot command) group e late = (let same : g ≡ group = cc in ((λ is. accept_late g (Learn g slot command) (Tells slot) is refl (λ s state sets i. (let bad : Learn g slot command ≡ Install name s state sets = i in cc)) (late (sym same ∙ is))), tt))
   missed (Request g client seq op) group e late = (tt, tt)
-  missed (Answer g seq answer) group e late = tt
-  missed (Promise g b reports) group e late = tt
-  missed (Accepted g b slot) group e late = tt
-  missed (Nack g promised) group e late = tt
-  missed (Ask g slot) group e late = tt
   missed (TxPrepare tx offer) group e late = (tt, tt)
-  missed (TxVote tx coord part vote) group e late = tt
-  missed (TxOutcome tx part outcome) group e late = tt
-  missed (TxElsewhere tx coord hint) group e late = tt
   missed (TxWatch tx watch) group e late = (tt, tt)
-  missed (TxWatched tx coord part vote) group e late = tt
-  missed (ToldMail order result) group e late = tt
+  missed _ group e late = tt
 
   module _ (body : MailBody) (has : (group : Draw) (r : ReplicaState) → group_of_mail body ≡ Some group → replica_of group node.replicas ≡ Some r → AreSaidWell name ballot (mailed from body (r, [])).0.1)
       (late : replica_of name node.replicas ≡ None → group_of_mail body ≡ Some name → IsLate body) where

@@ -52,12 +52,7 @@ line_low budget nodes clients (Settle most) is allows bounded = (let high = boun
 line_low budget nodes clients (Free most workers) is allows bounded = (let high = bounded.0.1 in omega (arith, allows, high))
 line_low budget nodes clients (Go client) is allows bounded = absurd (true≢false (sym is))
 line_low budget nodes clients (Told node order) is allows bounded = absurd (true≢false (sym is))
-line_low budget nodes clients (Deliver who k) is allows bounded = absurd allows
-line_low budget nodes clients (Drop who k) is allows bounded = absurd allows
-line_low budget nodes clients (Again mail) is allows bounded = absurd allows
-line_low budget nodes clients (Tick who) is allows bounded = absurd allows
-line_low budget nodes clients (Crash node) is allows bounded = absurd allows
-line_low budget nodes clients (Storm number most) is allows bounded = absurd allows
+line_low budget nodes clients _ is allows bounded = absurd allows
 
 -- so the budget is no more, where one of these delivers
 lines_low : (budget nodes : ℕ) (clients : List Asks) (lines : List SchedLine) → Each (AllowsCalmly budget) lines → Each (IsBoundedLine nodes clients) lines → list_any delivers lines ≡ true → budget ≤ most_deliveries

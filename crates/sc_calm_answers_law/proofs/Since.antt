@@ -28,17 +28,7 @@ shared_begins scenario journal name (Begin tx At.Merge order) a = tt
 shared_begins scenario journal name (Begin tx (At.Repart at) order) a = tt
 shared_begins scenario journal name (Begin tx (At.Migrate node) order) a = tt
 shared_begins scenario journal name (Begin tx (At.Split at child) order) a = absurd a.1
-shared_begins scenario journal name Noop a = tt
-shared_begins scenario journal name (Call client seq op) a = tt
-shared_begins scenario journal name (Join node order) a = tt
-shared_begins scenario journal name (Leave node order) a = tt
-shared_begins scenario journal name (Split at child order) a = tt
-shared_begins scenario journal name (Prepared tx offer) a = tt
-shared_begins scenario journal name (RecordVote tx vote by) a = tt
-shared_begins scenario journal name (GiveUp tx) a = tt
-shared_begins scenario journal name (Finish tx outcome) a = tt
-shared_begins scenario journal name (Watched tx watch) a = tt
-shared_begins scenario journal name (RecordWatch tx vote by) a = tt
+shared_begins scenario journal name _ a = tt
 
 -- a participant votes once
 pub one_vote : (scenario : Scenario) (journal : Rows) (tx one other : Draw) (frozen again : Frozen) (by node : ℕ) → IsAllowedBy scenario journal one (RecordVote tx (Vows.Yes frozen) by) → IsAllowedBy scenario journal other (RecordVote tx (Vows.Yes again) node) → frozen ≡ again

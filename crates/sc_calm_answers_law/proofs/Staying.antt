@@ -47,17 +47,7 @@ errand_group name from to (TxElsewhere tx coord hint) entry e g = cc
 errand_group name from to (TxVote tx coord part vote) entry e g = cc
 errand_group name from to (TxWatched tx coord part vote) entry e g = cc
 errand_group name from to (TxOutcome tx part outcome) entry e g = cc
-errand_group name from to (Request group client seq op) entry e g = absurd (none_some e)
-errand_group name from to (Answer group seq answer) entry e g = absurd (none_some e)
-errand_group name from to (Prepare group ballot from_slot) entry e g = absurd (none_some e)
-errand_group name from to (Promise group ballot reports) entry e g = absurd (none_some e)
-errand_group name from to (Accept group ballot slot command) entry e g = absurd (none_some e)
-errand_group name from to (Accepted group ballot slot) entry e g = absurd (none_some e)
-errand_group name from to (Nack group promised) entry e g = absurd (none_some e)
-errand_group name from to (Learn group slot command) entry e g = absurd (none_some e)
-errand_group name from to (Ask group from_slot) entry e g = absurd (none_some e)
-errand_group name from to (Install group slot base sets) entry e g = absurd (none_some e)
-errand_group name from to (ToldMail order result) entry e g = absurd (none_some e)
+errand_group name from to _ entry e g = absurd (none_some e)
 
 -- mail of a group
 abbrev pub IsFor : Draw → Mail → Type 0

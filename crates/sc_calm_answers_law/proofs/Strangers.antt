@@ -109,18 +109,13 @@ module _ (finds : FrontsAreFound) (home : MembersAreHome) (words : ℕ → ℕ �
           unknown_silent from (Prepare g ballot slot) unmarked = others_hear_nothing.missed name who node.me from (Prepare g ballot slot)
           unknown_silent from (Accept g ballot slot command) unmarked = others_hear_nothing.missed name who node.me from (Accept g ballot slot command)
           unknown_silent from (Learn g slot command) unmarked = others_hear_nothing.missed name who node.me from (Learn g slot command)
-          unknown_silent from (Answer g seq answer) unmarked = refl
-          unknown_silent from (Promise g ballot reports) unmarked = refl
-          unknown_silent from (Accepted g ballot slot) unmarked = refl
-          unknown_silent from (Nack g promised) unmarked = refl
-          unknown_silent from (Ask g slot) unmarked = refl
           unknown_silent from (TxPrepare tx offer) unmarked = others_hear_nothing.missed name who node.me from (TxPrepare tx offer)
           unknown_silent from (TxVote tx coord part vote) unmarked = others_hear_nothing.missed name who node.me from (TxVote tx coord part vote)
           unknown_silent from (TxOutcome tx part outcome) unmarked = others_hear_nothing.missed name who node.me from (TxOutcome tx part outcome)
           unknown_silent from (TxElsewhere tx coord hint) unmarked = others_hear_nothing.missed name who node.me from (TxElsewhere tx coord hint)
           unknown_silent from (TxWatch tx watch) unmarked = others_hear_nothing.missed name who node.me from (TxWatch tx watch)
           unknown_silent from (TxWatched tx coord part vote) unmarked = others_hear_nothing.missed name who node.me from (TxWatched tx coord part vote)
-          unknown_silent from (ToldMail order result) unmarked = refl
+          unknown_silent from _ unmarked = refl
 
           taken_silent : (o : Option ReplicaState) (g : Draw) (from : ℕ) (body : MailBody) → replica_of g node.replicas ≡ o → mark_of dummy.core.id from body ≡ None → marks_for dummy.core.id who (taken_by o g from body node).1 ≡ []
           taken_silent None g from body e unmarked = unknown_silent from body unmarked
@@ -158,9 +153,7 @@ module _ (finds : FrontsAreFound) (home : MembersAreHome) (words : ℕ → ℕ �
           ap (marks_for name who) (sent_is all rows seat (Told line) name born (Node node) at (input_of (mails rows) (Told line)) refl)
           ∙ order_silent rows more begins seat (Told line) born fine timely none node at who line (replica_of (group_of_order line.order) node.replicas) refl
       silent rows more begins seat Tick born fine timely none (Node node) at who = absurd fine
-      silent rows more begins seat Crash born fine timely none (Node node) at who = absurd fine
-      silent rows more begins seat (Drop mail) born fine timely none (Node node) at who = absurd fine
-      silent rows more begins seat (Again mail) born fine timely none (Node node) at who = absurd fine
+      silent rows more begins seat _ born fine timely none (Node node) at who = absurd fine
 
       abbrev Begin : Rows → Type 0
       Begin rows = (more : Rows) → front ≡ rows ++ more → (who : ℕ) → marks_at (players words (births as_nodes scenario)) rows dummy.core.id who ≡ []

@@ -47,19 +47,7 @@ module _ (begun : Requests) (frame : Frame) (is : IsFrame frame) where
   group_same me from (Request group client seq op) r place left b does = absurd (away me left does.0)
   group_same me from (Accepted group ballot slot) r place left b does = absurd (away me left does.0)
   group_same me from (Learn group slot command) r place left b does = absurd (both_ways (is_member frame.core.members me) left b.1.to_in)
-  group_same me from (Answer group seq answer) r place left b does = absurd does
-  group_same me from (Prepare group ballot from_slot) r place left b does = absurd does
-  group_same me from (Promise group ballot reports) r place left b does = absurd does
-  group_same me from (Nack group promised) r place left b does = absurd does
-  group_same me from (Ask group from_slot) r place left b does = absurd does
-  group_same me from (Install group slot base sets) r place left b does = absurd does
-  group_same me from (TxPrepare tx offer) r place left b does = absurd does
-  group_same me from (TxVote tx coord part vote) r place left b does = absurd does
-  group_same me from (TxOutcome tx part outcome) r place left b does = absurd does
-  group_same me from (TxElsewhere tx coord hint) r place left b does = absurd does
-  group_same me from (TxWatch tx watch) r place left b does = absurd does
-  group_same me from (TxWatched tx coord part vote) r place left b does = absurd does
-  group_same me from (Told order result) r place left b does = absurd does
+  group_same me from _ r place left b does = absurd does
 
   module _ (ways : Ways) (bounded : AreBounded ways) where
     -- what a plain replica finds in a mail of its group
@@ -78,18 +66,7 @@ module _ (begun : Requests) (frame : Frame) (is : IsFrame frame) where
         let f = following_at begun frame is me r b.1.to_in b.1.other k in
         inr (subst (λ (x : Command). Follows x r × (slot ≤ next r)) (sym c.3) (follows ways begun frame is bounded me c.0 c.1 c.2 r f.0 f.1 call, omega (arith, due)))
     may_take me from (Answer group seq answer) r k b due n = absurd (n b.1.client seq b.1.op b.1.is_begun b.1.to_is)
-    may_take me from (Prepare group ballot from_slot) r k b due n = absurd b
-    may_take me from (Promise group ballot reports) r k b due n = absurd b
-    may_take me from (Nack group promised) r k b due n = absurd b
-    may_take me from (Ask group from_slot) r k b due n = absurd b
-    may_take me from (Install group slot base sets) r k b due n = absurd b
-    may_take me from (TxPrepare tx offer) r k b due n = absurd b
-    may_take me from (TxVote tx coord part vote) r k b due n = absurd b
-    may_take me from (TxOutcome tx part outcome) r k b due n = absurd b
-    may_take me from (TxElsewhere tx coord hint) r k b due n = absurd b
-    may_take me from (TxWatch tx watch) r k b due n = absurd b
-    may_take me from (TxWatched tx coord part vote) r k b due n = absurd b
-    may_take me from (Told order result) r k b due n = absurd b
+    may_take me from _ r k b due n = absurd b
 
 module _ (begun : Requests) (set : Setting) (is : IsSetting set) (chart : Chart) (counts : CountsAs set chart) (elsewhere : Elsewhere) (node : NodeState) (n : IsCalmNode begun set node) (pumps : Each MayPump node.replicas) (mail : Mail) (to : mail.to ≡ node.me)
     (not_client : (client seq : ℕ) (op : Op) → begun client seq op → node.me ≡ client_actor client → ⊥) (due : ComesInTime begun set node mail) where

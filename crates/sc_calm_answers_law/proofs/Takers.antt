@@ -118,13 +118,8 @@ module _ (post_law : MailIsPosted) (desk_law : DesksAreNotBorn) (members_law : M
   none (Install group slot base sets) e = marked group (ap group_of_mail e) (λ n. Install n slot base sets) (Installs slot) e (λ n. same_mark n (Installs slot))
   none (Ask group from_slot) e = asked group (ap group_of_mail e) from_slot e
   none (Nack group promised) e = away_to (Each-among (RefusesHome scenario) (mails rows) d.mail (refuse_law words scenario rows before) sent group promised e)
-  none (TxPrepare tx offer) e = errand _ (ap (errand_by d.mail.from d.mail.to) e)
-  none (TxVote tx coord part vote) e = errand _ (ap (errand_by d.mail.from d.mail.to) e)
-  none (TxOutcome tx part outcome) e = errand _ (ap (errand_by d.mail.from d.mail.to) e)
-  none (TxElsewhere tx coord hint) e = errand _ (ap (errand_by d.mail.from d.mail.to) e)
-  none (TxWatch tx watch) e = errand _ (ap (errand_by d.mail.from d.mail.to) e)
-  none (TxWatched tx coord part vote) e = errand _ (ap (errand_by d.mail.from d.mail.to) e)
   none (Told order result) e = (let p = Each-among (IsPosted all) (mails rows) d.mail (post_law words scenario rows before) sent in desk (told_to p.seat.who p.seat.actor d.mail order result e p.is))
+  none _ e = errand _ (ap (errand_by d.mail.from d.mail.to) e)
 
   taken_by_node : ⊥
   taken_by_node = none d.mail.body refl

@@ -316,21 +316,7 @@ module _ (a : Affair) (g : Draw) where
   unfolding mailed
   mailed_kids from (Accepted group ballot slot) r mails h f = accepted_kids from ballot slot (r, mails) f
   mailed_kids from (Learn group slot command) r mails h f = learn_kids from slot command r mails (subst (λ n. a.Does n command) f.0.0 h.0) h.1 f
-  mailed_kids from (Request group client seq op) r mails h f = tt
-  mailed_kids from (Answer group seq answer) r mails h f = tt
-  mailed_kids from (Prepare group ballot from_slot) r mails h f = tt
-  mailed_kids from (Promise group ballot reports) r mails h f = tt
-  mailed_kids from (Accept group ballot slot command) r mails h f = tt
-  mailed_kids from (Nack group ballot) r mails h f = tt
-  mailed_kids from (Ask group from_slot) r mails h f = tt
-  mailed_kids from (Install group slot base sets) r mails h f = tt
-  mailed_kids from (TxPrepare tx offer) r mails h f = tt
-  mailed_kids from (TxVote tx coord part vote) r mails h f = tt
-  mailed_kids from (TxOutcome tx part outcome) r mails h f = tt
-  mailed_kids from (TxElsewhere tx coord hint) r mails h f = tt
-  mailed_kids from (TxWatch tx watch) r mails h f = tt
-  mailed_kids from (TxWatched tx coord part vote) r mails h f = tt
-  mailed_kids from (Told order result) r mails h f = tt
+  mailed_kids from _ r mails h f = tt
 
   -- ---- births, and a replica that is made of a state
 

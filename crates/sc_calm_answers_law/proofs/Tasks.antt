@@ -85,14 +85,7 @@ module _ (told child : Draw) where
   split_entered name group (Finish tx outcome) s d = finish_so name group.core.lock group tx outcome s refl
   split_entered name group (Watched tx watch) s d = watched_so name group tx watch s
   split_entered name group (RecordWatch tx vote by) s d = watch_so name group.core.lock group tx vote refl s
-  split_entered name group Noop s d = absurd d
-  split_entered name group (Call client seq op) s d = absurd d
-  split_entered name group (Join node order) s d = absurd d
-  split_entered name group (Leave node order) s d = absurd d
-  split_entered name group (Begin tx body order) s d = absurd d
-  split_entered name group (Prepared tx offer) s d = absurd d
-  split_entered name group (RecordVote tx vote by) s d = absurd d
-  split_entered name group (GiveUp tx) s d = absurd d
+  split_entered name group _ s d = absurd d
 
   -- ---- its child
 
@@ -135,14 +128,7 @@ module _ (told child : Draw) where
   split_bears name group (RecordWatch tx vote by) kid s d e = watched_kid name group.core.lock group tx vote kid refl s e
   split_bears name group (Finish tx outcome) kid s d e = none_some e
   split_bears name group (Watched tx watch) kid s d e = none_some e
-  split_bears name group Noop kid s d e = absurd d
-  split_bears name group (Call client seq op) kid s d e = absurd d
-  split_bears name group (Join node order) kid s d e = absurd d
-  split_bears name group (Leave node order) kid s d e = absurd d
-  split_bears name group (Begin tx body order) kid s d e = absurd d
-  split_bears name group (Prepared tx offer) kid s d e = absurd d
-  split_bears name group (RecordVote tx vote by) kid s d e = absurd d
-  split_bears name group (GiveUp tx) kid s d e = absurd d
+  split_bears name group _ kid s d e = absurd d
 
 -- ---- by a split nobody comes
 
@@ -207,14 +193,7 @@ module _ (group : Group) where
   split_adds told child name (RecordWatch tx vote by) l d = watch_were told child name group.core.lock tx vote l
   split_adds told child name (Finish tx outcome) l d = finish_were told child name group.core.lock tx outcome l
   split_adds told child name (Watched tx watch) l d = cond_both (has_voted group.core tx) _ _ Were (λ _ node is. is) (λ _ node is. is)
-  split_adds told child name Noop l d = absurd d
-  split_adds told child name (Call client seq op) l d = absurd d
-  split_adds told child name (Join node order) l d = absurd d
-  split_adds told child name (Leave node order) l d = absurd d
-  split_adds told child name (Begin tx body order) l d = absurd d
-  split_adds told child name (Prepared tx offer) l d = absurd d
-  split_adds told child name (RecordVote tx vote by) l d = absurd d
-  split_adds told child name (GiveUp tx) l d = absurd d
+  split_adds told child name _ l d = absurd d
 
 -- what is asked then is asked of a watcher
 pub split_asks : (told child name : Draw) (born : List Draw) (tx : Draw) (body : Body) (order : ℕ) (heard : Option Heard) (lock : Lock) → LockSplits told child name born lock → lock ≡ Coordinating tx body order heard → (at : ℕ) × (drawn : Draw) × (body ≡ At.Split at drawn)
@@ -324,14 +303,7 @@ other_bears group (Split at child order) kid s d e = d
 other_bears group (RecordWatch tx vote by) kid s d e = other_watched_kid group.core.lock group tx vote kid s e
 other_bears group Noop kid s d e = d
 other_bears group (Call client seq op) kid s d e = d
-other_bears group (Join node order) kid s d e = none_some e
-other_bears group (Leave node order) kid s d e = none_some e
-other_bears group (Begin tx body order) kid s d e = none_some e
-other_bears group (Prepared tx offer) kid s d e = none_some e
-other_bears group (RecordVote tx vote by) kid s d e = none_some e
-other_bears group (GiveUp tx) kid s d e = none_some e
-other_bears group (Finish tx outcome) kid s d e = none_some e
-other_bears group (Watched tx watch) kid s d e = none_some e
+other_bears group _ kid s d e = none_some e
 
 -- ---- both
 

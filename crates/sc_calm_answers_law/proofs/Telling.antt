@@ -72,9 +72,7 @@ answers_none node promise (Prepares ballot) who slot a = cond_both (eqb who ball
     no_promise (inl e) = cc
     no_promise (inr n) = absurd n
 answers_none node promise (Votes other ballot s) who slot a = absurd a
-answers_none node promise (Tells s) who slot a = absurd a
-answers_none node promise (Installs s) who slot a = absurd a
-answers_none node promise (Promises other ballot) who slot a = absurd a
+answers_none node promise _ who slot a = absurd a
 
 -- .. nor does what a leader offers
 pub offers_none : (at : Sets) (course : Course) (from who slot : ℕ) (marks : List Mark) → Each (IsOffer at course from who) marks → Among (Installs slot) marks → ⊥

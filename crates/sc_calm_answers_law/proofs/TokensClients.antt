@@ -102,18 +102,4 @@ module _ (c : ℕ) where
           omega (arith, most, same)
       by false t = omega arith
   got_tokens client from to (Request group who seq op) here = omega arith
-  got_tokens client from to (Prepare group ballot from_slot) here = omega arith
-  got_tokens client from to (Promise group ballot reports) here = omega arith
-  got_tokens client from to (Accept group ballot slot command) here = omega arith
-  got_tokens client from to (Accepted group ballot slot) here = omega arith
-  got_tokens client from to (Nack group promised) here = omega arith
-  got_tokens client from to (Learn group slot command) here = omega arith
-  got_tokens client from to (Ask group from_slot) here = omega arith
-  got_tokens client from to (Install group slot base sets) here = omega arith
-  got_tokens client from to (TxPrepare tx offer) here = omega arith
-  got_tokens client from to (TxVote tx coord part vote) here = omega arith
-  got_tokens client from to (TxOutcome tx part outcome) here = omega arith
-  got_tokens client from to (TxElsewhere tx coord hint) here = omega arith
-  got_tokens client from to (TxWatch tx watch) here = omega arith
-  got_tokens client from to (TxWatched tx coord part vote) here = omega arith
-  got_tokens client from to (Told order result) here = omega arith
+  got_tokens client from to _ here = omega arith

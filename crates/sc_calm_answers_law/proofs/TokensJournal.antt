@@ -156,10 +156,7 @@ module _ (c : ℕ) (words : ℕ → ℕ → ℕ × ℕ) (scenario : Scenario) (b
         let n = turns_of.n words scenario begins set is rows t j room me one most born in
         go_after sys begins.seats_apart (token_owing c) rows (nseat me) born (subst (λ (p : Player). owed_by (token_owing c) (player_table p GoInput) ≤ player_token c p) (sym n.is) (omega arith))
     node_falls Tick fine = absurd fine
-    node_falls (Told order) fine = absurd fine
-    node_falls Crash fine = absurd fine
-    node_falls (Drop number) fine = absurd fine
-    node_falls (Again number) fine = absurd fine
+    node_falls _ fine = absurd fine
 
   module _ (asks : Asks) (a : Among asks scenario.clients) (born : find (λ (other : Seat Player). eqb other.who (client_actor asks.client)) (births as_nodes scenario) ≡ Some (client_seat (route_of begins.first) asks)) where
     client_falls : (event : Event OrderLine) → IsInOrder (system_of as_nodes words scenario) rows (client_actor asks.client) event → Falls (row_of player_table (client_seat (route_of begins.first) asks) rows event)
@@ -176,10 +173,7 @@ module _ (c : ℕ) (words : ℕ → ℕ → ℕ × ℕ) (scenario : Scenario) (b
         go_after sys begins.seats_apart (token_owing c) rows (cseat asks) born
         (subst (λ (p : Player). owed_by (token_owing c) (player_table p GoInput) ≤ player_token c p) (sym k.is) (go_tokens c k.client (unasked set asks k.client fresh.state).0))
     client_falls Tick fine = absurd fine
-    client_falls (Told order) fine = absurd fine
-    client_falls Crash fine = absurd fine
-    client_falls (Drop number) fine = absurd fine
-    client_falls (Again number) fine = absurd fine
+    client_falls _ fine = absurd fine
 
   pub falls : (row : Row Mail OrderLine) → IsOrderly (system_of as_nodes words scenario) rows row → owed (system_of as_nodes words scenario) (token_owing c) (rows ++ row ∷ []) ≤ owed (system_of as_nodes words scenario) (token_owing c) rows
   falls row o = elim (of_player words scenario begins rows row o) [

@@ -121,36 +121,12 @@ module _ (words : ℕ → ℕ → ℕ × ℕ) (scenario : Scenario) (begins : Is
     plain_answers begun frame f from to (Learn group slot command) e b =
         absurd (not_node to e (seated.voters frame (frame.from + slots_ahead) to f (ap (λ ms. is_member ms to) ((is.are frame f).later (frame.from + slots_ahead) (omega arith)) ∙ b.1.to_in)))
     plain_answers begun frame f from to (Prepare group ballot from_slot) e b = absurd b
-    plain_answers begun frame f from to (Promise group ballot reports) e b = absurd b
-    plain_answers begun frame f from to (Nack group promised) e b = absurd b
-    plain_answers begun frame f from to (Ask group from_slot) e b = absurd b
-    plain_answers begun frame f from to (Install group slot base sets) e b = absurd b
-    plain_answers begun frame f from to (TxPrepare tx offer) e b = absurd b
-    plain_answers begun frame f from to (TxVote tx coord part vote) e b = absurd b
-    plain_answers begun frame f from to (TxOutcome tx part outcome) e b = absurd b
-    plain_answers begun frame f from to (TxElsewhere tx coord hint) e b = absurd b
-    plain_answers begun frame f from to (TxWatch tx watch) e b = absurd b
-    plain_answers begun frame f from to (TxWatched tx coord part vote) e b = absurd b
-    plain_answers begun frame f from to (Told order result) e b = absurd b
+    plain_answers begun frame f from to _ e b = absurd b
 
     aside_answers : (begun : Requests) (from to : ℕ) (body : MailBody) → to ≡ client_actor asks.client → IsAsideBody begun set from to body → Answers body
     aside_answers begun from to (Answer group seq answer) e b = (group, seq, answer, refl)
     aside_answers begun from to (Request group client seq op) e b = absurd (not_node to e (seated.homes group to b.1))
-    aside_answers begun from to (Accept group ballot slot command) e b = absurd b
-    aside_answers begun from to (Accepted group ballot slot) e b = absurd b
-    aside_answers begun from to (Learn group slot command) e b = absurd b
-    aside_answers begun from to (Prepare group ballot from_slot) e b = absurd b
-    aside_answers begun from to (Promise group ballot reports) e b = absurd b
-    aside_answers begun from to (Nack group promised) e b = absurd b
-    aside_answers begun from to (Ask group from_slot) e b = absurd b
-    aside_answers begun from to (Install group slot base sets) e b = absurd b
-    aside_answers begun from to (TxPrepare tx offer) e b = absurd b
-    aside_answers begun from to (TxVote tx coord part vote) e b = absurd b
-    aside_answers begun from to (TxOutcome tx part outcome) e b = absurd b
-    aside_answers begun from to (TxElsewhere tx coord hint) e b = absurd b
-    aside_answers begun from to (TxWatch tx watch) e b = absurd b
-    aside_answers begun from to (TxWatched tx coord part vote) e b = absurd b
-    aside_answers begun from to (Told order result) e b = absurd b
+    aside_answers begun from to _ e b = absurd b
 
     mail_answers : (mail : Mail) → mail.to ≡ client_actor asks.client → IsCalmMail (IsBegun scenario rows) set mail → Answers mail.body
     mail_answers mail e (inl p) = plain_answers (IsBegun scenario rows) p.frame p.is_frame mail.from mail.to mail.body e p.says

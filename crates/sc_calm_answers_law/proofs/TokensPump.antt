@@ -158,17 +158,7 @@ module _ (c : ℕ) where
   turned_tokens : (me : ℕ) (group : Draw) (command : Command) (answer : AnswerBody) (mails : List Mail) → sum_by (mail_token c) (answered me group answer command mails) ≤ sum_by (mail_token c) mails + command_token c command
   unfolding answered
   turned_tokens me group (Call client seq op) answer mails = (let one = sent_token me (client_actor client) (Answer group seq answer) mails in let same = answer_token client group seq answer in omega (arith, one, same))
-  turned_tokens me group Noop answer mails = omega arith
-  turned_tokens me group (Join node order) answer mails = omega arith
-  turned_tokens me group (Leave node order) answer mails = omega arith
-  turned_tokens me group (Split at child order) answer mails = omega arith
-  turned_tokens me group (Begin tx body order) answer mails = omega arith
-  turned_tokens me group (Prepared tx offer) answer mails = omega arith
-  turned_tokens me group (RecordVote tx vote by) answer mails = omega arith
-  turned_tokens me group (GiveUp tx) answer mails = omega arith
-  turned_tokens me group (Finish tx outcome) answer mails = omega arith
-  turned_tokens me group (Watched tx watch) answer mails = omega arith
-  turned_tokens me group (RecordWatch tx vote by) answer mails = omega arith
+  turned_tokens me group _ answer mails = omega arith
 
   next_tokens : (me : ℕ) (idle : Bool) (core : Core) (calls : List Command) (mails : List Mail) → queue_tokens (next_call me idle core calls mails) ≤ sum_by (command_token c) calls + sum_by (mail_token c) mails
   unfolding next_call

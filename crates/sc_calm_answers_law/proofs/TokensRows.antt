@@ -220,18 +220,7 @@ module _ (c : ℕ) (begun : Requests) (frame : Frame) (is : IsFrame frame) (me f
       let follows = following_at begun frame is me r b.1.to_in b.1.other k in
       subst (λ (y : Command). Stay (Learn group slot y)) (sym x.3) (by_learn group slot x.0 x.1 x.2 follows.0 follows.1 plain due)
   stay_row (Answer group seq answer) k b due n = absurd (n b.1.client seq b.1.op b.1.is_begun b.1.to_is)
-  stay_row (Prepare group ballot from_slot) k b due n = absurd b
-  stay_row (Promise group ballot reports) k b due n = absurd b
-  stay_row (Nack group promised) k b due n = absurd b
-  stay_row (Ask group from_slot) k b due n = absurd b
-  stay_row (Install group slot base sets) k b due n = absurd b
-  stay_row (TxPrepare tx offer) k b due n = absurd b
-  stay_row (TxVote tx coord part vote) k b due n = absurd b
-  stay_row (TxOutcome tx part outcome) k b due n = absurd b
-  stay_row (TxElsewhere tx coord hint) k b due n = absurd b
-  stay_row (TxWatch tx watch) k b due n = absurd b
-  stay_row (TxWatched tx coord part vote) k b due n = absurd b
-  stay_row (Told order result) k b due n = absurd b
+  stay_row _ k b due n = absurd b
 
 -- While clients ask, no row of a replica raises how often a client's request is under way: as a request or an answer in mail, or as a call at the replica.
 pub tokens_stay : TokensStay

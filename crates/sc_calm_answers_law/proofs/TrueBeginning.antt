@@ -70,19 +70,11 @@ closing_bond tx Filed host = refl
 -- the transaction that an order opens has the next name
 opens_next : (name : Draw) (number : ℕ) (order : Order) (tx : Draw) → work_by (ordered_command name number order) ≡ Some (Opens tx) → tx ≡ name
 opens_next name number (An.Join node group) tx e = cc
-opens_next name number (An.Leave node group) tx e = cc
-opens_next name number (An.Split group at) tx e = cc
-opens_next name number (An.Merge group) tx e = cc
-opens_next name number (An.Repart group at) tx e = cc
-opens_next name number (An.Migrate group node) tx e = cc
+opens_next name number _ tx e = cc
 
 new_work : (P : Draw → Type 0) (name : Draw) (number : ℕ) (order : Order) (work : Work) → P name → work_by (ordered_command name number order) ≡ Some work → Each P (listed (opened_by work))
 new_work P name number order (Opens tx) p e = (subst P (sym (opens_next name number order tx e)) p, tt)
-new_work P name number order Changes p e = tt
-new_work P name number order (Answers tx coord watch by) p e = tt
-new_work P name number order (Records tx watch agreed by) p e = tt
-new_work P name number order (GivesUp tx) p e = tt
-new_work P name number order (Ends tx) p e = tt
+new_work P name number order _ p e = tt
 
 module _ (words : ℕ → ℕ → ℕ × ℕ) (scenario : Scenario) (first : Base) (journal quiet : Rows) (seat : Seat Player) (line : OrderLine) (calm : IsCalmJournal words scenario journal) (rests : RestsAt words scenario first journal quiet) (seen : AreSeen scenario quiet)
     (t : IsToldInQuiet words (births as_nodes scenario) quiet seat line) (unused : (node : NodeState) → value player_table seat quiet ≡ Node node → IsUnused scenario quiet (next_name node.draws)) where

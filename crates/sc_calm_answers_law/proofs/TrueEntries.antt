@@ -286,11 +286,7 @@ module _ (tells : ReplicasTell) (sound : ValidJournalsAreSound) (logs : ValidEnt
     by_command (RecordVote tx vote by) e k = absurd k
     by_command (RecordWatch tx vote by) e k = absurd k
     by_command (Finish tx outcome) e k = absurd k
-    by_command (Join at order) e k = tt
-    by_command (Leave at order) e k = tt
-    by_command (GiveUp tx) e k = tt
-    by_command Noop e k = tt
-    by_command (Call client seq op) e k = tt
+    by_command _ e k = tt
 
     cast_true : IsAskedOrCast flight.value → IsTrueEntry r.me r.group flight.value
     cast_true k = by_command flight.value refl k

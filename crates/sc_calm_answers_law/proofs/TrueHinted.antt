@@ -45,13 +45,7 @@ yes_of (Call client seq op) tx n e = absurd (none_some e)
     none_some : {X : Type 0} {x : X} → None ≡ Some x → ⊥
     none_some e = cc
 yes_of (Join m order) tx n e = absurd (let k : ⊥ = cc in k)
-yes_of (Leave m order) tx n e = absurd (let k : ⊥ = cc in k)
-yes_of (Split at child order) tx n e = absurd (let k : ⊥ = cc in k)
-yes_of (Begin t body order) tx n e = absurd (let k : ⊥ = cc in k)
-yes_of (Prepared t offer) tx n e = absurd (let k : ⊥ = cc in k)
-yes_of (GiveUp t) tx n e = absurd (let k : ⊥ = cc in k)
-yes_of (Finish t outcome) tx n e = absurd (let k : ⊥ = cc in k)
-yes_of (Watched t watch) tx n e = absurd (let k : ⊥ = cc in k)
+yes_of _ tx n e = absurd (let k : ⊥ = cc in k)
 
 module _ (tells : ReplicasTell) (words : ℕ → ℕ → ℕ × ℕ) (scenario : Scenario) (first : Base) (journal quiet rows : Rows) (seat : Seat Player) (number : ℕ) (stage : Stage) (g : GoesOnSince words scenario first journal quiet rows seat number stage)
     (trues : (name : Draw) (node : ℕ) (r : ReplicaState) → view_at (births as_nodes scenario) rows name node ≡ Some r → r.running ≡ true → Each (λ (flight : Flight Command). IsTrueEntry r.me r.group flight.value) r.leader.flights) where
@@ -112,13 +106,7 @@ module _ (tells : ReplicasTell) (words : ℕ → ℕ → ℕ × ℕ) (scenario :
     same_stage : (x : Stage) → stage ≡ x → IsHinted scenario quiet rows x → IsAt x (scene_at (births as_nodes scenario) (with_event rows seat (Deliver number))) → IsHinted scenario quiet (with_event rows seat (Deliver number)) x
     same_stage (Asks deal to) e k a = k
     same_stage (SentOn deal) e k a = stays_so tells words scenario first journal quiet rows seat number stage g trues deal e k a
-    same_stage Still e k a = tt
-    same_stage (Ordered group chief work) e k a = tt
-    same_stage (Weighs deal host) e k a = tt
-    same_stage (Replied deal agreed host) e k a = tt
-    same_stage (Recorded deal agreed host) e k a = tt
-    same_stage (Closes tx party) e k a = tt
-    same_stage (ClosesBoth tx one_ two) e k a = tt
+    same_stage _ e k a = tt
 
     closed_hinted : (tx asked : Draw) (turn : Turn) (host : ℕ) → IsHinted scenario quiet (with_event rows seat (Deliver number)) (closed tx asked turn host)
     closed_hinted tx asked First host = tt

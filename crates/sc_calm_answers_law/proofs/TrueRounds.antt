@@ -37,18 +37,11 @@ told_quiet at course slot who k =
 answers_quiet : (node : ℕ) (promise : Ballot) (mark : Mark) (who : ℕ) → IsNoRound mark → Each IsNoRound (answered node promise mark who)
 answers_quiet node promise (Asks ballot slot) who k = cond_both (who == ballot.node) (Votes node ballot slot ∷ []) [] (Each IsNoRound) (λ _. (tt, tt)) (λ _. tt)
 answers_quiet node promise (Prepares ballot) who k = absurd k
-answers_quiet node promise (Votes other ballot slot) who k = tt
-answers_quiet node promise (Tells slot) who k = tt
-answers_quiet node promise (Installs slot) who k = tt
-answers_quiet node promise (Promises other ballot) who k = tt
+answers_quiet node promise _ who k = tt
 
 offer_quiet : (at : Sets) (course : Course) (from who : ℕ) (mark : Mark) → IsOffer at course from who mark → IsNoRound mark
 offer_quiet at course from who (Asks ballot slot) k = tt
-offer_quiet at course from who (Votes node ballot slot) k = absurd k
-offer_quiet at course from who (Tells slot) k = absurd k
-offer_quiet at course from who (Installs slot) k = absurd k
-offer_quiet at course from who (Prepares ballot) k = absurd k
-offer_quiet at course from who (Promises node ballot) k = absurd k
+offer_quiet at course from who _ k = absurd k
 
 row_quiet : (now after : Progress) (node : ℕ) (taken : Option Mark) (sent marks marks_after : ℕ → List Mark) → IsRow now after node taken sent marks marks_after
     → ((who : ℕ) → Each IsNoRound (marks who)) → ((who : ℕ) → Each IsNoRound (sent who)) → (who : ℕ) → Each IsNoRound (marks_after who)
@@ -64,16 +57,7 @@ row_quiet now after node taken sent marks marks_after row had sends who = elim (
 pub work_act : (command : Command) (work : Work) → work_by command ≡ Some work → is_act command ≡ true
 work_act Noop work e = cc
 work_act (Call client seq op) work e = cc
-work_act (Join node order) work e = refl
-work_act (Leave node order) work e = refl
-work_act (Split at child order) work e = refl
-work_act (Begin tx body order) work e = refl
-work_act (Prepared tx offer) work e = refl
-work_act (RecordVote tx vote by) work e = refl
-work_act (GiveUp tx) work e = refl
-work_act (Finish tx outcome) work e = refl
-work_act (Watched tx watch) work e = refl
-work_act (RecordWatch tx vote by) work e = refl
+work_act _ work e = refl
 
 ready_work : (ready : List (ℕ × Command)) (slot : ℕ) (command : Command) → Each (λ entry. IsWork entry.1) ready → at_slot ready slot ≡ Some command → IsWork command
 ready_work [] slot command all = λ e. cc

@@ -152,10 +152,7 @@ module _ (at : Sets) (over : Ends) (by : Tellers) (words : ℕ → ℕ → ℕ �
       by_group node is number f.mail one so timely d (group_of_mail f.mail.body) refl
   by_player (Node node) Go is one so timely calm = rests Go (others_idle.go births rows seat base node born is)
   by_player (Node node) (Told line) is one so timely calm = ordered node is line
-  by_player (Node node) Tick is one so timely calm = absurd calm
-  by_player (Node node) Crash is one so timely calm = absurd calm
-  by_player (Node node) (Drop mail) is one so timely calm = absurd calm
-  by_player (Node node) (Again mail) is one so timely calm = absurd calm
+  by_player (Node node) _ is one so timely calm = absurd calm
 
   pub turn_of : (event : Event OrderLine) → HasOneLog at over by births (with_event rows seat event) base → IsSentSo births (with_event rows seat event) base → AreInTime (players words births) (with_event rows seat event)
       → IsCalmEvent (players words births) rows seat.who event → IsTurn at by words births rows seat event base

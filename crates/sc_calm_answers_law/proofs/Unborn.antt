@@ -61,16 +61,7 @@ kid_unborn told child name group (Split at drawn order) kid l e =
     (first_off (list_any (λ other. same_draw other drawn) group.core.born) (list_any (λ decision. same_draw decision.0 drawn) group.core.decided)
     (first_off (list_any (λ other. same_draw other drawn) group.core.born || list_any (λ decision. same_draw decision.0 drawn) group.core.decided) (is_locked_in (locked_in group.core.lock) drawn) new)) x) e
 kid_unborn told child name group (RecordWatch tx vote by) kid l e = watched_unborn told child name group.core.lock group tx vote kid l e
-kid_unborn told child name group Noop kid l e = none_some e
-kid_unborn told child name group (Call client seq op) kid l e = none_some e
-kid_unborn told child name group (Join node order) kid l e = none_some e
-kid_unborn told child name group (Leave node order) kid l e = none_some e
-kid_unborn told child name group (Begin tx body order) kid l e = none_some e
-kid_unborn told child name group (Prepared tx offer) kid l e = none_some e
-kid_unborn told child name group (RecordVote tx vote by) kid l e = none_some e
-kid_unborn told child name group (GiveUp tx) kid l e = none_some e
-kid_unborn told child name group (Finish tx outcome) kid l e = none_some e
-kid_unborn told child name group (Watched tx watch) kid l e = none_some e
+kid_unborn told child name group _ kid l e = none_some e
 
 -- ---- nor was it known when the row began
 
@@ -119,23 +110,9 @@ module _ (a : Affair) (unborn : (name : Draw) (group : Group) (command : Command
 
   kids_unborn : (from : ℕ) (body : MailBody) → Hears a r body → Held a g r → Kids (grown a unborn r.group.core.born) g (mailed from body (r, [])).1
   unfolding grown mailed
-  kids_unborn from (Install group slot base sets) h k = tt
   kids_unborn from (Accepted group ballot slot) h k = mailed_kids (grown a unborn r.group.core.born) g from (Accepted group ballot slot) r [] tt (held_grown k, tt)
   kids_unborn from (Learn group slot command) h k = mailed_kids (grown a unborn r.group.core.born) g from (Learn group slot command) r [] h (held_grown k, tt)
-  kids_unborn from (Request group client seq op) h k = tt
-  kids_unborn from (Answer group seq answer) h k = tt
-  kids_unborn from (Prepare group ballot from_slot) h k = tt
-  kids_unborn from (Promise group ballot reports) h k = tt
-  kids_unborn from (Accept group ballot slot command) h k = tt
-  kids_unborn from (Nack group promised) h k = tt
-  kids_unborn from (Ask group from_slot) h k = tt
-  kids_unborn from (TxPrepare tx offer) h k = tt
-  kids_unborn from (TxVote tx coord part vote) h k = tt
-  kids_unborn from (TxOutcome tx part outcome) h k = tt
-  kids_unborn from (TxElsewhere tx coord hint) h k = tt
-  kids_unborn from (TxWatch tx watch) h k = tt
-  kids_unborn from (TxWatched tx coord part vote) h k = tt
-  kids_unborn from (Told order result) h k = tt
+  kids_unborn from _ h k = tt
 
   -- so each that is made was not known
   pub made_unborn : (from : ℕ) (body : MailBody) → Hears a r body → Held a g r → Each (λ (kid : Base). a.Bears g kid × IsUnborn r.group.core.born kid) (mailed from body (r, [])).1

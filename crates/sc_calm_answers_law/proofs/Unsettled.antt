@@ -131,18 +131,7 @@ module _ (bounded : ValidScenariosAreBounded) (drawn : NamesAreDrawn) (words : �
       let own : coord ≡ group = some_draw coord group (named_so (TxWatched tx coord part vote) e) in
       replies tx true (is_cast_yes vote) (ap (errand_by mail.from mail.to) e ∙ ap (λ n. Some (n, Reply tx true (is_cast_yes vote) mail.from mail.to)) own)
   by_body (TxElsewhere tx coord hint) e none = absurd (none tx coord hint refl)
-  by_body (TxOutcome tx part outcome) e none = tt
-  by_body (Accept named ballot slot command) e none = tt
-  by_body (Prepare named ballot from_slot) e none = tt
-  by_body (Nack named ballot) e none = tt
-  by_body (Promise named ballot reports) e none = tt
-  by_body (Accepted named ballot slot) e none = tt
-  by_body (Learn named slot command) e none = tt
-  by_body (Install named slot state sets) e none = tt
-  by_body (Ask named slot) e none = tt
-  by_body (Request named client seq op) e none = tt
-  by_body (Answer named seq answer) e none = tt
-  by_body (ToldMail order result) e none = tt
+  by_body _ e none = tt
 
   unsettled : ((tx coord : Draw) (hint : Option ℕ) → mail.body ≡ TxElsewhere tx coord hint → ⊥) → IsUnsettled r mail.body
   unsettled none = by_body mail.body refl none

@@ -50,10 +50,7 @@ one_fits bond work errands k other e = subst (λ w. WorkExpects w bond) (same_wo
 order_fits : (work : Work) → IsOrder work → WorkExpects work Unbound
 order_fits Changes o = refl
 order_fits (Opens tx) o = refl
-order_fits (Answers tx coord watch by) o = absurd o
-order_fits (Records tx watch agreed by) o = absurd o
-order_fits (GivesUp tx) o = absurd o
-order_fits (Ends tx) o = absurd o
+order_fits _ o = absurd o
 
 heard_fits : (tx : Draw) (turn : Turn) → Each (λ party. Fits party.1) (heard tx turn)
 heard_fits tx First = tt

@@ -61,12 +61,9 @@ rest_so a begins name r rest = (
 
 -- an order that splits takes a name
 split_names : (order : Order) → is_split order ≡ true → takes_name order ≡ true
-split_names (An.Split group at) e = refl
 split_names (An.Join node group) e = absurd (true≢false (sym e))
 split_names (An.Leave node group) e = absurd (true≢false (sym e))
-split_names (An.Merge group) e = refl
-split_names (An.Repart group at) e = refl
-split_names (An.Migrate group node) e = refl
+split_names _ e = refl
 
 module _ (well : ScenariosAreWellBorn) (words : ℕ → ℕ → ℕ × ℕ) (scenario : Scenario) (quiet : Rows) (seat : Seat Player) (line : OrderLine) (bounded : IsBounded scenario) (lawful : Lawful as_nodes words scenario quiet) (seated : IsSeat (births as_nodes scenario) seat)
     (timely : AreInTime (players words (births as_nodes scenario)) (with_event quiet seat (Told line))) (calm : is_quiet (players words (births as_nodes scenario)) quiet ≡ true)

@@ -90,23 +90,6 @@ module _ (well : ScenariosAreWellBorn) (a : Affair) (begins : BeginsFree a) (wor
 
 -- what a mail says of a task is what it says of its affair
 says_so : (b : Bool) (told child : Draw) (body : MailBody) → SaysWork (record { group = told; name = child; splits = b }) body → Says (affair_by b told child) body
-says_so true told child (Request group client seq op) q = q
-says_so true told child (Answer group seq answer) q = q
-says_so true told child (Learn group slot command) q = q
-says_so true told child (Install group slot base sets) q = q
-says_so true told child (TxPrepare tx offer) q = q
-says_so true told child (TxVote tx coord part vote) q = q
-says_so true told child (Prepare group ballot from_slot) q = q
-says_so true told child (Promise group ballot reports) q = q
-says_so true told child (Accept group ballot slot command) q = q
-says_so true told child (Accepted group ballot slot) q = q
-says_so true told child (Nack group promised) q = q
-says_so true told child (Ask group from_slot) q = q
-says_so true told child (TxOutcome tx part outcome) q = q
-says_so true told child (TxElsewhere tx coord hint) q = q
-says_so true told child (TxWatch tx watch) q = q
-says_so true told child (TxWatched tx coord part vote) q = q
-says_so true told child (ToldMail order result) q = q
 says_so false told child (Request group client seq op) q = q
 says_so false told child (Answer group seq answer) q = q
 says_so false told child (Learn group slot command) q = q
@@ -124,25 +107,9 @@ says_so false told child (TxElsewhere tx coord hint) q = q
 says_so false told child (TxWatch tx watch) q = q
 says_so false told child (TxWatched tx coord part vote) q = q
 says_so false told child (ToldMail order result) q = q
+says_so true told child _ q = q
 
 says_back : (b : Bool) (told child : Draw) (body : MailBody) → Says (affair_by b told child) body → SaysWork (record { group = told; name = child; splits = b }) body
-says_back true told child (Request group client seq op) q = q
-says_back true told child (Answer group seq answer) q = q
-says_back true told child (Learn group slot command) q = q
-says_back true told child (Install group slot base sets) q = q
-says_back true told child (TxPrepare tx offer) q = q
-says_back true told child (TxVote tx coord part vote) q = q
-says_back true told child (Prepare group ballot from_slot) q = q
-says_back true told child (Promise group ballot reports) q = q
-says_back true told child (Accept group ballot slot command) q = q
-says_back true told child (Accepted group ballot slot) q = q
-says_back true told child (Nack group promised) q = q
-says_back true told child (Ask group from_slot) q = q
-says_back true told child (TxOutcome tx part outcome) q = q
-says_back true told child (TxElsewhere tx coord hint) q = q
-says_back true told child (TxWatch tx watch) q = q
-says_back true told child (TxWatched tx coord part vote) q = q
-says_back true told child (ToldMail order result) q = q
 says_back false told child (Request group client seq op) q = q
 says_back false told child (Answer group seq answer) q = q
 says_back false told child (Learn group slot command) q = q
@@ -160,6 +127,7 @@ says_back false told child (TxElsewhere tx coord hint) q = q
 says_back false told child (TxWatch tx watch) q = q
 says_back false told child (TxWatched tx coord part vote) q = q
 says_back false told child (ToldMail order result) q = q
+says_back true told child _ q = q
 
 held_so : (b : Bool) (told child name : Draw) (r : ReplicaState) → IsAtWork (record { group = told; name = child; splits = b }) name r → HeldSo (affair_by b told child) name r
 held_so true told child name r k = (k.calls, k.acts, k.flights, k.ready, k.state)
@@ -208,20 +176,11 @@ deliveries_keep well = record {
 -- ---- what stands is work
 
 does_work : (b : Bool) (told child name : Draw) (command : Command) → DoesBy b told child name command → IsWork command
-does_work b told child name (Join node order) d = (_, refl)
-does_work b told child name (Leave node order) d = (_, refl)
-does_work b told child name (Split at drawn order) d = (_, refl)
-does_work b told child name (Begin tx body order) d = (_, refl)
-does_work b told child name (Prepared tx offer) d = (_, refl)
-does_work b told child name (RecordVote tx vote by) d = (_, refl)
-does_work b told child name (GiveUp tx) d = (_, refl)
-does_work b told child name (Finish tx outcome) d = (_, refl)
-does_work b told child name (Watched tx watch) d = (_, refl)
-does_work b told child name (RecordWatch tx vote by) d = (_, refl)
 does_work true told child name Noop d = absurd d
 does_work false told child name Noop d = absurd d
 does_work true told child name (Call client seq op) d = absurd d
 does_work false told child name (Call client seq op) d = absurd d
+does_work b told child name _ d = (_, refl)
 
 -- So nothing but work is in flight or ready at a replica.
 pub stands_alone : WorkStandsAlone

@@ -46,17 +46,7 @@ absent_good a me from (Accept group ballot slot command) q = (tt, tt)
 absent_good a me from (Learn group slot command) q = (tt, tt)
 absent_good a me from (TxPrepare tx offer) q = (tt, tt)
 absent_good a me from (TxWatch tx watch) q = (tt, tt)
-absent_good a me from (Answer group seq answer) q = tt
-absent_good a me from (Promise group ballot reports) q = tt
-absent_good a me from (Accepted group ballot slot) q = tt
-absent_good a me from (Nack group promised) q = tt
-absent_good a me from (Ask group from_slot) q = tt
-absent_good a me from (Install group slot base sets) q = tt
-absent_good a me from (TxVote tx coord part vote) q = tt
-absent_good a me from (TxOutcome tx part outcome) q = tt
-absent_good a me from (TxElsewhere tx coord hint) q = tt
-absent_good a me from (TxWatched tx coord part vote) q = tt
-absent_good a me from (ToldMail order result) q = tt
+absent_good a me from _ q = tt
 
 module _ (a : Affair) (words : ℕ → ℕ → ℕ × ℕ) (births : List (Seat Player)) (rows : Rows) (seat : Seat Player) (event : Event OrderLine) where
   -- what a row leaves at its player, and sends
@@ -190,11 +180,7 @@ module _ (well : ScenariosAreWellBorn) (a : Affair) (begins : BeginsFree a) (wor
         hears (Install n slot state sets) e q = subst (λ x. a.Is x state.core) (same_Some n group (sym (ap group_of_mail e) ∙ t.named) ∙ sym own) q.1
         hears (TxPrepare tx offer) e q = q
         hears (TxVote tx coord part vote) e q = q
-        hears (TxOutcome tx part outcome) e q = tt
-        hears (TxElsewhere tx coord hint) e q = tt
-        hears (TxWatch tx watch) e q = tt
-        hears (TxWatched tx coord part vote) e q = tt
-        hears (ToldMail order result) e q = tt
+        hears _ e q = tt
 
         abbrev made : Executed
         made = mailed mail.from mail.body (r, [])

@@ -145,11 +145,7 @@ module _ (a : Affair) (me : ℕ) where
   went_said name group before effect (GiveUp tx) mails s d m = given_up_said (decided_in effect) before tx mails m
   went_said name group before effect (Watched tx watch) mails s d m = watch_said (cast_in effect) tx watch mails m
   went_said name group before effect (RecordWatch tx vote by) mails s d m = watch_replied (decided_in effect) vote before tx by mails m
-  went_said name group before effect (Finish tx outcome) mails s d m = m
-  went_said name group before effect Noop mails s d m = m
-  went_said name group before effect (Call client seq op) mails s d m = m
-  went_said name group before effect (Join node order) mails s d m = m
-  went_said name group before effect (Leave node order) mails s d m = m
+  went_said name group before effect _ mails s d m = m
 
   begun_said : (before : Before) (effect : Effect) (command : Command) (mails : List Mail) → AreGood a mails → AreGood a (told_begun me before effect command mails)
   unfolding told_begun

@@ -119,21 +119,7 @@ module _ (words : ℕ → ℕ → ℕ × ℕ) (births : List (Seat Player)) (row
             let same : n ≡ group = cc in
             inr (inr (record { group = group; slot = slot; state = state; sets = sets; body = e ∙ ap (λ g. Install g slot state sets) same; others = others_stay here }))
         none_takes (Request n client seq op) e here = inl (all_stay here (ap (λ b. (unknown mail.from b node).0) e))
-        none_takes (Answer n seq answer) e here = inl (all_stay here (ap (λ b. (unknown mail.from b node).0) e))
-        none_takes (Prepare n ballot from_slot) e here = inl (all_stay here (ap (λ b. (unknown mail.from b node).0) e))
-        none_takes (Promise n ballot reports) e here = inl (all_stay here (ap (λ b. (unknown mail.from b node).0) e))
-        none_takes (Accept n ballot slot command) e here = inl (all_stay here (ap (λ b. (unknown mail.from b node).0) e))
-        none_takes (Accepted n ballot slot) e here = inl (all_stay here (ap (λ b. (unknown mail.from b node).0) e))
-        none_takes (Nack n promised) e here = inl (all_stay here (ap (λ b. (unknown mail.from b node).0) e))
-        none_takes (Learn n slot command) e here = inl (all_stay here (ap (λ b. (unknown mail.from b node).0) e))
-        none_takes (Ask n from_slot) e here = inl (all_stay here (ap (λ b. (unknown mail.from b node).0) e))
-        none_takes (TxPrepare tx offer) e here = inl (all_stay here (ap (λ b. (unknown mail.from b node).0) e))
-        none_takes (TxVote tx coord part vote) e here = inl (all_stay here (ap (λ b. (unknown mail.from b node).0) e))
-        none_takes (TxOutcome tx part outcome) e here = inl (all_stay here (ap (λ b. (unknown mail.from b node).0) e))
-        none_takes (TxElsewhere tx coord hint) e here = inl (all_stay here (ap (λ b. (unknown mail.from b node).0) e))
-        none_takes (TxWatch tx watch) e here = inl (all_stay here (ap (λ b. (unknown mail.from b node).0) e))
-        none_takes (TxWatched tx coord part vote) e here = inl (all_stay here (ap (λ b. (unknown mail.from b node).0) e))
-        none_takes (ToldMail order result) e here = inl (all_stay here (ap (λ b. (unknown mail.from b node).0) e))
+        none_takes _ e here = inl (all_stay here (ap (λ b. (unknown mail.from b node).0) e))
 
         taken_so : (o : Option ReplicaState) → replica_of group node.replicas ≡ o → RowKind mail
         taken_so None here = none_takes mail.body refl here

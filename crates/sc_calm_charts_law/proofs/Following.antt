@@ -29,28 +29,14 @@ elsewhere_same ways asks tx (Some node) same = ap (λ o. 1 + asked_owes (ways_wi
 -- a mail owes the same, but where it is to be asked elsewhere
 body_same : (ways : Ways) (asks : Draw → Option (Draw × Bool)) (to : ℕ) (body : MailBody) → ((tx coord : Draw) (hint : Option ℕ) → body ≡ TxElsewhere tx coord hint → asks tx ≡ ways.asks tx)
     → body_owes (ways_with ways asks) to body ≡ body_owes ways to body
-body_same ways asks to (Request group client seq op) same = refl
 body_same ways asks to (Answer group seq (Says.Value reply)) same = refl
 body_same ways asks to (Answer group seq (Says.NotMine arc succ)) same = refl
 body_same ways asks to (Answer group seq (Says.Gone into)) same = refl
 body_same ways asks to (Answer group seq (Says.NotLeader (Some node))) same = refl
 body_same ways asks to (Answer group seq (Says.NotLeader None)) same = refl
 body_same ways asks to (Answer group seq (Says.Stale last)) same = refl
-body_same ways asks to (Prepare group ballot from_slot) same = refl
-body_same ways asks to (Promise group ballot reports) same = refl
-body_same ways asks to (Accept group ballot slot command) same = refl
-body_same ways asks to (Accepted group ballot slot) same = refl
-body_same ways asks to (Nack group promised) same = refl
-body_same ways asks to (Learn group slot command) same = refl
-body_same ways asks to (Ask group from_slot) same = refl
-body_same ways asks to (Install group slot base sets) same = refl
-body_same ways asks to (TxPrepare tx offer) same = refl
-body_same ways asks to (TxVote tx coord part vote) same = refl
-body_same ways asks to (TxOutcome tx part outcome) same = refl
 body_same ways asks to (TxElsewhere tx coord hint) same = elsewhere_same ways asks tx hint (same tx coord hint refl)
-body_same ways asks to (TxWatch tx watch) same = refl
-body_same ways asks to (TxWatched tx coord part vote) same = refl
-body_same ways asks to (Told order result) same = refl
+body_same ways asks to _ same = refl
 
 module _ (words : ℕ → ℕ → ℕ × ℕ) (births : List (Seat Player)) (far sent : ℕ) (rows : Rows) (row : Row Mail OrderLine) where
   abbrev s : System Player Mail OrderLine

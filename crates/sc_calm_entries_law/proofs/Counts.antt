@@ -69,17 +69,7 @@ module _ (q : ReplicaState) (stands : q.group.core.gone ≡ None) (mine : is_mem
 entry_ready : (slot : ℕ) (value command : Command) (r : ReplicaState) → IsEntry command r → IsEntry command (readied_at slot value r)
 unfolding entered forgotten
 entry_ready slot value (Join node order) r i = i
-entry_ready slot value (Leave node order) r i = i
-entry_ready slot value (Split at child order) r i = i
-entry_ready slot value (Begin tx body order) r i = i
-entry_ready slot value (Prepared tx offer) r i = i
-entry_ready slot value (RecordVote tx vote by) r i = i
-entry_ready slot value (Finish tx outcome) r i = i
-entry_ready slot value (Watched tx watch) r i = i
-entry_ready slot value (RecordWatch tx vote by) r i = i
-entry_ready slot value Noop r i = i
-entry_ready slot value (Call client seq op) r i = i
-entry_ready slot value (GiveUp tx) r i = i
+entry_ready slot value _ r i = i
 
 few_ready : (slot : ℕ) (value : Command) (r : ReplicaState) → length (applied r.group value).0.core.members ≤ 9 → LeavesFew value (readied_at slot value r)
 unfolding entered forgotten

@@ -50,15 +50,7 @@ applied_same : (group : Group) (command : Command) → KeepsMembers command → 
 applied_same group (Begin tx body order) k = begin_same group (begun_group group tx body order) tx (has_named group.core tx) group.core.gone (refusal_of group.core (Begin tx body order)) (refl, refl)
 applied_same group (Prepared tx offer) k = voted_same (vote_of group.core offer) (Promised tx offer) group tx
 applied_same group (Watched tx watch) k = voted_same (watch_vote_of group.core watch) (Watching tx watch) group tx
-applied_same group Noop k = absurd k
-applied_same group (Call client seq op) k = absurd k
-applied_same group (Join node order) k = absurd k
-applied_same group (Leave node order) k = absurd k
-applied_same group (Split at child order) k = absurd k
-applied_same group (RecordVote tx vote by) k = absurd k
-applied_same group (GiveUp tx) k = absurd k
-applied_same group (Finish tx outcome) k = absurd k
-applied_same group (RecordWatch tx vote by) k = absurd k
+applied_same group _ k = absurd k
 
 pub leads_on : (command : Command) (r : ReplicaState) → KeepsMembers command → IsCounting command r → r.group.core.gone ≡ None → LeadsOn command r
 unfolding entered forgotten
@@ -76,15 +68,7 @@ paid : (command : Command) (r : ReplicaState) → KeepsMembers command → Leads
 paid (Begin tx body order) r k l = l
 paid (Prepared tx offer) r k l = l
 paid (Watched tx watch) r k l = l
-paid Noop r k l = absurd k
-paid (Call client seq op) r k l = absurd k
-paid (Join node order) r k l = absurd k
-paid (Leave node order) r k l = absurd k
-paid (Split at child order) r k l = absurd k
-paid (RecordVote tx vote by) r k l = absurd k
-paid (GiveUp tx) r k l = absurd k
-paid (Finish tx outcome) r k l = absurd k
-paid (RecordWatch tx vote by) r k l = absurd k
+paid _ r k l = absurd k
 
 -- A leader at which the begin of a transaction or a vote in one is in flight, alone, may count a vote of its nodes: the entry is paid for.
 pub lone-entries-count : LoneEntriesCount

@@ -23,12 +23,7 @@ dated_in name (Some mail) = option_map (λ mark. (mark, from_slot_of mail.body))
 -- .. of the mail that an event delivers
 abbrev pub taken_dated : Draw → List Mail → Event OrderLine → Option Dated
 taken_dated name sent (Deliver number) = dated_in name (numbered sent number)
-taken_dated name sent Tick = None
-taken_dated name sent Go = None
-taken_dated name sent (Told order) = None
-taken_dated name sent Crash = None
-taken_dated name sent (Drop mail) = None
-taken_dated name sent (Again mail) = None
+taken_dated name sent _ = None
 
 -- it is the mark that is taken
 in_same : (name : Draw) (o : Option Mail) → option_map (λ (d : Dated). d.0) (dated_in name o) ≡ mark_in name o
@@ -41,12 +36,7 @@ in_same name (Some mail) = by (mark_of name mail.from mail.body)
 
 pub taken_same : (name : Draw) (sent : List Mail) (event : Event OrderLine) → option_map (λ (d : Dated). d.0) (taken_dated name sent event) ≡ taken_mark name sent event
 taken_same name sent (Deliver number) = in_same name (numbered sent number)
-taken_same name sent Tick = refl
-taken_same name sent Go = refl
-taken_same name sent (Told order) = refl
-taken_same name sent Crash = refl
-taken_same name sent (Drop mail) = refl
-taken_same name sent (Again mail) = refl
+taken_same name sent _ = refl
 
 -- so where a mark is taken, it is with a slot, and else nothing is
 pub with_slot : (o : Option Dated) (mark : Mark) → option_map (λ (d : Dated). d.0) o ≡ Some mark → (d : Dated) × (o ≡ Some d) × (d.0 ≡ mark)
@@ -106,9 +96,7 @@ module _ (words : ℕ → ℕ → ℕ × ℕ) (births : List (Seat Player)) (row
   row_by seat (Told line) born fine =
       row_with (row_of player_table seat rows (Told line)) (record { seat = seat; born = born; event = Told line; row_is = refl; calm = fine }) (rest s rows seat.who) refl (at_zero (rest s rows seat.who))
   row_by seat Tick born fine = absurd fine
-  row_by seat Crash born fine = absurd fine
-  row_by seat (Drop mail) born fine = absurd fine
-  row_by seat (Again mail) born fine = absurd fine
+  row_by seat _ born fine = absurd fine
 
   pub row_is : (row : Row Mail OrderLine) → IsCalmRow (players words births) rows row → RowOf row
   row_is row calm = subst RowOf (sym calm.row_is) (row_by calm.seat calm.event calm.born calm.calm)

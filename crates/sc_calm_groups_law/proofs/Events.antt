@@ -164,15 +164,7 @@ module _ (at : Sets) (over : Ends) (by : Tellers) (words : ℕ → ℕ → ℕ �
               let body : mail.body ≡ Nack name promised = e ∙ ap (λ n. Nack n promised) (some_is g name (sym (ap group_of_mail e) ∙ group)) in
               aside (subst (IsAside r) (sym body) (so.nacks rows seat number mail promised r d body (view_of r here)))
           by_body (Ask g from_slot) e = absurd (so.asks rows seat number mail from_slot d (e ∙ ap (λ n. Ask n from_slot) (some_is g name (sym (ap group_of_mail e) ∙ group))))
-          by_body (Request g client seq op) e = aside (subst (IsAside r) (sym e) tt)
-          by_body (TxPrepare tx offer) e = aside (subst (IsAside r) (sym e) tt)
-          by_body (TxVote tx coord part vote) e = aside (subst (IsAside r) (sym e) tt)
-          by_body (TxOutcome tx part outcome) e = aside (subst (IsAside r) (sym e) tt)
-          by_body (TxElsewhere tx coord hint) e = aside (subst (IsAside r) (sym e) tt)
-          by_body (TxWatch tx watch) e = aside (subst (IsAside r) (sym e) tt)
-          by_body (TxWatched tx coord part vote) e = aside (subst (IsAside r) (sym e) tt)
-          by_body (Answer g seq answer) e = aside (subst (IsAside r) (sym e) tt)
-          by_body (ToldMail order result) e = aside (subst (IsAside r) (sym e) tt)
+          by_body _ e = aside (subst (IsAside r) (sym e) tt)
 
         holds_one : (r : ReplicaState) → replica_of name node.replicas ≡ Some r → Led
         holds_one r here = elim (cases_Bool (may_come mail.from mail.body)) [
@@ -233,10 +225,7 @@ module _ (at : Sets) (over : Ends) (by : Tellers) (words : ℕ → ℕ → ℕ �
       by_group node is number f.mail (record { row = row; sent = f.sent }) timely (group_of_mail f.mail.body) refl
   by_player (Node node) Go is row calm timely = alone Go timely (others_idle.go births rows seat base node born is)
   by_player (Node node) (Told line) is row calm timely = ordered node is line row timely
-  by_player (Node node) Tick is row calm timely = absurd calm
-  by_player (Node node) Crash is row calm timely = absurd calm
-  by_player (Node node) (Drop mail) is row calm timely = absurd calm
-  by_player (Node node) (Again mail) is row calm timely = absurd calm
+  by_player (Node node) _ is row calm timely = absurd calm
 
 -- Each event of a player in a calm journal is a row of a group whose log is one, and whose mail is sent so: it does nothing in it, a replica rests or takes a mail, a node makes one, its leader acts, or one elects itself; and the group is well led in the course after it.
 pub events_go_on : EventsGoOn

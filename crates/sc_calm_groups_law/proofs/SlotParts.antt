@@ -35,17 +35,7 @@ module _ (n m : ℕ) (d : Bool) where
   back_well : (command : Command) (r : ReplicaState) → W (r, []) → W (put_back command r, [])
   unfolding put_back
   back_well Noop r k = k
-  back_well (Call client seq op) r k = k
-  back_well (Join node order) r k = k
-  back_well (Leave node order) r k = k
-  back_well (Split at child order) r k = k
-  back_well (Begin tx body order) r k = k
-  back_well (Prepared tx offer) r k = k
-  back_well (RecordVote tx vote by) r k = k
-  back_well (GiveUp tx) r k = k
-  back_well (Finish tx outcome) r k = k
-  back_well (Watched tx watch) r k = k
-  back_well (RecordWatch tx vote by) r k = k
+  back_well _ r k = k
 
   -- ---- leaders
 

@@ -91,30 +91,14 @@ call_silent None (Join node order) place is = refl
 call_silent (Some answer) (Join node order) place is = refl
 call_silent None (Leave node order) place is = refl
 call_silent (Some answer) (Leave node order) place is = refl
-call_silent o (Call client seq op) place is = absurd is
-call_silent o (Split at child order) place is = absurd is
-call_silent o (Begin tx body order) place is = absurd is
-call_silent o (Prepared tx offer) place is = absurd is
-call_silent o (RecordVote tx vote by) place is = absurd is
-call_silent o (GiveUp tx) place is = absurd is
-call_silent o (Finish tx outcome) place is = absurd is
-call_silent o (Watched tx watch) place is = absurd is
-call_silent o (RecordWatch tx vote by) place is = absurd is
+call_silent o _ place is = absurd is
 
 went_silent : (me : ℕ) (group : Group) (before : Before) (effect : Effect) (command : Command) (mails : List Mail) → IsChange command → went_on me group before effect command mails ≡ mails
 unfolding went_on
 went_silent me group before effect Noop mails is = refl
 went_silent me group before effect (Join node order) mails is = refl
 went_silent me group before effect (Leave node order) mails is = refl
-went_silent me group before effect (Call client seq op) mails is = absurd is
-went_silent me group before effect (Split at child order) mails is = absurd is
-went_silent me group before effect (Begin tx body order) mails is = absurd is
-went_silent me group before effect (Prepared tx offer) mails is = absurd is
-went_silent me group before effect (RecordVote tx vote by) mails is = absurd is
-went_silent me group before effect (GiveUp tx) mails is = absurd is
-went_silent me group before effect (Finish tx outcome) mails is = absurd is
-went_silent me group before effect (Watched tx watch) mails is = absurd is
-went_silent me group before effect (RecordWatch tx vote by) mails is = absurd is
+went_silent me group before effect _ mails is = absurd is
 
 module _ (ways : Ways) where
   announced_silent : (effect : Effect) (command : Command) (r : ReplicaState) (mails : List Mail) → IsChange command →
@@ -143,15 +127,7 @@ module _ (ways : Ways) where
   paid Noop r is = let none = ap length (noop_new r) in omega (arith, none)
   paid (Join node order) r is = let few = join_new node order r in omega (arith, few)
   paid (Leave node order) r is = let none = ap length (leave_new node order r) in omega (arith, none)
-  paid (Call client seq op) r is = absurd is
-  paid (Split at child order) r is = absurd is
-  paid (Begin tx body order) r is = absurd is
-  paid (Prepared tx offer) r is = absurd is
-  paid (RecordVote tx vote by) r is = absurd is
-  paid (GiveUp tx) r is = absurd is
-  paid (Finish tx outcome) r is = absurd is
-  paid (Watched tx watch) r is = absurd is
-  paid (RecordWatch tx vote by) r is = absurd is
+  paid _ r is = absurd is
 
   pub changes_owe : (command : Command) (place : Place) → IsChange command → LeadsOn command place.0 → place_owes ways (executed_one true command place) ≤ place_owes ways place
   changes_owe command place is leads =

@@ -168,9 +168,7 @@ module _ (words : ℕ → ℕ → ℕ × ℕ) (births : List (Seat Player)) (apa
         let mail = mail_row (mail_owes chart.ways) rows (row_of player_table seat rows (Told line)) in
         omega (arith, lower, change, turned, mail)
     row_pays Tick fine finds = absurd fine
-    row_pays Crash fine finds = absurd fine
-    row_pays (Drop mail) fine finds = absurd fine
-    row_pays (Again mail) fine finds = absurd fine
+    row_pays _ fine finds = absurd fine
 
   -- ---- lawful rows that come in time
 

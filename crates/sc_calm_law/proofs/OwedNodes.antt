@@ -92,12 +92,9 @@ as_replicas = record {
 
 -- each mail that is delivered owes one at least
 answer_most : (ways : Ways) (group : Draw) (answer : AnswerBody) → 1 ≤ answer_owes ways group answer
-answer_most ways group (Says.Value reply) = omega arith
-answer_most ways group (Says.NotMine arc succ) = omega arith
-answer_most ways group (Says.Gone into) = omega arith
 answer_most ways group (Says.NotLeader (Some node)) = omega arith
 answer_most ways group (Says.NotLeader None) = omega arith
-answer_most ways group (Says.Stale last) = omega arith
+answer_most ways group _ = omega arith
 
 elsewhere_most : (ways : Ways) (tx : Draw) (hint : Option ℕ) → 1 ≤ elsewhere_owes ways tx hint
 elsewhere_most ways tx None = omega arith
@@ -105,22 +102,9 @@ elsewhere_most ways tx (Some node) = omega arith
 
 pub body_most : (ways : Ways) (to : ℕ) (body : MailBody) → IsDelivered body → 1 ≤ body_owes ways to body
 body_most ways to (Told order result) d = absurd d
-body_most ways to (Request group client seq op) d = omega arith
 body_most ways to (Answer group seq answer) d = answer_most ways group answer
-body_most ways to (Prepare group ballot from_slot) d = omega arith
-body_most ways to (Promise group ballot reports) d = omega arith
-body_most ways to (Accept group ballot slot command) d = omega arith
-body_most ways to (Accepted group ballot slot) d = omega arith
-body_most ways to (Nack group promised) d = omega arith
-body_most ways to (Learn group slot command) d = omega arith
-body_most ways to (Ask group from_slot) d = omega arith
-body_most ways to (Install group slot base sets) d = omega arith
-body_most ways to (TxPrepare tx offer) d = omega arith
-body_most ways to (TxVote tx coord part vote) d = omega arith
-body_most ways to (TxOutcome tx part outcome) d = omega arith
 body_most ways to (TxElsewhere tx coord hint) d = elsewhere_most ways tx hint
-body_most ways to (TxWatch tx watch) d = omega arith
-body_most ways to (TxWatched tx coord part vote) d = omega arith
+body_most ways to _ d = omega arith
 
 -- a node that stays as it is and sends nothing
 still_lowers : (ways : Ways) (to : ℕ) (body : MailBody) (node : NodeState) (turn : NodeState × List Mail) → IsDelivered body → turn ≡ (node, []) → turn_owes ways turn + 1 ≤ node_owes ways.most node + body_owes ways to body
@@ -154,19 +138,7 @@ missed_is (Told order result) m = absurd m
 missed_is (Request group client seq op) m = absurd m
 missed_is (Learn group slot command) m = absurd m
 missed_is (Install group slot base sets) m = absurd m
-missed_is (Answer group seq answer) m = tt
-missed_is (Prepare group ballot from_slot) m = tt
-missed_is (Promise group ballot reports) m = tt
-missed_is (Accept group ballot slot command) m = tt
-missed_is (Accepted group ballot slot) m = tt
-missed_is (Nack group promised) m = tt
-missed_is (Ask group from_slot) m = tt
-missed_is (TxPrepare tx offer) m = tt
-missed_is (TxVote tx coord part vote) m = tt
-missed_is (TxOutcome tx part outcome) m = tt
-missed_is (TxElsewhere tx coord hint) m = tt
-missed_is (TxWatch tx watch) m = tt
-missed_is (TxWatched tx coord part vote) m = tt
+missed_is _ m = tt
 
 module _ (ways : Ways) where
   -- what is sent then owes less than the mail
@@ -177,17 +149,11 @@ module _ (ways : Ways) where
   unknown_owes from (Install group slot base sets) node m = absurd m
   unknown_owes from (Answer group seq answer) node m = let le = answer_most ways group answer in omega (arith, le)
   unknown_owes from (Prepare group ballot from_slot) node m = let s = sent_owes ways node.me from (Ask group 0) [] in omega (arith, s)
-  unknown_owes from (Promise group ballot reports) node m = omega arith
   unknown_owes from (Accept group ballot slot command) node m = let s = sent_owes ways node.me from (Ask group 0) [] in omega (arith, s)
-  unknown_owes from (Accepted group ballot slot) node m = omega arith
-  unknown_owes from (Nack group promised) node m = omega arith
-  unknown_owes from (Ask group from_slot) node m = omega arith
   unknown_owes from (TxPrepare tx offer) node m = let s = sent_owes ways node.me from (TxElsewhere tx offer.coord None) [] in omega (arith, s)
-  unknown_owes from (TxVote tx coord part vote) node m = omega arith
-  unknown_owes from (TxOutcome tx part outcome) node m = omega arith
   unknown_owes from (TxElsewhere tx coord hint) node m = let le = elsewhere_most ways tx hint in omega (arith, le)
   unknown_owes from (TxWatch tx watch) node m = let s = sent_owes ways node.me from (TxElsewhere tx watch.coord None) [] in omega (arith, s)
-  unknown_owes from (TxWatched tx coord part vote) node m = omega arith
+  unknown_owes from _ node m = omega arith
 
   missed_lowers : (from : ℕ) (group : Draw) (body : MailBody) (node : NodeState) → MayMiss body → group_of_mail body ≡ Some group → replica_of group node.replicas ≡ None
       → turn_owes ways (on_mail from body node) + 1 ≤ node_owes ways.most node + body_owes ways node.me body

@@ -11,11 +11,7 @@ use Rattle.sc_calm_law.proofs.OwedPump.{pump_owes}
 
 order_most : (most : ℕ) (name : Draw) (number : ℕ) (order : Order) → command_owes most (ordered_command name number order) ≤ 242 + 4 * most
 order_most most name number (An.Join node group) = omega arith
-order_most most name number (An.Leave node group) = omega arith
-order_most most name number (An.Split group at) = omega arith
-order_most most name number (An.Merge group) = omega arith
-order_most most name number (An.Repart group at) = omega arith
-order_most most name number (An.Migrate group node) = omega arith
+order_most most name number _ = omega arith
 
 module _ (ways : Ways) where
   taken : (o : Option OrderRefusal) (number : ℕ) (command : Command) (r : ReplicaState) (mails : List Mail) → MayPump r → place_owes ways (taken_or_told o number command (r, mails)) ≤ place_owes ways (r, mails) + command_owes ways.most command

@@ -56,16 +56,7 @@ module _ (ways : Ways) where
       let one = sent_owes ways me (client_actor client) (Answer core.id seq answer) mails in
       omega (arith, le, one)
   turned_owes me core Noop answer mails e = cc
-  turned_owes me core (Join node order) answer mails e = cc
-  turned_owes me core (Leave node order) answer mails e = cc
-  turned_owes me core (Split at child order) answer mails e = cc
-  turned_owes me core (Begin tx body order) answer mails e = cc
-  turned_owes me core (Prepared tx offer) answer mails e = cc
-  turned_owes me core (RecordVote tx vote by) answer mails e = cc
-  turned_owes me core (GiveUp tx) answer mails e = cc
-  turned_owes me core (Finish tx outcome) answer mails e = cc
-  turned_owes me core (Watched tx watch) answer mails e = cc
-  turned_owes me core (RecordWatch tx vote by) answer mails e = cc
+  turned_owes me core _ answer mails e = cc
 
   next_owes : (me : ℕ) (idle : Bool) (core : Core) (calls : List Command) (mails : List Mail) →
       queue_owes ways (next_call me idle core calls mails) ≤ sum_by (command_owes ways.most) calls + sum_by (mail_owes ways) mails

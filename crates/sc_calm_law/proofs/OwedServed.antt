@@ -104,16 +104,7 @@ one_paid : (es : List (ℕ × Command)) (command : Command) (place : Place) → 
 one_paid es (Call client seq op) place serves at served more =
     ((counts_call (Call client seq op) place.0 serves at, served), more (executed_one true (Call client seq op) place) (serves_next client seq op place serves at served))
 one_paid es Noop place serves at served more = absurd served
-one_paid es (Join node order) place serves at served more = absurd served
-one_paid es (Leave node order) place serves at served more = absurd served
-one_paid es (Split bound child order) place serves at served more = absurd served
-one_paid es (Begin tx body order) place serves at served more = absurd served
-one_paid es (Prepared tx offer) place serves at served more = absurd served
-one_paid es (RecordVote tx vote by) place serves at served more = absurd served
-one_paid es (GiveUp tx) place serves at served more = absurd served
-one_paid es (Finish tx outcome) place serves at served more = absurd served
-one_paid es (Watched tx watch) place serves at served more = absurd served
-one_paid es (RecordWatch tx vote by) place serves at served more = absurd served
+one_paid es _ place serves at served more = absurd served
 
 pub ready_is : (r : ReplicaState) (command : Command) → next_ready r ≡ Some command → at_slot r.ready (next r) ≡ Some command
 ready_is r command e = by (r.running && has_room r) e

@@ -99,19 +99,7 @@ missed_stays from (Told order result) node m = absurd m
 missed_stays from (Request group client seq op) node m = absurd m
 missed_stays from (Learn group slot command) node m = absurd m
 missed_stays from (Install group slot base sets) node m = absurd m
-missed_stays from (Answer group seq answer) node m = refl
-missed_stays from (Prepare group ballot from_slot) node m = refl
-missed_stays from (Promise group ballot reports) node m = refl
-missed_stays from (Accept group ballot slot command) node m = refl
-missed_stays from (Accepted group ballot slot) node m = refl
-missed_stays from (Nack group promised) node m = refl
-missed_stays from (Ask group from_slot) node m = refl
-missed_stays from (TxPrepare tx offer) node m = refl
-missed_stays from (TxVote tx coord part vote) node m = refl
-missed_stays from (TxOutcome tx part outcome) node m = refl
-missed_stays from (TxElsewhere tx coord hint) node m = refl
-missed_stays from (TxWatch tx watch) node m = refl
-missed_stays from (TxWatched tx coord part vote) node m = refl
+missed_stays from _ node m = refl
 
 abbrev Turn : Type 0
 Turn = NodeState × List Mail

@@ -10,17 +10,7 @@ use Rattle.sc_calm_law.specs.Definitions.{Ways, command_owes, offered_owes, body
 -- each command owes a round of agreement and an answer at least
 pub command_most : (most : ℕ) (command : Command) → 27 ≤ command_owes most command
 command_most most Noop = omega arith
-command_most most (Call client seq op) = omega arith
-command_most most (Join node order) = omega arith
-command_most most (Leave node order) = omega arith
-command_most most (Split at child order) = omega arith
-command_most most (Begin tx body order) = omega arith
-command_most most (Prepared tx offer) = omega arith
-command_most most (RecordVote tx vote by) = omega arith
-command_most most (GiveUp tx) = omega arith
-command_most most (Finish tx outcome) = omega arith
-command_most most (Watched tx watch) = omega arith
-command_most most (RecordWatch tx vote by) = omega arith
+command_most most _ = omega arith
 
 module _ (ways : Ways) (me : ℕ) where
   -- one mail more

@@ -117,29 +117,19 @@ finish_new tx outcome r =
 -- only of a call a client is told
 call_passes : (o : Option AnswerBody) (command : Command) (place : Place) → is_act command ≡ true → told_call o command place ≡ place
 unfolding told_call
-call_passes None Noop place is = refl
 call_passes (Some answer) Noop place is = refl
 call_passes o (Call client seq op) place is = absurd (true≢false (sym is))
-call_passes None (Join node order) place is = refl
 call_passes (Some answer) (Join node order) place is = refl
-call_passes None (Leave node order) place is = refl
 call_passes (Some answer) (Leave node order) place is = refl
-call_passes None (Split at child order) place is = refl
 call_passes (Some answer) (Split at child order) place is = refl
-call_passes None (Begin tx body order) place is = refl
 call_passes (Some answer) (Begin tx body order) place is = refl
-call_passes None (Prepared tx offer) place is = refl
 call_passes (Some answer) (Prepared tx offer) place is = refl
-call_passes None (RecordVote tx vote by) place is = refl
 call_passes (Some answer) (RecordVote tx vote by) place is = refl
-call_passes None (GiveUp tx) place is = refl
 call_passes (Some answer) (GiveUp tx) place is = refl
-call_passes None (Finish tx outcome) place is = refl
 call_passes (Some answer) (Finish tx outcome) place is = refl
-call_passes None (Watched tx watch) place is = refl
 call_passes (Some answer) (Watched tx watch) place is = refl
-call_passes None (RecordWatch tx vote by) place is = refl
 call_passes (Some answer) (RecordWatch tx vote by) place is = refl
+call_passes None _ place is = refl
 
 module _ (ways : Ways) where
   abbrev sum : List Mail → ℕ

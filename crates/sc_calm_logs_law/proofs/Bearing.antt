@@ -65,11 +65,7 @@ first_nodes scenario bounded base a =
 -- an order to join names one
 ordered_nodes : (nodes : ℕ) → nodes ≤ most_nodes → (order : Order) → IsBoundedOrder nodes order → (name : Draw) (number : ℕ) → BringsNodes (ordered_command name number order)
 ordered_nodes nodes few (An.Join node group) bounded name number = up_to_node nodes node few bounded
-ordered_nodes nodes few (An.Leave node group) bounded name number = tt
-ordered_nodes nodes few (An.Split group at) bounded name number = tt
-ordered_nodes nodes few (An.Merge group) bounded name number = tt
-ordered_nodes nodes few (An.Repart group at) bounded name number = tt
-ordered_nodes nodes few (An.Migrate group node) bounded name number = tt
+ordered_nodes nodes few _ bounded name number = tt
 
 -- an order of nodes, whoever is told it and whatever name it takes
 abbrev pub OrdersNodes : ℕ → OrderLine → Type 0

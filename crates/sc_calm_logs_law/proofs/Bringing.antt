@@ -125,12 +125,8 @@ module _ (sources : Sources) (ahead : Ahead) (words : ℕ → ℕ → ℕ × ℕ
     -- what the row's order may queue, and what policies do
     may_tell : (who : ℕ) (event : Event OrderLine) → IsToldSo OrdersNodes who event → MayTell ahead words scenario scenario.groups (bases rows) route made heard players rows who event
     may_tell who (Told line) told = λ low high node is base a into r held taken. told (next_name node.draws)
-    may_tell who (Deliver number) told = tt
     may_tell who Tick told = λ low high node is. ticks_nodes (bases rows) node.policy node.draws node.replicas
-    may_tell who Go told = tt
-    may_tell who Crash told = tt
-    may_tell who (Drop number) told = tt
-    may_tell who (Again number) told = tt
+    may_tell who _ told = tt
 
     -- what may be queued and heard stays so
     later : (r : Row Mail OrderLine) → IsLater ahead scenario scenario.groups (bases rows) route made heard rows r

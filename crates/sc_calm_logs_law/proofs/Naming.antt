@@ -105,11 +105,7 @@ went_said me group was (RecordVote tx vote by) b has =
 went_said me group was (GiveUp tx) b has = given_said (decided_in (applied group (GiveUp tx)).1) me was tx
 went_said me group was (Watched tx watch) b has = watch_said (cast_in (applied group (Watched tx watch)).1) me tx watch
 went_said me group was (RecordWatch tx vote by) b has = recorded_said (decided_in (applied group (RecordWatch tx vote by)).1) vote me was tx by (watched_moves group.core.lock group tx vote has.1 has)
-went_said me group was (Finish tx outcome) b has = tt
-went_said me group was Noop b has = tt
-went_said me group was (Call client seq op) b has = tt
-went_said me group was (Join node order) b has = tt
-went_said me group was (Leave node order) b has = tt
+went_said me group was _ b has = tt
 
 reminds_said : (lock : Lock) (me : ℕ) (group : Group) → AreNodes group.core.members → Said (reminders lock me group [])
 reminds_said Free me group all = tt
@@ -146,17 +142,7 @@ module _ (ahead : Ahead) (base : Base) (begins : HasNodes base.core) (h : Steps)
   met log all (TxElsewhere tx coord hint) s = λ me from. next_said (state_after (birth ahead base) log).core.lock me (state_after (birth ahead base) log).core from tx hint
   met log all (TxWatch tx watch) s = (tt, λ vote e me node. watched_said vote me node tx watch)
   met log all (TxWatched tx coord part vote) s = (λ from. tt, λ outcome e. noted_moves (state_after (birth ahead base) log).core tx outcome (stands log all) e)
-  met log all (Request g client seq op) s = tt
-  met log all (Answer g seq answer) s = tt
-  met log all (Prepare g ballot from_slot) s = tt
-  met log all (Promise g ballot reports) s = tt
-  met log all (Accept g ballot slot command) s = tt
-  met log all (Accepted g ballot slot) s = tt
-  met log all (Nack g promised) s = tt
-  met log all (Learn g slot command) s = tt
-  met log all (Ask g from_slot) s = tt
-  met log all (Install g slot record_of sets) s = tt
-  met log all (Told number result) s = tt
+  met log all _ s = tt
 
   pub says_nodes : Speaks ahead base BringsNodes SaysNodes h
   says_nodes = record {

@@ -60,22 +60,7 @@ module _ (me : ℕ) where
 
   gets : (from : ℕ) (body : MailBody) (client : Client) → client.me ≡ me → Asks (got from body client)
   gets from (Answer group seq answer) client k = either_way Asks (waits_for client.waiting seq) (answer_taken from group seq answer client) (client, []) (answered from group seq answer client k) (k, tt)
-  gets from (Request group to seq op) client k = (k, tt)
-  gets from (Prepare group ballot from_slot) client k = (k, tt)
-  gets from (Promise group ballot reports) client k = (k, tt)
-  gets from (Accept group ballot slot command) client k = (k, tt)
-  gets from (Accepted group ballot slot) client k = (k, tt)
-  gets from (Nack group promised) client k = (k, tt)
-  gets from (Learn group slot command) client k = (k, tt)
-  gets from (Ask group from_slot) client k = (k, tt)
-  gets from (Install group slot base sets) client k = (k, tt)
-  gets from (TxPrepare tx offer) client k = (k, tt)
-  gets from (TxVote tx coord part vote) client k = (k, tt)
-  gets from (TxOutcome tx part outcome) client k = (k, tt)
-  gets from (TxElsewhere tx coord hint) client k = (k, tt)
-  gets from (TxWatch tx watch) client k = (k, tt)
-  gets from (TxWatched tx coord part vote) client k = (k, tt)
-  gets from (ToldMail order result) client k = (k, tt)
+  gets from _ client k = (k, tt)
 
   pub clients_ask : (client : Client) (input : Input Mail OrderLine) → client.me ≡ me → Asks (table client input)
   clients_ask client (Got mail) k = gets mail.from mail.body client k

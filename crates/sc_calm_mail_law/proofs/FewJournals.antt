@@ -28,15 +28,7 @@ module _ (most more : ℕ) (le : most ≤ more) where
   says_up (Learn group slot command) k = omega (arith, k, le)
   says_up (Ask group from_slot) k = omega (arith, k, le)
   says_up (Install group slot base sets) k = omega (arith, k, le)
-  says_up (Request group client seq op) k = tt
-  says_up (Answer group seq answer) k = tt
-  says_up (TxPrepare tx offer) k = tt
-  says_up (TxVote tx coord part vote) k = tt
-  says_up (TxOutcome tx part outcome) k = tt
-  says_up (TxElsewhere tx coord hint) k = tt
-  says_up (TxWatch tx watch) k = tt
-  says_up (TxWatched tx coord part vote) k = tt
-  says_up (Told order result) k = tt
+  says_up _ k = tt
 
 -- a mail with few slots is one that a replica may take
 hears_few : (n who : ℕ) (body : MailBody) → SaysFew (most_after n) body → Hears (few_walk n who) body
@@ -47,16 +39,7 @@ hears_few n who (Accepted group ballot slot) k = k.1
 hears_few n who (Nack group promised) k = k
 hears_few n who (Learn group slot command) k = (k, tt)
 hears_few n who (Install group slot base sets) k = (k, k)
-hears_few n who (Ask group from_slot) k = tt
-hears_few n who (Request group client seq op) k = tt
-hears_few n who (Answer group seq answer) k = tt
-hears_few n who (TxPrepare tx offer) k = tt
-hears_few n who (TxVote tx coord part vote) k = tt
-hears_few n who (TxOutcome tx part outcome) k = tt
-hears_few n who (TxElsewhere tx coord hint) k = tt
-hears_few n who (TxWatch tx watch) k = tt
-hears_few n who (TxWatched tx coord part vote) k = tt
-hears_few n who (Told order result) k = tt
+hears_few n who _ k = tt
 
 -- a replica with few, as a part
 abbrev PartHas : ℕ → Part → Type 0

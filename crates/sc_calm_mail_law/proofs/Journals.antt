@@ -109,10 +109,7 @@ module _ (births : List (Seat Player)) (law : Law births) where
         by (Some mail) e = gets_input (length rows) seat player (Got mail) (law.hears (length rows) seat.who mail (Each-among (law.Good (length rows)) (mails rows) mail good (number_among (mails rows) number mail e))) k
     event_turn seat who GoEvent player calm k = gets_input (length rows) seat player GoInput tt k
     event_turn seat who (ToldEvent line) player calm k = gets_input (length rows) seat player (ToldInput line) tt k
-    event_turn seat who TickEvent player calm k = absurd calm
-    event_turn seat who Crash player calm k = absurd calm
-    event_turn seat who (Drop mail) player calm k = absurd calm
-    event_turn seat who (Again mail) player calm k = absurd calm
+    event_turn seat who _ player calm k = absurd calm
 
   abbrev pub Holds : Rows → Type 0
   Holds rows = Each (λ seat. Plays (length rows) seat (value player_table seat rows)) births × Each (law.Good (length rows)) (mails rows)

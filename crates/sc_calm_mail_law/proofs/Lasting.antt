@@ -115,10 +115,7 @@ module _ (name : Draw) (r : ReplicaState) (R : ReplicaState → Type 0) (H : Mai
         by (Some mail) at = input_later player (Got mail) (may mail (ap (λ o. option_map Got o) at)) e
     event_later actor GoEvent calm may = input_later player GoInput tt e
     event_later actor (ToldEvent line) calm may = input_later player (ToldInput line) tt e
-    event_later actor TickEvent calm may = absurd calm
-    event_later actor Crash calm may = absurd calm
-    event_later actor (Drop mail) calm may = absurd calm
-    event_later actor (Again mail) calm may = absurd calm
+    event_later actor _ calm may = absurd calm
 
 -- ---- a journal
 

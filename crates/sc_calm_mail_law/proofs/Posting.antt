@@ -170,41 +170,11 @@ desks_apart scenario =
 module _ (who : ℕ) where
   from_node : (to : ℕ) (body : MailBody) → is_node who ≡ true → IsNodesBody who to body → may_come who body ≡ true
   from_node to (Request group client seq op) n k = absurd k
-  from_node to (Answer group seq answer) n k = n
-  from_node to (Prepare group ballot from_slot) n k = n
-  from_node to (Promise group ballot reports) n k = n
-  from_node to (Accept group ballot slot command) n k = n
-  from_node to (Accepted group ballot slot) n k = n
-  from_node to (Nack group promised) n k = n
-  from_node to (Learn group slot command) n k = n
-  from_node to (Ask group from_slot) n k = n
-  from_node to (Install group slot base sets) n k = n
-  from_node to (TxPrepare tx offer) n k = n
-  from_node to (TxVote tx coord part vote) n k = n
-  from_node to (TxOutcome tx part outcome) n k = n
-  from_node to (TxElsewhere tx coord hint) n k = n
-  from_node to (TxWatch tx watch) n k = n
-  from_node to (TxWatched tx coord part vote) n k = n
-  from_node to (Told order result) n k = n
+  from_node to _ n k = n
 
   from_client : (me : ℕ) (body : MailBody) → IsClientsBody me body → may_come who body ≡ true
   from_client me (Request group client seq op) k = refl
-  from_client me (Answer group seq answer) k = absurd k
-  from_client me (Prepare group ballot from_slot) k = absurd k
-  from_client me (Promise group ballot reports) k = absurd k
-  from_client me (Accept group ballot slot command) k = absurd k
-  from_client me (Accepted group ballot slot) k = absurd k
-  from_client me (Nack group promised) k = absurd k
-  from_client me (Learn group slot command) k = absurd k
-  from_client me (Ask group from_slot) k = absurd k
-  from_client me (Install group slot base sets) k = absurd k
-  from_client me (TxPrepare tx offer) k = absurd k
-  from_client me (TxVote tx coord part vote) k = absurd k
-  from_client me (TxOutcome tx part outcome) k = absurd k
-  from_client me (TxElsewhere tx coord hint) k = absurd k
-  from_client me (TxWatch tx watch) k = absurd k
-  from_client me (TxWatched tx coord part vote) k = absurd k
-  from_client me (Told order result) k = absurd k
+  from_client me _ k = absurd k
 
   from_player : (nodes : ℕ) (player : Player) (mail : Mail) → nodes ≤ most_nodes → HasNumber nodes who player → IsPlayers who player mail → may_come who mail.body ≡ true
   from_player nodes (Node node) mail few n k = from_node mail.to mail.body (in_range n.0 n.1) k

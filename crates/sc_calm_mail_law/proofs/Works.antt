@@ -5,15 +5,10 @@ use Rattle.sc_calm_mail_law.specs.Definitions.{FiledIsWork}
 
 -- A command of a transaction is the work of an order.
 pub filed_work : FiledIsWork
-filed_work Noop k = absurd k
-filed_work (Call client seq op) k = absurd k
-filed_work (Join node order) k = absurd k
-filed_work (Leave node order) k = absurd k
-filed_work (Split at child order) k = absurd k
-filed_work (Begin tx body order) k = absurd k
 filed_work (Prepared tx offer) k = (_, refl)
 filed_work (RecordVote tx vote by) k = (_, refl)
 filed_work (GiveUp tx) k = (_, refl)
 filed_work (Finish tx outcome) k = (_, refl)
 filed_work (Watched tx watch) k = (_, refl)
 filed_work (RecordWatch tx vote by) k = (_, refl)
+filed_work _ k = absurd k

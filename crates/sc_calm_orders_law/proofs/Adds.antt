@@ -94,8 +94,4 @@ module _ (name : Draw) where
   went-adds me group before effect (GiveUp tx) = given_adds (decided_in effect) me before tx
   went-adds me group before effect (Watched tx watch) = watch_adds (cast_in effect) me tx watch
   went-adds me group before effect (RecordWatch tx vote by) = watch_answered_adds (decided_in effect) vote me before tx by
-  went-adds me group before effect (Finish tx outcome) = same_adds
-  went-adds me group before effect Noop = same_adds
-  went-adds me group before effect (Call client seq op) = same_adds
-  went-adds me group before effect (Join node order) = same_adds
-  went-adds me group before effect (Leave node order) = same_adds
+  went-adds me group before effect _ = same_adds

@@ -158,9 +158,7 @@ votes-leave = record {
 
 before_succ : (lock : Lock) (core : Core) → (before_in lock core).succ ≡ core.succ
 before_succ Free core = refl
-before_succ (Coordinating tx body order heard) core = refl
-before_succ (Promised tx offer) core = refl
-before_succ (Watching tx watch) core = refl
+before_succ _ core = refl
 
 module _ (me : ℕ) (before : Before) (tx : Draw) (by : ℕ) where
   -- a decision tells the party that brought the vote

@@ -13,10 +13,7 @@ use Rattle.sc_calm_orders_law.proofs.Pumps.{pumps-keep}
 order_work : (name : Draw) (number : ℕ) (order : Order) → (work : Work) × IsOrder work × (work_by (ordered_command name number order) ≡ Some work)
 order_work name number (An.Join node group) = (Changes, tt, refl)
 order_work name number (An.Leave node group) = (Changes, tt, refl)
-order_work name number (An.Split group at) = (Opens name, tt, refl)
-order_work name number (An.Merge group) = (Opens name, tt, refl)
-order_work name number (An.Repart group at) = (Opens name, tt, refl)
-order_work name number (An.Migrate group node) = (Opens name, tt, refl)
+order_work name number _ = (Opens name, tt, refl)
 
 called_work : (command : Command) (work : Work) (r : ReplicaState) → work_by command ≡ Some work → MayFile r → works (with_call command r) ≡ work ∷ []
 called_work command work r is may =

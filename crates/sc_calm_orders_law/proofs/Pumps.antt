@@ -42,31 +42,12 @@ work_found (Some command) = listed (work_by command)
 turned_work : (core : Core) (command : Command) (answer : AnswerBody) → turned_down core command ≡ Some answer → work_by command ≡ None
 turned_work core (Call client seq op) answer e = refl
 turned_work core Noop answer e = refl
-turned_work core (Join node order) answer e = cc
-turned_work core (Leave node order) answer e = cc
-turned_work core (Split at child order) answer e = cc
-turned_work core (Begin tx body order) answer e = cc
-turned_work core (Prepared tx offer) answer e = cc
-turned_work core (RecordVote tx vote by) answer e = cc
-turned_work core (GiveUp tx) answer e = cc
-turned_work core (Finish tx outcome) answer e = cc
-turned_work core (Watched tx watch) answer e = cc
-turned_work core (RecordWatch tx vote by) answer e = cc
+turned_work core _ answer e = cc
 
 turned_errands : (name : Draw) (me : ℕ) (group : Draw) (command : Command) (answer : AnswerBody) (mails : List Mail) → errands_for name (answered me group answer command mails) ≡ errands_for name mails
 unfolding answered
 turned_errands name me group (Call client seq op) answer mails = errands-none name me (client_actor client) (Answer group seq answer) mails refl
-turned_errands name me group Noop answer mails = refl
-turned_errands name me group (Join node order) answer mails = refl
-turned_errands name me group (Leave node order) answer mails = refl
-turned_errands name me group (Split at child order) answer mails = refl
-turned_errands name me group (Begin tx body order) answer mails = refl
-turned_errands name me group (Prepared tx offer) answer mails = refl
-turned_errands name me group (RecordVote tx vote by) answer mails = refl
-turned_errands name me group (GiveUp tx) answer mails = refl
-turned_errands name me group (Finish tx outcome) answer mails = refl
-turned_errands name me group (Watched tx watch) answer mails = refl
-turned_errands name me group (RecordWatch tx vote by) answer mails = refl
+turned_errands name me group _ answer mails = refl
 
 -- what is found, what is left, and the mail
 abbrev Walk : Type 0

@@ -47,17 +47,7 @@ module _ (name : Draw) where
   answered_none : (me : ℕ) (group : Draw) (answer : AnswerBody) (command : Command) (mails : List Mail) → errands_for name (answered me group answer command mails) ≡ errands_for name mails
   unfolding answered
   answered_none me group answer (Call client seq op) mails = errands-none name me (client_actor client) (Answer group seq answer) mails refl
-  answered_none me group answer Noop mails = refl
-  answered_none me group answer (Join node order) mails = refl
-  answered_none me group answer (Leave node order) mails = refl
-  answered_none me group answer (Split at child order) mails = refl
-  answered_none me group answer (Begin tx body order) mails = refl
-  answered_none me group answer (Prepared tx offer) mails = refl
-  answered_none me group answer (RecordVote tx vote by) mails = refl
-  answered_none me group answer (GiveUp tx) mails = refl
-  answered_none me group answer (Finish tx outcome) mails = refl
-  answered_none me group answer (Watched tx watch) mails = refl
-  answered_none me group answer (RecordWatch tx vote by) mails = refl
+  answered_none me group answer _ mails = refl
 
   pub all_answered_none : (me : ℕ) (group : Draw) (answer : AnswerBody) (commands : List Command) (mails : List Mail) → errands_for name (answered_all me group answer commands mails) ≡ errands_for name mails
   unfolding answered_all
@@ -67,17 +57,7 @@ module _ (name : Draw) where
   dismissed_none : (me : ℕ) (group : Draw) (hint : Option ℕ) (answer : AnswerBody) (command : Command) (mails : List Mail) → errands_for name (dismissed me group hint answer command mails) ≡ errands_for name mails
   unfolding dismissed
   dismissed_none me group hint answer (Call client seq op) mails = errands-none name me (client_actor client) (Answer group seq answer) mails refl
-  dismissed_none me group hint answer Noop mails = order_none me _ _ mails
-  dismissed_none me group hint answer (Join node order) mails = order_none me _ _ mails
-  dismissed_none me group hint answer (Leave node order) mails = order_none me _ _ mails
-  dismissed_none me group hint answer (Split at child order) mails = order_none me _ _ mails
-  dismissed_none me group hint answer (Begin tx body order) mails = order_none me _ _ mails
-  dismissed_none me group hint answer (Prepared tx offer) mails = order_none me _ _ mails
-  dismissed_none me group hint answer (RecordVote tx vote by) mails = order_none me _ _ mails
-  dismissed_none me group hint answer (GiveUp tx) mails = order_none me _ _ mails
-  dismissed_none me group hint answer (Finish tx outcome) mails = order_none me _ _ mails
-  dismissed_none me group hint answer (Watched tx watch) mails = order_none me _ _ mails
-  dismissed_none me group hint answer (RecordWatch tx vote by) mails = order_none me _ _ mails
+  dismissed_none me group hint answer _ mails = order_none me _ _ mails
 
   pub all_dismissed_none : (me : ℕ) (group : Draw) (hint : Option ℕ) (answer : AnswerBody) (commands : List Command) (mails : List Mail) → errands_for name (dismissed_all me group hint answer commands mails) ≡ errands_for name mails
   unfolding dismissed_all
@@ -89,16 +69,6 @@ not_call : (o : Option AnswerBody) (command : Command) (work : Work) (place : Pl
 unfolding told_call
 not_call o Noop work place e = cc
 not_call o (Call client seq op) work place e = cc
-not_call None (Join node order) work place e = refl
-not_call None (Leave node order) work place e = refl
-not_call None (Split at child order) work place e = refl
-not_call None (Begin tx body order) work place e = refl
-not_call None (Prepared tx offer) work place e = refl
-not_call None (RecordVote tx vote by) work place e = refl
-not_call None (GiveUp tx) work place e = refl
-not_call None (Finish tx outcome) work place e = refl
-not_call None (Watched tx watch) work place e = refl
-not_call None (RecordWatch tx vote by) work place e = refl
 not_call (Some answer) (Join node order) work place e = refl
 not_call (Some answer) (Leave node order) work place e = refl
 not_call (Some answer) (Split at child order) work place e = refl
@@ -109,6 +79,7 @@ not_call (Some answer) (GiveUp tx) work place e = refl
 not_call (Some answer) (Finish tx outcome) work place e = refl
 not_call (Some answer) (Watched tx watch) work place e = refl
 not_call (Some answer) (RecordWatch tx vote by) work place e = refl
+not_call None _ work place e = refl
 
 -- ---- the parts of an execution
 

@@ -149,13 +149,7 @@ module _ (r : ReplicaState) (other : Draw) where
   aside_keeps from (TxWatched tx coord part vote) a k = watched_keeps from tx part vote (r, []) k
   aside_keeps from (Told order result) a k = k
   aside_keeps from (Nack group promised) a k = nack_keeps promised r [] a k
-  aside_keeps from (Prepare group ballot from_slot) a k = absurd a
-  aside_keeps from (Promise group ballot reports) a k = absurd a
-  aside_keeps from (Accept group ballot slot command) a k = absurd a
-  aside_keeps from (Accepted group ballot slot) a k = absurd a
-  aside_keeps from (Learn group slot command) a k = absurd a
-  aside_keeps from (Ask group from_slot) a k = absurd a
-  aside_keeps from (Install group slot base sets) a k = absurd a
+  aside_keeps from _ a k = absurd a
 
 -- another name than this
 abbrev away : Draw → Draw

@@ -25,17 +25,7 @@ module _ (name : Draw) where
   pub back_keeps : (command : Command) (r : ReplicaState) → name_of r ≡ name → name_of (put_back command r) ≡ name
   unfolding put_back
   back_keeps Noop r k = k
-  back_keeps (Call client seq op) r k = k
-  back_keeps (Join node order) r k = k
-  back_keeps (Leave node order) r k = k
-  back_keeps (Split at child order) r k = k
-  back_keeps (Begin tx body order) r k = k
-  back_keeps (Prepared tx offer) r k = k
-  back_keeps (RecordVote tx vote by) r k = k
-  back_keeps (GiveUp tx) r k = k
-  back_keeps (Finish tx outcome) r k = k
-  back_keeps (Watched tx watch) r k = k
-  back_keeps (RecordWatch tx vote by) r k = k
+  back_keeps _ r k = k
 
   -- ---- the pump
 

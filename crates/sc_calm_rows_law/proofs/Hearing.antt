@@ -45,19 +45,9 @@ missed_none name me from (Request group client seq op) = (refl, tt)
 missed_none name me from (Prepare group ballot from_slot) = (refl, tt)
 missed_none name me from (Accept group ballot slot command) = (refl, tt)
 missed_none name me from (Learn group slot command) = (refl, tt)
-missed_none name me from (Answer group seq answer) = tt
-missed_none name me from (Promise group ballot reports) = tt
-missed_none name me from (Accepted group ballot slot) = tt
-missed_none name me from (Nack group promised) = tt
-missed_none name me from (Ask group from_slot) = tt
-missed_none name me from (Install group slot base sets) = tt
 missed_none name me from (TxPrepare tx offer) = (refl, tt)
-missed_none name me from (TxVote tx coord part vote) = tt
-missed_none name me from (TxOutcome tx part outcome) = tt
-missed_none name me from (TxElsewhere tx coord hint) = tt
 missed_none name me from (TxWatch tx watch) = (refl, tt)
-missed_none name me from (TxWatched tx coord part vote) = tt
-missed_none name me from (ToldMail order result) = tt
+missed_none name me from _ = tt
 
 -- ---- clients
 
@@ -108,22 +98,7 @@ module _ (name : Draw) where
 
   got_none : (from : ℕ) (body : MailBody) (client : Client) → None_ (got from body client)
   got_none from (Answer group seq answer) client = either_way None_ (waits_for client.waiting seq) (answer_taken from group seq answer client) (client, []) (answer_none from group seq answer client) tt
-  got_none from (Request group to seq op) client = tt
-  got_none from (Prepare group ballot from_slot) client = tt
-  got_none from (Promise group ballot reports) client = tt
-  got_none from (Accept group ballot slot command) client = tt
-  got_none from (Accepted group ballot slot) client = tt
-  got_none from (Nack group promised) client = tt
-  got_none from (Learn group slot command) client = tt
-  got_none from (Ask group from_slot) client = tt
-  got_none from (Install group slot base sets) client = tt
-  got_none from (TxPrepare tx offer) client = tt
-  got_none from (TxVote tx coord part vote) client = tt
-  got_none from (TxOutcome tx part outcome) client = tt
-  got_none from (TxElsewhere tx coord hint) client = tt
-  got_none from (TxWatch tx watch) client = tt
-  got_none from (TxWatched tx coord part vote) client = tt
-  got_none from (ToldMail order result) client = tt
+  got_none from _ client = tt
 
   pub client_none : (client : Client) (input : Input Mail OrderLine) → None_ (table client input)
   client_none client (Got mail) = got_none mail.from mail.body client

@@ -23,17 +23,7 @@ module _ (command : Command) (r : ReplicaState) where
   back_past : (other : Command) (q : ReplicaState) → IsPast command r q → IsPast command r (put_back other q)
   unfolding put_back
   back_past Noop q k = k
-  back_past (Call client seq op) q k = record { group_is = k.group_is; sets_are = k.sets_are; me_is = k.me_is; ready_is = k.ready_is }
-  back_past (Join node order) q k = record { group_is = k.group_is; sets_are = k.sets_are; me_is = k.me_is; ready_is = k.ready_is }
-  back_past (Leave node order) q k = record { group_is = k.group_is; sets_are = k.sets_are; me_is = k.me_is; ready_is = k.ready_is }
-  back_past (Split at child order) q k = record { group_is = k.group_is; sets_are = k.sets_are; me_is = k.me_is; ready_is = k.ready_is }
-  back_past (Begin tx body order) q k = record { group_is = k.group_is; sets_are = k.sets_are; me_is = k.me_is; ready_is = k.ready_is }
-  back_past (Prepared tx offer) q k = record { group_is = k.group_is; sets_are = k.sets_are; me_is = k.me_is; ready_is = k.ready_is }
-  back_past (RecordVote tx vote by) q k = record { group_is = k.group_is; sets_are = k.sets_are; me_is = k.me_is; ready_is = k.ready_is }
-  back_past (GiveUp tx) q k = record { group_is = k.group_is; sets_are = k.sets_are; me_is = k.me_is; ready_is = k.ready_is }
-  back_past (Finish tx outcome) q k = record { group_is = k.group_is; sets_are = k.sets_are; me_is = k.me_is; ready_is = k.ready_is }
-  back_past (Watched tx watch) q k = record { group_is = k.group_is; sets_are = k.sets_are; me_is = k.me_is; ready_is = k.ready_is }
-  back_past (RecordWatch tx vote by) q k = record { group_is = k.group_is; sets_are = k.sets_are; me_is = k.me_is; ready_is = k.ready_is }
+  back_past _ q k = record { group_is = k.group_is; sets_are = k.sets_are; me_is = k.me_is; ready_is = k.ready_is }
 
   -- ---- the pump
 

@@ -67,9 +67,7 @@ module _ (words : ℕ → ℕ → ℕ × ℕ) (births : List (Seat Player)) (row
   row_by seat (Told line) born fine =
       row_with (row_of player_table seat rows (Told line)) (record { seat = seat; born = born; event = Told line; row_is = refl; calm = fine }) (rest s rows seat.who) refl (at_zero (rest s rows seat.who))
   row_by seat Tick born fine = absurd fine
-  row_by seat Crash born fine = absurd fine
-  row_by seat (Drop mail) born fine = absurd fine
-  row_by seat (Again mail) born fine = absurd fine
+  row_by seat _ born fine = absurd fine
 
   pub row_is : (row : Row Mail OrderLine) → IsCalmRow (players words births) rows row → RowOf row
   row_is row calm = subst RowOf (sym calm.row_is) (row_by calm.seat calm.event calm.born calm.calm)

@@ -135,21 +135,7 @@ module _ (me : ℕ) where
 own_body : (from : ℕ) (body : MailBody) → ((name : Draw) → mark_of name from body ≡ None) → IsOwnAsking from body
 own_body from (Accept group ballot slot command) none = (let bad : Some (Asks ballot slot) ≡ None = sym (same_mark group (Asks ballot slot)) ∙ none group in cc)
 own_body from (Prepare group ballot from_slot) none = (let bad : Some (Prepares ballot) ≡ None = sym (same_mark group (Prepares ballot)) ∙ none group in cc)
-own_body from (Accepted group ballot slot) none = tt
-own_body from (Learn group slot command) none = tt
-own_body from (Install group slot base sets) none = tt
-own_body from (Promise group ballot reports) none = tt
-own_body from (Nack group promised) none = tt
-own_body from (Ask group from_slot) none = tt
-own_body from (Request group client seq op) none = tt
-own_body from (Answer group seq answer) none = tt
-own_body from (TxPrepare tx offer) none = tt
-own_body from (TxVote tx coord part vote) none = tt
-own_body from (TxOutcome tx part outcome) none = tt
-own_body from (TxElsewhere tx coord hint) none = tt
-own_body from (TxWatch tx watch) none = tt
-own_body from (TxWatched tx coord part vote) none = tt
-own_body from (Told order result) none = tt
+own_body from _ none = tt
 
 own_none : (mails : List Mail) → ((name : Draw) → Each (λ mail. mark_of name mail.from mail.body ≡ None) mails) → AreOwn mails
 own_none [] none = tt

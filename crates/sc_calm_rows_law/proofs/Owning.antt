@@ -144,11 +144,7 @@ went_own me group before effect (RecordVote tx vote by) mails m = vote_replied (
 went_own me group before effect (GiveUp tx) mails m = given_up_said (decided_in effect) me before tx mails m
 went_own me group before effect (Watched tx watch) mails m = watch_said (cast_in effect) me tx watch mails m
 went_own me group before effect (RecordWatch tx vote by) mails m = watch_replied (decided_in effect) vote me before tx by mails m
-went_own me group before effect (Finish tx outcome) mails m = m
-went_own me group before effect Noop mails m = m
-went_own me group before effect (Call client seq op) mails m = m
-went_own me group before effect (Join node order) mails m = m
-went_own me group before effect (Leave node order) mails m = m
+went_own me group before effect _ mails m = m
 
 begun_own : (me : ℕ) (before : Before) (effect : Effect) (command : Command) (mails : List Mail) → AreOwn mails → AreOwn (told_begun me before effect command mails)
 unfolding told_begun

@@ -25,16 +25,6 @@ use Rattle.sc_calm_rows_law.proofs.Turning.{found_name, rows_replicas}
 
 -- mail that is no part of the agreement leaves no mark
 pub aside_mark : (name : Draw) (from : ℕ) (r : ReplicaState) (body : MailBody) → IsAside r body → mark_of name from body ≡ None
-aside_mark name from r (Request group client seq op) a = refl
-aside_mark name from r (Answer group seq answer) a = refl
-aside_mark name from r (TxPrepare tx offer) a = refl
-aside_mark name from r (TxVote tx coord part vote) a = refl
-aside_mark name from r (TxOutcome tx part outcome) a = refl
-aside_mark name from r (TxElsewhere tx coord hint) a = refl
-aside_mark name from r (TxWatch tx watch) a = refl
-aside_mark name from r (TxWatched tx coord part vote) a = refl
-aside_mark name from r (ToldMail order result) a = refl
-aside_mark name from r (Nack group promised) a = refl
 aside_mark name from r (Prepare group ballot from_slot) a = absurd a
 aside_mark name from r (Promise group ballot reports) a = absurd a
 aside_mark name from r (Accept group ballot slot command) a = absurd a
@@ -42,6 +32,7 @@ aside_mark name from r (Accepted group ballot slot) a = absurd a
 aside_mark name from r (Learn group slot command) a = absurd a
 aside_mark name from r (Ask group from_slot) a = absurd a
 aside_mark name from r (Install group slot base sets) a = absurd a
+aside_mark name from r _ a = refl
 
 pub told_is : (node : NodeState) (line : OrderLine) (r : ReplicaState) → (stepped false node.draws (Given.Told line) (r, [])).0 ≡ ordered_row node.draws line (r, [])
 unfolding stepped

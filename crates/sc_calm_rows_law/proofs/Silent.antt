@@ -26,34 +26,17 @@ wide_mark name from (Learn group slot command) = mark_of name from (Learn group 
 wide_mark name from (Install group slot base sets) = mark_of name from (Install group slot base sets)
 wide_mark name from (Prepare group ballot from_slot) = mark_of name from (Prepare group ballot from_slot)
 wide_mark name from (Promise group ballot reports) = mark_of name from (Promise group ballot reports)
-wide_mark name from (Answer group seq answer) = None
-wide_mark name from (TxPrepare tx offer) = None
-wide_mark name from (TxVote tx coord part vote) = None
-wide_mark name from (TxOutcome tx part outcome) = None
-wide_mark name from (TxElsewhere tx coord hint) = None
-wide_mark name from (TxWatch tx watch) = None
-wide_mark name from (TxWatched tx coord part vote) = None
-wide_mark name from (Told order result) = None
+wide_mark name from _ = None
 
 -- one that leaves none of these leaves no mark
 pub narrow : (name : Draw) (from : ℕ) (body : MailBody) → wide_mark name from body ≡ None → mark_of name from body ≡ None
-narrow name from (Nack group promised) e = refl
-narrow name from (Ask group from_slot) e = refl
-narrow name from (Request group client seq op) e = refl
 narrow name from (Accept group ballot slot command) e = e
 narrow name from (Accepted group ballot slot) e = e
 narrow name from (Learn group slot command) e = e
 narrow name from (Install group slot base sets) e = e
 narrow name from (Prepare group ballot from_slot) e = e
 narrow name from (Promise group ballot reports) e = e
-narrow name from (Answer group seq answer) e = refl
-narrow name from (TxPrepare tx offer) e = refl
-narrow name from (TxVote tx coord part vote) e = refl
-narrow name from (TxOutcome tx part outcome) e = refl
-narrow name from (TxElsewhere tx coord hint) e = refl
-narrow name from (TxWatch tx watch) e = refl
-narrow name from (TxWatched tx coord part vote) e = refl
-narrow name from (Told order result) e = refl
+narrow name from _ e = refl
 
 -- a body from a node leaves no such mark for another group than the one of this name
 abbrev pub IsQuietBody : Draw → ℕ → MailBody → Type 0
@@ -201,11 +184,7 @@ module _ (name : Draw) where
   went_quiet me group before effect (GiveUp tx) mails m = given_up_said (decided_in effect) me before tx mails m
   went_quiet me group before effect (Watched tx watch) mails m = watch_said (cast_in effect) me tx watch mails m
   went_quiet me group before effect (RecordWatch tx vote by) mails m = watch_replied (decided_in effect) vote me before tx by mails m
-  went_quiet me group before effect (Finish tx outcome) mails m = m
-  went_quiet me group before effect Noop mails m = m
-  went_quiet me group before effect (Call client seq op) mails m = m
-  went_quiet me group before effect (Join node order) mails m = m
-  went_quiet me group before effect (Leave node order) mails m = m
+  went_quiet me group before effect _ mails m = m
 
   begun_quiet : (me : ℕ) (before : Before) (effect : Effect) (command : Command) (mails : List Mail) → AreQuiet name mails → AreQuiet name (told_begun me before effect command mails)
   unfolding told_begun

@@ -88,17 +88,7 @@ module _ (base : Base) (group : Draw) (ne : group ≡ base.core.id → ⊥) wher
   mark_other from (Install other slot base sets) e = other_mark other (Installs slot) e
   mark_other from (Prepare other ballot from_slot) e = other_mark other (Prepares ballot) e
   mark_other from (Promise other ballot reports) e = other_mark other (Promises from ballot) e
-  mark_other from (Nack other promised) e = refl
-  mark_other from (Ask other from_slot) e = refl
-  mark_other from (Request other client seq op) e = refl
-  mark_other from (Answer other seq answer) e = refl
-  mark_other from (TxPrepare tx offer) e = refl
-  mark_other from (TxVote tx coord part vote) e = refl
-  mark_other from (TxOutcome tx part outcome) e = refl
-  mark_other from (TxElsewhere tx coord hint) e = refl
-  mark_other from (TxWatch tx watch) e = refl
-  mark_other from (TxWatched tx coord part vote) e = refl
-  mark_other from (ToldMail order result) e = refl
+  mark_other from _ e = refl
 
   module _ (who : ℕ) (node : NodeState) where
     -- a step that is nothing to the group
@@ -115,21 +105,12 @@ module _ (base : Base) (group : Draw) (ne : group ≡ base.core.id → ⊥) wher
         either_way Other (not (eqb (length sets) slots_ahead) || nat_lt last_slot slot) (node, []) (with_made place node) ((refl, refl), (λ to. refl), inl refl)
         (made_other place (names_stay.made node.me from other slot base sets ∙ same) (λ to. others_hear_nothing.made name to node.me from other slot base sets (λ n. ne (sym same ∙ n))))
     missed_other from (Accept other ballot slot command) e = ((refl, refl), (λ to. others_hear_nothing.missed name to node.me from (Accept other ballot slot command)), inl refl)
-    missed_other from (Accepted other ballot slot) e = ((refl, refl), (λ to. refl), inl refl)
     missed_other from (Learn other slot command) e = ((refl, refl), (λ to. others_hear_nothing.missed name to node.me from (Learn other slot command)), inl refl)
     missed_other from (Prepare other ballot from_slot) e = ((refl, refl), (λ to. others_hear_nothing.missed name to node.me from (Prepare other ballot from_slot)), inl refl)
-    missed_other from (Promise other ballot reports) e = ((refl, refl), (λ to. refl), inl refl)
-    missed_other from (Nack other promised) e = ((refl, refl), (λ to. refl), inl refl)
-    missed_other from (Ask other from_slot) e = ((refl, refl), (λ to. refl), inl refl)
     missed_other from (Request other client seq op) e = ((refl, refl), (λ to. others_hear_nothing.missed name to node.me from (Request other client seq op)), inl refl)
-    missed_other from (Answer other seq answer) e = ((refl, refl), (λ to. refl), inl refl)
     missed_other from (TxPrepare tx offer) e = ((refl, refl), (λ to. others_hear_nothing.missed name to node.me from (TxPrepare tx offer)), inl refl)
-    missed_other from (TxVote tx coord part vote) e = ((refl, refl), (λ to. refl), inl refl)
-    missed_other from (TxOutcome tx part outcome) e = ((refl, refl), (λ to. refl), inl refl)
-    missed_other from (TxElsewhere tx coord hint) e = ((refl, refl), (λ to. refl), inl refl)
     missed_other from (TxWatch tx watch) e = ((refl, refl), (λ to. others_hear_nothing.missed name to node.me from (TxWatch tx watch)), inl refl)
-    missed_other from (TxWatched tx coord part vote) e = ((refl, refl), (λ to. refl), inl refl)
-    missed_other from (ToldMail order result) e = ((refl, refl), (λ to. refl), inl refl)
+    missed_other from _ e = ((refl, refl), (λ to. refl), inl refl)
 
     taken_other : (from : ℕ) (body : MailBody) (o : Option ReplicaState) → group_of_mail body ≡ Some group → replica_of group node.replicas ≡ o → node.me ≡ who → AreAsBegun base who (made_children o from body) → Other (taken_by o group from body node)
     taken_other from body None named e me fits = missed_other from body named
@@ -152,23 +133,13 @@ module _ (base : Base) (group : Draw) (ne : group ≡ base.core.id → ⊥) wher
 -- ---- mail of no group
 
 stray_mark : (name : Draw) (from : ℕ) (body : MailBody) → group_of_mail body ≡ None → mark_of name from body ≡ None
-stray_mark name from (Answer group seq answer) e = refl
-stray_mark name from (ToldMail order result) e = refl
-stray_mark name from (Nack other promised) e = refl
-stray_mark name from (Ask other from_slot) e = refl
-stray_mark name from (Request other client seq op) e = refl
-stray_mark name from (TxPrepare tx offer) e = refl
-stray_mark name from (TxVote tx coord part vote) e = refl
-stray_mark name from (TxOutcome tx part outcome) e = refl
-stray_mark name from (TxElsewhere tx coord hint) e = refl
-stray_mark name from (TxWatch tx watch) e = refl
-stray_mark name from (TxWatched tx coord part vote) e = refl
 stray_mark name from (Accept other ballot slot command) e = cc
 stray_mark name from (Accepted other ballot slot) e = cc
 stray_mark name from (Learn other slot command) e = cc
 stray_mark name from (Install other slot base sets) e = cc
 stray_mark name from (Prepare other ballot from_slot) e = cc
 stray_mark name from (Promise other ballot reports) e = cc
+stray_mark name from _ e = refl
 
 stray_stays : (from : ℕ) (body : MailBody) (node : NodeState) → group_of_mail body ≡ None → on_mail from body node ≡ (node, [])
 stray_stays from body node none = either_way (λ (step : NodeState × List Mail). step ≡ (node, [])) (may_come from body) (routed (group_of_mail body) from body node) (node, []) (ap (λ g. routed g from body node) none) refl
@@ -182,21 +153,7 @@ missed_stays name from (Install group slot base sets) node none e =
     let bad : Some (Installs slot) ≡ None = sym some ∙ none in
     cc
 missed_stays name from (Request group client seq op) node none e = refl
-missed_stays name from (Prepare group ballot from_slot) node none e = refl
-missed_stays name from (Accept group ballot slot command) node none e = refl
-missed_stays name from (Learn group slot command) node none e = refl
-missed_stays name from (Answer group seq answer) node none e = refl
-missed_stays name from (Promise group ballot reports) node none e = refl
-missed_stays name from (Accepted group ballot slot) node none e = refl
-missed_stays name from (Nack group promised) node none e = refl
-missed_stays name from (Ask group from_slot) node none e = refl
-missed_stays name from (TxPrepare tx offer) node none e = refl
-missed_stays name from (TxVote tx coord part vote) node none e = refl
-missed_stays name from (TxOutcome tx part outcome) node none e = refl
-missed_stays name from (TxElsewhere tx coord hint) node none e = refl
-missed_stays name from (TxWatch tx watch) node none e = refl
-missed_stays name from (TxWatched tx coord part vote) node none e = refl
-missed_stays name from (ToldMail order result) node none e = refl
+missed_stays name from _ node none e = refl
 
 -- a step that leaves the node and sends no mark of a group
 abbrev Leaves : Draw → NodeState → NodeState × List Mail → Type 0

@@ -99,20 +99,7 @@ module _ (words : ℕ → ℕ → ℕ × ℕ) (births : List (Seat Player)) (row
         lead_takes words births rows seat number mail group r c (TxWatch tx watch) e (Question tx watch.coord true watch.by mail.to) (Answers tx watch.coord true watch.by) refl refl (may f.0 w.work).idle
         (tables-file.watch mail.from tx watch r (may f.0 w.work) f.1) under)
     leader_asked (TxVote tx coord party vote) q e f under = absurd q
-    leader_asked (TxWatched tx coord party vote) q e f under = absurd q
-    leader_asked (TxOutcome tx party outcome) q e f under = absurd q
-    leader_asked (TxElsewhere tx coord hint) q e f under = absurd q
-    leader_asked (Accept named ballot slot command) q e f under = absurd q
-    leader_asked (Prepare named ballot from_slot) q e f under = absurd q
-    leader_asked (Nack named ballot) q e f under = absurd q
-    leader_asked (Promise named ballot reports) q e f under = absurd q
-    leader_asked (Accepted named ballot slot) q e f under = absurd q
-    leader_asked (Learn named slot command) q e f under = absurd q
-    leader_asked (Install named slot base sets) q e f under = absurd q
-    leader_asked (Ask named slot) q e f under = absurd q
-    leader_asked (Request named client seq op) q e f under = absurd q
-    leader_asked (Answer named seq answer) q e f under = absurd q
-    leader_asked (ToldMail order result) q e f under = absurd q
+    leader_asked _ q e f under = absurd q
 
     leader_found : (body : MailBody) → mail.body ≡ body → LeaderFinds births rows seat number mail group r body → KeepsStage births rows seat (Deliver number)
     leader_found (TxPrepare tx offer) e f under =

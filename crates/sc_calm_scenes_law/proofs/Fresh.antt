@@ -77,56 +77,21 @@ absent_other name group ne me from (Accept g ballot slot command) e = ((λ n. (l
 absent_other name group ne me from (Learn g slot command) e = ((λ n. (let a : g ≡ group = cc in let b : g ≡ name = cc in absurd (ne (sym b ∙ a)))), tt)
 absent_other name group ne me from (TxPrepare tx offer) e = ((λ n. ((offer.coord, Elsewhere tx from), refl)), tt)
 absent_other name group ne me from (TxWatch tx watch) e = ((λ n. ((watch.coord, Elsewhere tx from), refl)), tt)
-absent_other name group ne me from (Answer g seq answer) e = tt
-absent_other name group ne me from (Promise g ballot reports) e = tt
-absent_other name group ne me from (Accepted g ballot slot) e = tt
-absent_other name group ne me from (Nack g promised) e = tt
-absent_other name group ne me from (Ask g from_slot) e = tt
-absent_other name group ne me from (Install g slot base sets) e = tt
-absent_other name group ne me from (TxVote tx coord part vote) e = tt
-absent_other name group ne me from (TxOutcome tx part outcome) e = tt
-absent_other name group ne me from (TxElsewhere tx coord hint) e = tt
-absent_other name group ne me from (TxWatched tx coord part vote) e = tt
-absent_other name group ne me from (ToldMail order result) e = tt
+absent_other name group ne me from _ e = tt
 
 pub absent_errand : (name : Draw) (me from to : ℕ) (body : MailBody) (entry : Draw × Errand) → errand_by from to body ≡ Some entry → Each (IsErrandFor name) (absent me from body)
 absent_errand name me from to (TxPrepare tx offer) entry e = ((λ n. ((offer.coord, Elsewhere tx from), refl)), tt)
 absent_errand name me from to (TxWatch tx watch) entry e = ((λ n. ((watch.coord, Elsewhere tx from), refl)), tt)
-absent_errand name me from to (TxVote tx coord part vote) entry e = tt
-absent_errand name me from to (TxOutcome tx part outcome) entry e = tt
-absent_errand name me from to (TxElsewhere tx coord hint) entry e = tt
-absent_errand name me from to (TxWatched tx coord part vote) entry e = tt
 absent_errand name me from to (Request g client seq op) entry e = absurd (none_some e)
 absent_errand name me from to (Prepare g ballot from_slot) entry e = absurd (none_some e)
 absent_errand name me from to (Accept g ballot slot command) entry e = absurd (none_some e)
 absent_errand name me from to (Learn g slot command) entry e = absurd (none_some e)
-absent_errand name me from to (Answer g seq answer) entry e = tt
-absent_errand name me from to (Promise g ballot reports) entry e = tt
-absent_errand name me from to (Accepted g ballot slot) entry e = tt
-absent_errand name me from to (Nack g promised) entry e = tt
-absent_errand name me from to (Ask g from_slot) entry e = tt
-absent_errand name me from to (Install g slot base sets) entry e = tt
-absent_errand name me from to (ToldMail order result) entry e = tt
+absent_errand name me from to _ entry e = tt
 
 -- a client that is not answered sends nothing
 pub got_nothing : (from : ℕ) (body : MailBody) (client : ClientState) → ((group : Draw) (seq : ℕ) (answer : AnswerBody) → body ≡ Answer group seq answer → ⊥) → (got from body client).1 ≡ []
 got_nothing from (Answer group seq answer) client other = absurd (other group seq answer refl)
-got_nothing from (Request group to seq op) client other = refl
-got_nothing from (Prepare group ballot from_slot) client other = refl
-got_nothing from (Promise group ballot reports) client other = refl
-got_nothing from (Accept group ballot slot command) client other = refl
-got_nothing from (Accepted group ballot slot) client other = refl
-got_nothing from (Nack group promised) client other = refl
-got_nothing from (Learn group slot command) client other = refl
-got_nothing from (Ask group from_slot) client other = refl
-got_nothing from (Install group slot base sets) client other = refl
-got_nothing from (TxPrepare tx offer) client other = refl
-got_nothing from (TxVote tx coord part vote) client other = refl
-got_nothing from (TxOutcome tx part outcome) client other = refl
-got_nothing from (TxElsewhere tx coord hint) client other = refl
-got_nothing from (TxWatch tx watch) client other = refl
-got_nothing from (TxWatched tx coord part vote) client other = refl
-got_nothing from (ToldMail order result) client other = refl
+got_nothing from _ client other = refl
 
 -- ---- what a row leaves
 
@@ -177,21 +142,7 @@ module _ (words : ℕ → ℕ → ℕ × ℕ) (births : List (Seat Player)) (row
 pub is_asked : (body : MailBody) → IsQuestion body ⊎ (IsQuestion body → ⊥)
 is_asked (TxPrepare tx offer) = inl tt
 is_asked (TxWatch tx watch) = inl tt
-is_asked (TxVote tx coord part vote) = inr (λ q. q)
-is_asked (TxWatched tx coord part vote) = inr (λ q. q)
-is_asked (TxOutcome tx part outcome) = inr (λ q. q)
-is_asked (TxElsewhere tx coord hint) = inr (λ q. q)
-is_asked (Accept group ballot slot command) = inr (λ q. q)
-is_asked (Accepted group ballot slot) = inr (λ q. q)
-is_asked (Learn group slot command) = inr (λ q. q)
-is_asked (Install group slot base sets) = inr (λ q. q)
-is_asked (Prepare group ballot from_slot) = inr (λ q. q)
-is_asked (Promise group ballot reports) = inr (λ q. q)
-is_asked (Nack group promised) = inr (λ q. q)
-is_asked (Ask group from_slot) = inr (λ q. q)
-is_asked (Request group client seq op) = inr (λ q. q)
-is_asked (Answer group seq answer) = inr (λ q. q)
-is_asked (ToldMail order result) = inr (λ q. q)
+is_asked _ = inr (λ q. q)
 
 abbrev AsksIn : Option (Draw × Errand) → Type 0
 AsksIn None = ⊥
@@ -205,37 +156,13 @@ asks_it from to (TxVote tx coord part vote) entry e q = absurd (subst AsksIn (sy
 asks_it from to (TxWatched tx coord part vote) entry e q = absurd (subst AsksIn (sym e) q)
 asks_it from to (TxOutcome tx part outcome) entry e q = absurd (subst AsksIn (sym e) q)
 asks_it from to (TxElsewhere tx coord hint) entry e q = absurd (subst AsksIn (sym e) q)
-asks_it from to (Accept group ballot slot command) entry e q = absurd cc
-asks_it from to (Accepted group ballot slot) entry e q = absurd cc
-asks_it from to (Learn group slot command) entry e q = absurd cc
-asks_it from to (Install group slot base sets) entry e q = absurd cc
-asks_it from to (Prepare group ballot from_slot) entry e q = absurd cc
-asks_it from to (Promise group ballot reports) entry e q = absurd cc
-asks_it from to (Nack group promised) entry e q = absurd cc
-asks_it from to (Ask group from_slot) entry e q = absurd cc
-asks_it from to (Request group client seq op) entry e q = absurd cc
-asks_it from to (Answer group seq answer) entry e q = absurd cc
-asks_it from to (ToldMail order result) entry e q = absurd cc
+asks_it from to _ entry e q = absurd cc
 
 -- one that a replica beside the leader takes is sent on, and the replica stays
 pub aside_is : (mail : Mail) (r : ReplicaState) (body : MailBody) → IsQuestion body → BesideFinds mail r body → (tx : Draw) × (coord : Draw) × ((mailed mail.from body (r, [])).0 ≡ sent_elsewhere mail.from tx coord (r, []))
 aside_is mail r (TxPrepare tx offer) q f = (tx, offer.coord, offer_is r false mail.from tx offer f.1.0 f.1.1)
 aside_is mail r (TxWatch tx watch) q f = (tx, watch.coord, watch_row_is r false mail.from tx watch f.1.0 f.1.1)
-aside_is mail r (TxVote tx coord part vote) q f = absurd q
-aside_is mail r (TxWatched tx coord part vote) q f = absurd q
-aside_is mail r (TxOutcome tx part outcome) q f = absurd q
-aside_is mail r (TxElsewhere tx coord hint) q f = absurd q
-aside_is mail r (Accept group ballot slot command) q f = absurd q
-aside_is mail r (Accepted group ballot slot) q f = absurd q
-aside_is mail r (Learn group slot command) q f = absurd q
-aside_is mail r (Install group slot base sets) q f = absurd q
-aside_is mail r (Prepare group ballot from_slot) q f = absurd q
-aside_is mail r (Promise group ballot reports) q f = absurd q
-aside_is mail r (Nack group promised) q f = absurd q
-aside_is mail r (Ask group from_slot) q f = absurd q
-aside_is mail r (Request group client seq op) q f = absurd q
-aside_is mail r (Answer group seq answer) q f = absurd q
-aside_is mail r (ToldMail order result) q f = absurd q
+aside_is mail r _ q f = absurd q
 
 -- where there is no replica, another group's stay, and nothing of its agreement is sent
 module _ (name group : Draw) (ne : name ≡ group → ⊥) (node : NodeState) (from : ℕ) where

@@ -76,22 +76,7 @@ answer_none from group seq (Says.Stale last) client = turned_none from group (Sa
 
 got_none : (from : ℕ) (body : MailBody) (client : Client) → None_ (got from body client)
 got_none from (Answer group seq answer) client = either_way None_ (waits_for client.waiting seq) (answer_taken from group seq answer client) (client, []) (answer_none from group seq answer client) tt
-got_none from (Request group to seq op) client = tt
-got_none from (Prepare group ballot from_slot) client = tt
-got_none from (Promise group ballot reports) client = tt
-got_none from (Accept group ballot slot command) client = tt
-got_none from (Accepted group ballot slot) client = tt
-got_none from (Nack group promised) client = tt
-got_none from (Learn group slot command) client = tt
-got_none from (Ask group from_slot) client = tt
-got_none from (Install group slot base sets) client = tt
-got_none from (TxPrepare tx offer) client = tt
-got_none from (TxVote tx coord part vote) client = tt
-got_none from (TxOutcome tx part outcome) client = tt
-got_none from (TxElsewhere tx coord hint) client = tt
-got_none from (TxWatch tx watch) client = tt
-got_none from (TxWatched tx coord part vote) client = tt
-got_none from (ToldMail order result) client = tt
+got_none from _ client = tt
 
 pub client_none : (client : Client) (input : Input Mail OrderLine) → None_ (table client input)
 client_none client (Got mail) = got_none mail.from mail.body client
@@ -128,42 +113,22 @@ client_keeps words births rows seat event client born timely is none (Some input
     keeps_still words births rows seat event born timely (AClient client) is none (Some input) e (λ name. refl) (λ name. no_errands name (table client input).1 (client_none client input))
 
 stray_errand : (from to : ℕ) (body : MailBody) → group_of_mail body ≡ None → errand_by from to body ≡ None
-stray_errand from to (Answer group seq answer) e = refl
-stray_errand from to (ToldMail order result) e = refl
-stray_errand from to (Nack group promised) e = refl
-stray_errand from to (Ask group from_slot) e = refl
-stray_errand from to (Request group client seq op) e = refl
-stray_errand from to (Accept group ballot slot command) e = refl
-stray_errand from to (Accepted group ballot slot) e = refl
-stray_errand from to (Learn group slot command) e = refl
-stray_errand from to (Install group slot base sets) e = refl
-stray_errand from to (Prepare group ballot from_slot) e = refl
-stray_errand from to (Promise group ballot reports) e = refl
 stray_errand from to (TxPrepare tx offer) e = cc
 stray_errand from to (TxVote tx coord part vote) e = cc
 stray_errand from to (TxOutcome tx part outcome) e = cc
 stray_errand from to (TxElsewhere tx coord hint) e = cc
 stray_errand from to (TxWatch tx watch) e = cc
 stray_errand from to (TxWatched tx coord part vote) e = cc
+stray_errand from to _ e = refl
 
 absent_none : (me from to : ℕ) (body : MailBody) → errand_by from to body ≡ None → Each (λ mail. errand_by mail.from mail.to mail.body ≡ None) (absent me from body)
 absent_none me from to (Request group client seq op) e = (refl, tt)
 absent_none me from to (Prepare group ballot from_slot) e = (refl, tt)
 absent_none me from to (Accept group ballot slot command) e = (refl, tt)
 absent_none me from to (Learn group slot command) e = (refl, tt)
-absent_none me from to (Answer group seq answer) e = tt
-absent_none me from to (Promise group ballot reports) e = tt
-absent_none me from to (Accepted group ballot slot) e = tt
-absent_none me from to (Nack group promised) e = tt
-absent_none me from to (Ask group from_slot) e = tt
-absent_none me from to (Install group slot base sets) e = tt
 absent_none me from to (TxPrepare tx offer) e = cc
-absent_none me from to (TxVote tx coord part vote) e = tt
-absent_none me from to (TxOutcome tx part outcome) e = tt
-absent_none me from to (TxElsewhere tx coord hint) e = tt
 absent_none me from to (TxWatch tx watch) e = cc
-absent_none me from to (TxWatched tx coord part vote) e = tt
-absent_none me from to (ToldMail order result) e = tt
+absent_none me from to _ e = tt
 
 -- a node that stays
 module _ (words : ℕ → ℕ → ℕ × ℕ) (births : List (Seat Player)) (rows : Rows) (seat : Seat Player) (number : ℕ) (mail : Mail) (node : NodeState) (born : IsSeat births seat) (timely : AreInTime (players words births) (with_event rows seat (Deliver number)))

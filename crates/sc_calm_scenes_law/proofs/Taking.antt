@@ -33,37 +33,12 @@ errand_group from to (TxElsewhere tx coord hint) entry e = ap (option_map (λ (p
 errand_group from to (TxVote tx coord part vote) entry e = ap (option_map (λ (p : Draw × Errand). p.0)) e
 errand_group from to (TxWatched tx coord part vote) entry e = ap (option_map (λ (p : Draw × Errand). p.0)) e
 errand_group from to (TxOutcome tx part outcome) entry e = ap (option_map (λ (p : Draw × Errand). p.0)) e
-errand_group from to (Request group client seq op) entry e = cc
-errand_group from to (Answer group seq answer) entry e = cc
-errand_group from to (Prepare group ballot from_slot) entry e = cc
-errand_group from to (Promise group ballot reports) entry e = cc
-errand_group from to (Accept group ballot slot command) entry e = cc
-errand_group from to (Accepted group ballot slot) entry e = cc
-errand_group from to (Nack group promised) entry e = cc
-errand_group from to (Learn group slot command) entry e = cc
-errand_group from to (Ask group from_slot) entry e = cc
-errand_group from to (Install group slot base sets) entry e = cc
-errand_group from to (ToldMail order result) entry e = cc
+errand_group from to _ entry e = cc
 
 -- a node without replica that gets an errand stays, and answers so
 pub errand_unknown : (from to : ℕ) (body : MailBody) (node : NodeState) (entry : Draw × Errand) → errand_by from to body ≡ Some entry → unknown from body node ≡ (node, absent node.me from body)
-errand_unknown from to (TxPrepare tx offer) node entry e = refl
-errand_unknown from to (TxWatch tx watch) node entry e = refl
-errand_unknown from to (TxElsewhere tx coord hint) node entry e = refl
-errand_unknown from to (TxVote tx coord part vote) node entry e = refl
-errand_unknown from to (TxWatched tx coord part vote) node entry e = refl
-errand_unknown from to (TxOutcome tx part outcome) node entry e = refl
-errand_unknown from to (Request group client seq op) node entry e = refl
-errand_unknown from to (Answer group seq answer) node entry e = refl
-errand_unknown from to (Prepare group ballot from_slot) node entry e = refl
-errand_unknown from to (Promise group ballot reports) node entry e = refl
-errand_unknown from to (Accept group ballot slot command) node entry e = refl
-errand_unknown from to (Accepted group ballot slot) node entry e = refl
-errand_unknown from to (Nack group promised) node entry e = refl
-errand_unknown from to (Learn group slot command) node entry e = refl
-errand_unknown from to (Ask group from_slot) node entry e = refl
 errand_unknown from to (Install group slot base sets) node entry e = cc
-errand_unknown from to (ToldMail order result) node entry e = refl
+errand_unknown from to _ node entry e = refl
 
 own_group : (rows : Rows) (number : ℕ) (mail : Mail) (group : Draw) → numbered (mails rows) number ≡ Some mail → group_of_mail mail.body ≡ Some group → (entry : Draw × Errand)
     → errand_taken (mails rows) (Deliver number) ≡ Some entry → entry.0 ≡ group

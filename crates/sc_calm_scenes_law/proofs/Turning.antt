@@ -90,10 +90,7 @@ module _ (words : ℕ → ℕ → ℕ × ℕ) (births : List (Seat Player)) (row
   errand_row (Deliver number) name fine own = mail_row number name own (takes_one words births rows seat.who number fine)
   errand_row Go name fine own = still_row Go name refl
   errand_row (Told line) name fine own = still_row (Told line) name refl
-  errand_row Tick name fine own = absurd fine
-  errand_row Crash name fine own = absurd fine
-  errand_row (Drop mail) name fine own = absurd fine
-  errand_row (Again mail) name fine own = absurd fine
+  errand_row _ name fine own = absurd fine
 
   -- ---- the parts of other groups
 

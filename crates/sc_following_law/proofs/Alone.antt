@@ -51,16 +51,7 @@ module _ (at : Sets) (course : Course) (r after : ReplicaState) (led : IsLed at 
   off_acts : (command : Command) → IsOff command r after → is_act command ≡ true
   off_acts Noop off = absurd (same_goes_on Noop refl off)
   off_acts (Call client seq op) off = absurd (same_goes_on (Call client seq op) (called_core r.group.core.gone r.group.core.lock r.group client seq op) off)
-  off_acts (Join node order) off = refl
-  off_acts (Leave node order) off = refl
-  off_acts (Split at child order) off = refl
-  off_acts (Begin tx body order) off = refl
-  off_acts (Prepared tx offer) off = refl
-  off_acts (RecordVote tx vote by) off = refl
-  off_acts (GiveUp tx) off = refl
-  off_acts (Finish tx outcome) off = refl
-  off_acts (Watched tx watch) off = refl
-  off_acts (RecordWatch tx vote by) off = refl
+  off_acts _ off = refl
 
 -- ---- what is executed at once
 

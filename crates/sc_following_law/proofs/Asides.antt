@@ -240,13 +240,7 @@ module _ (P : Place → Type 0) (r : ReplicaState) (running : r.running ≡ true
   aside_is from (TxWatched tx coord part vote) i = watched_is from tx part vote
   aside_is from (Told order result) i = silent
   aside_is from (Nack group promised) i = nack_is promised i
-  aside_is from (Prepare group ballot from_slot) i = absurd i
-  aside_is from (Promise group ballot reports) i = absurd i
-  aside_is from (Accept group ballot slot command) i = absurd i
-  aside_is from (Accepted group ballot slot) i = absurd i
-  aside_is from (Learn group slot command) i = absurd i
-  aside_is from (Ask group from_slot) i = absurd i
-  aside_is from (Install group slot base sets) i = absurd i
+  aside_is from _ i = absurd i
 
   -- an order
   pub order_is : (on : Bool) (drawer : Drawer) (line : OrderLine) → P (stepped on drawer (Given.Told line) (r, [])).0

@@ -20,11 +20,7 @@ low-append next (d ∷ xs) ys f g = (f.0, low-append (next_by next d.0) xs ys f.
 -- what asks for no promise is in no slot's way
 no_prepare : (next from : ℕ) (mark : Mark) → IsNoPrepare mark → IsLow next mark from
 no_prepare next from (Prepares ballot) n = absurd n
-no_prepare next from (Asks ballot slot) n = tt
-no_prepare next from (Votes node ballot slot) n = tt
-no_prepare next from (Tells slot) n = tt
-no_prepare next from (Installs slot) n = tt
-no_prepare next from (Promises node ballot) n = tt
+no_prepare next from _ n = tt
 
 pub none_low : (next : ℕ) (dated : List Dated) → Each (λ d. IsNoPrepare d.0) dated → AreLow next dated
 none_low next [] e = tt
@@ -32,20 +28,13 @@ none_low next (d ∷ dated) e = (no_prepare next d.1 d.0 e.0, none_low (next_by 
 
 -- votes and promises are such, and take nobody anywhere
 pub count_none : (mark : Mark) → IsCount mark → IsNoPrepare mark
-count_none (Votes node ballot slot) c = tt
-count_none (Promises node ballot) c = tt
-count_none (Asks ballot slot) c = tt
-count_none (Tells slot) c = tt
-count_none (Installs slot) c = tt
 count_none (Prepares ballot) c = absurd c
+count_none _ c = tt
 
 count_next : (next : ℕ) (mark : Mark) → IsCount mark → next_by next mark ≡ next
 count_next next (Votes node ballot slot) c = refl
 count_next next (Promises node ballot) c = refl
-count_next next (Asks ballot slot) c = absurd c
-count_next next (Tells slot) c = absurd c
-count_next next (Installs slot) c = absurd c
-count_next next (Prepares ballot) c = absurd c
+count_next next _ c = absurd c
 
 counts_low : (next : ℕ) (dated : List Dated) → Each IsCount (marks_in dated) → AreLow next dated
 counts_low next [] e = tt
@@ -132,11 +121,7 @@ slots_are_kept = record {
       where
         low_at : (mark : Mark) (from : ℕ) → newest ≤ from → IsLow next mark from
         low_at (Prepares ballot) from least = omega (arith, le, least)
-        low_at (Asks ballot slot) from least = tt
-        low_at (Votes node ballot slot) from least = tt
-        low_at (Tells slot) from least = tt
-        low_at (Installs slot) from least = tt
-        low_at (Promises node ballot) from least = tt
+        low_at _ from least = tt
     one_low newest next (d ∷ other ∷ dated) le e (inl k) = cc
     one_low newest next (d ∷ other ∷ dated) le e (inr k) = (let bad = k.1 in cc)
 

@@ -23,10 +23,7 @@ module _ (at : Sets) (by : Tellers) where
     one_change : (hint : Option ℕ) (mark : Mark) → IsHeeded at by one node hint mark → IsHeeded at by other node hint mark
     one_change hint (Tells slot) f = (f.0, may slot f.1)
     one_change hint (Installs slot) f = f
-    one_change hint (Asks ballot slot) f = tt
-    one_change hint (Prepares ballot) f = tt
-    one_change hint (Votes n ballot slot) f = tt
-    one_change hint (Promises n ballot) f = tt
+    one_change hint _ f = tt
 
     pub heeded-change : (promise : Ballot) (hint : Option ℕ) (marks : List Mark) → AreHeeded at by one node promise hint marks → AreHeeded at by other node promise hint marks
     heeded-change promise hint [] f = tt

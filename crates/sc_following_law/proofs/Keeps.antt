@@ -110,36 +110,22 @@ idle-keeps at now after node taken sent marks marks_after row i was =
 pub counts_of : (node : ℕ) (promise : Ballot) (mark : Mark) (who : ℕ) → Each IsCount (answered node promise mark who)
 counts_of node promise (Asks ballot slot) who = cond_both (eqb who ballot.node) (Votes node ballot slot ∷ []) [] (Each IsCount) (λ _. (tt, tt)) (λ _. tt)
 counts_of node promise (Prepares ballot) who = cond_both (eqb who ballot.node && below promise ballot) (Promises node ballot ∷ []) [] (Each IsCount) (λ _. (tt, tt)) (λ _. tt)
-counts_of node promise (Votes other ballot slot) who = tt
-counts_of node promise (Tells slot) who = tt
-counts_of node promise (Installs slot) who = tt
-counts_of node promise (Promises other ballot) who = tt
+counts_of node promise _ who = tt
 
 -- .. at a slot that is known
 known_of : (course : Course) (node : ℕ) (promise : Ballot) (mark : Mark) (who : ℕ) → IsKnown course mark → Each (IsKnown course) (answered node promise mark who)
 known_of course node promise (Asks ballot slot) who k = cond_both (eqb who ballot.node) (Votes node ballot slot ∷ []) [] (Each (IsKnown course)) (λ _. (k, tt)) (λ _. tt)
 known_of course node promise (Prepares ballot) who k = cond_both (eqb who ballot.node && below promise ballot) (Promises node ballot ∷ []) [] (Each (IsKnown course)) (λ _. (tt, tt)) (λ _. tt)
-known_of course node promise (Votes other ballot slot) who k = tt
-known_of course node promise (Tells slot) who k = tt
-known_of course node promise (Installs slot) who k = tt
-known_of course node promise (Promises other ballot) who k = tt
+known_of course node promise _ who k = tt
 
 later_counts : (bound : ℕ) (mark : Mark) → IsCount mark → IsLater bound mark
-later_counts bound (Votes node ballot slot) c = tt
-later_counts bound (Promises node ballot) c = tt
 later_counts bound (Asks ballot slot) c = absurd c
-later_counts bound (Tells slot) c = tt
-later_counts bound (Installs slot) c = tt
-later_counts bound (Prepares ballot) c = tt
+later_counts bound _ c = tt
 
 -- a node promises a ballot by being asked to, or has promised it before
 promise_from : (promise ballot : Ballot) (mark : Mark) → promise_by promise mark ≡ ballot → (promise ≡ ballot) ⊎ (mark ≡ Prepares ballot)
-promise_from promise ballot (Asks other slot) e = inl e
-promise_from promise ballot (Votes node other slot) e = inl e
-promise_from promise ballot (Tells slot) e = inl e
-promise_from promise ballot (Installs slot) e = inl e
 promise_from promise ballot (Prepares other) e = inr (ap (λ b. Prepares b) e)
-promise_from promise ballot (Promises node other) e = inl e
+promise_from promise ballot _ e = inl e
 
 some_same : {a b : Mark} → Some a ≡ Some b → a ≡ b
 some_same e = cc

@@ -45,12 +45,9 @@ fit-append next promise (mark ∷ xs) ys f g = (f.0, fit-append (next_by next ma
 
 -- a mail that comes in time takes a node no way back
 pub rises : (next : ℕ) (promise : Ballot) (mark : Mark) → IsFit next promise mark → next ≤ next_by next mark
-rises next promise (Asks ballot slot) f = omega arith
-rises next promise (Votes node ballot slot) f = omega arith
 rises next promise (Tells slot) f = (let at = f.1 in omega (arith, at))
 rises next promise (Installs slot) f = omega (arith, f)
-rises next promise (Prepares ballot) f = omega arith
-rises next promise (Promises node ballot) f = omega arith
+rises next promise _ f = omega arith
 
 pub reached-least : (next : ℕ) (promise : Ballot) (marks : List Mark) → AreFit next promise marks → next ≤ reached next marks
 reached-least next promise [] f = omega arith
@@ -70,12 +67,8 @@ fit-asks next promise (mark ∷ marks) ballot slot f (inr a) =
 
 -- no later ballot is promised than was asked for
 pub promise-most : (course : Course) (promise : Ballot) (mark : Mark) → IsAtLeast course.ballot promise → IsKnown course mark → IsAtLeast course.ballot (promise_by promise mark)
-promise-most course promise (Asks ballot slot) most known = most
-promise-most course promise (Votes node ballot slot) most known = most
-promise-most course promise (Tells slot) most known = most
-promise-most course promise (Installs slot) most known = most
 promise-most course promise (Prepares ballot) most known = known
-promise-most course promise (Promises node ballot) most known = most
+promise-most course promise _ most known = most
 
 pub pledged-most : (course : Course) (promise : Ballot) (marks : List Mark) → IsAtLeast course.ballot promise → Each (IsKnown course) marks → IsAtLeast course.ballot (pledged promise marks)
 pledged-most course promise [] most known = most
@@ -155,11 +148,7 @@ IsNoVote (Promises node ballot) = Unit {0}
 
 later_apart : (slot bound : ℕ) → slot < bound → (mark : Mark) → IsLater bound mark → IsNoAsk slot mark
 later_apart slot bound lt (Asks ballot other) later = λ same. omega (arith, lt, later, same)
-later_apart slot bound lt (Votes node ballot other) later = tt
-later_apart slot bound lt (Tells other) later = tt
-later_apart slot bound lt (Installs other) later = tt
-later_apart slot bound lt (Prepares ballot) later = tt
-later_apart slot bound lt (Promises node ballot) later = tt
+later_apart slot bound lt _ later = tt
 
 pub asked-append : (course : Course) (xs ys : List Mark) → AreAskedFirst xs → Each (IsKnown course) xs → Each (IsLater course.bound) ys → AreAskedFirst ys → AreAskedFirst (xs ++ ys)
 asked-append course [] ys o known later more = more
@@ -187,12 +176,8 @@ asked-counts [] e = tt
 asked-counts (Votes node ballot slot ∷ marks) e = (Each-weaker IsCount (IsNoAsk slot) (no_ask slot) marks e.1, asked-counts marks e.1)
   where
     no_ask : (slot : ℕ) (mark : Mark) → IsCount mark → IsNoAsk slot mark
-    no_ask slot (Votes node ballot other) c = tt
-    no_ask slot (Promises node ballot) c = tt
     no_ask slot (Asks ballot other) c = absurd c
-    no_ask slot (Tells other) c = tt
-    no_ask slot (Installs other) c = tt
-    no_ask slot (Prepares ballot) c = tt
+    no_ask slot _ c = tt
 asked-counts (Promises node ballot ∷ marks) e = asked-counts marks e.1
 asked-counts (Asks ballot slot ∷ marks) e = absurd e.0
 asked-counts (Tells slot ∷ marks) e = absurd e.0
@@ -202,11 +187,7 @@ asked-counts (Prepares ballot ∷ marks) e = absurd e.0
 -- what comes behind the first
 asked-tail : (mark : Mark) (marks : List Mark) → AreAskedFirst (mark ∷ marks) → AreAskedFirst marks
 asked-tail (Votes node ballot slot) marks o = o.1
-asked-tail (Asks ballot slot) marks o = o
-asked-tail (Tells slot) marks o = o
-asked-tail (Installs slot) marks o = o
-asked-tail (Prepares ballot) marks o = o
-asked-tail (Promises node ballot) marks o = o
+asked-tail _ marks o = o
 
 pub asked-left : (taken : Option Mark) (left : List Mark) → AreAskedFirst (listed taken ++ left) → AreAskedFirst left
 asked-left None left o = o

@@ -54,17 +54,7 @@ module _ (name : Draw) (who : ℕ) where
   pub turned_marks : (me : ℕ) (group : Draw) (command : Command) (answer : AnswerBody) (mails : List Mail) → marks_for name who (answered me group answer command mails) ≡ marks_for name who mails
   unfolding answered
   turned_marks me group (Call client seq op) answer mails = marks-push name who mails (record { from = me; to = client_actor client; body = Answer group seq answer }) refl
-  turned_marks me group Noop answer mails = refl
-  turned_marks me group (Join node order) answer mails = refl
-  turned_marks me group (Leave node order) answer mails = refl
-  turned_marks me group (Split at child order) answer mails = refl
-  turned_marks me group (Begin tx body order) answer mails = refl
-  turned_marks me group (Prepared tx offer) answer mails = refl
-  turned_marks me group (RecordVote tx vote by) answer mails = refl
-  turned_marks me group (GiveUp tx) answer mails = refl
-  turned_marks me group (Finish tx outcome) answer mails = refl
-  turned_marks me group (Watched tx watch) answer mails = refl
-  turned_marks me group (RecordWatch tx vote by) answer mails = refl
+  turned_marks me group _ answer mails = refl
 
   next_marks : (me : ℕ) (idle : Bool) (core : Core) (calls : List Command) (mails : List Mail) → marks_for name who (next_call me idle core calls mails).2 ≡ marks_for name who mails
   unfolding next_call

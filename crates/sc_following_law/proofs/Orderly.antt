@@ -121,16 +121,7 @@ not_waiting idle core command w act = by command w act
     by : (command : Command) → waits idle core.lock command ≡ false → is_act command ≡ true → idle ≡ true
     by Noop w act = absurd (true≢false (sym act))
     by (Call client seq op) w act = absurd (true≢false (sym act))
-    by (Join node order) w act = idle_by _ idle w
-    by (Leave node order) w act = idle_by _ idle w
-    by (Split at child order) w act = idle_by _ idle w
-    by (Begin tx body order) w act = idle_by _ idle w
-    by (Prepared tx offer) w act = idle_by _ idle w
-    by (RecordVote tx vote by_) w act = idle_by _ idle w
-    by (GiveUp tx) w act = idle_by _ idle w
-    by (Finish tx outcome) w act = idle_by _ idle w
-    by (Watched tx watch) w act = idle_by _ idle w
-    by (RecordWatch tx vote by_) w act = idle_by _ idle w
+    by _ w act = idle_by _ idle w
 
 call_idle : (me : ℕ) (idle : Bool) (core : Core) (calls : List Command) (mails : List Mail) (command : Command) → (next_call me idle core calls mails).0 ≡ Some command → is_act command ≡ true → idle ≡ true
 unfolding next_call

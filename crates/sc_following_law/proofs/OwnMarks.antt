@@ -13,27 +13,15 @@ pub use Rattle.sc_following_law.proofs.Dated.{count_none}
 
 pub none_other : (ballot : Ballot) (mark : Mark) → IsNoPrepare mark → IsOtherPrepare ballot mark
 none_other ballot (Prepares other) n = absurd n
-none_other ballot (Asks other slot) n = tt
-none_other ballot (Votes node other slot) n = tt
-none_other ballot (Tells slot) n = tt
-none_other ballot (Installs slot) n = tt
-none_other ballot (Promises node other) n = tt
+none_other ballot _ n = tt
 
 pub none_own : (ballot : Ballot) (mark : Mark) → IsNoPrepare mark → IsOwnPrepare ballot mark
 none_own ballot (Prepares other) n = absurd n
-none_own ballot (Asks other slot) n = tt
-none_own ballot (Votes node other slot) n = tt
-none_own ballot (Tells slot) n = tt
-none_own ballot (Installs slot) n = tt
-none_own ballot (Promises node other) n = tt
+none_own ballot _ n = tt
 
 pub neither : (ballot : Ballot) (mark : Mark) → IsOwnPrepare ballot mark → IsOtherPrepare ballot mark → IsNoPrepare mark
 neither ballot (Prepares other) o n = n o
-neither ballot (Asks other slot) o n = tt
-neither ballot (Votes node other slot) o n = tt
-neither ballot (Tells slot) o n = tt
-neither ballot (Installs slot) o n = tt
-neither ballot (Promises node other) o n = tt
+neither ballot _ o n = tt
 
 pub all_neither : (ballot : Ballot) (marks : List Mark) → Each (IsOwnPrepare ballot) marks → Each (IsOtherPrepare ballot) marks → Each IsNoPrepare marks
 all_neither ballot [] o n = tt
@@ -54,11 +42,7 @@ Behind ys (Prepares ballot) = Unit {0}
 
 pub behind_none : (ys : List Mark) → Each IsNoPrepare ys → (mark : Mark) → Behind ys mark
 behind_none ys e (Promises node ballot) = Each-weaker IsNoPrepare (IsOtherPrepare ballot) (none_other ballot) ys e
-behind_none ys e (Asks ballot slot) = tt
-behind_none ys e (Votes node ballot slot) = tt
-behind_none ys e (Tells slot) = tt
-behind_none ys e (Installs slot) = tt
-behind_none ys e (Prepares ballot) = tt
+behind_none ys e _ = tt
 
 pub promised_append : (xs ys : List Mark) → ArePromisedLast xs → Each (Behind ys) xs → ArePromisedLast ys → ArePromisedLast (xs ++ ys)
 promised_append [] ys f a g = g
@@ -98,11 +82,7 @@ no_promised (Prepares ballot ∷ marks) e = no_promised marks e.1
 
 pub promised_tail : (mark : Mark) (marks : List Mark) → ArePromisedLast (mark ∷ marks) → ArePromisedLast marks
 promised_tail (Promises node ballot) marks f = f.1
-promised_tail (Asks ballot slot) marks f = f
-promised_tail (Votes node ballot slot) marks f = f
-promised_tail (Tells slot) marks f = f
-promised_tail (Installs slot) marks f = f
-promised_tail (Prepares ballot) marks f = f
+promised_tail _ marks f = f
 
 pub promised_left : (taken : Option Mark) (left : List Mark) → ArePromisedLast (listed taken ++ left) → ArePromisedLast left
 promised_left None left f = f
@@ -144,11 +124,7 @@ last_counts newest (Prepares ballot ∷ xs) ys f c = last_counts newest xs ys f 
 
 pub last_tail : (newest : ℕ) (mark : Mark) (marks : List Mark) → AreToldLast newest (mark ∷ marks) → AreToldLast newest marks
 last_tail newest (Tells slot) marks f = f.1
-last_tail newest (Promises node ballot) marks f = f
-last_tail newest (Asks ballot slot) marks f = f
-last_tail newest (Votes node ballot slot) marks f = f
-last_tail newest (Installs slot) marks f = f
-last_tail newest (Prepares ballot) marks f = f
+last_tail newest _ marks f = f
 
 -- what comes in time and takes a node no further than so far is not the last entry of a later state
 pub not_last : (newest later next : ℕ) (promise : Ballot) (marks : List Mark) → AreFit next promise marks → reached next marks ≤ newest → newest < later → Each (IsNotLast later) marks

@@ -64,10 +64,7 @@ module _ (at : Sets) (now after : Progress) (node : ℕ) (taken : Option Mark) (
     home_of : (mark : Mark) (promise : Ballot) (who : ℕ) → IsKnown now.course mark → Each (IsHome now.course who) (answered node promise mark who)
     home_of (Prepares ballot) promise who k = cond_both (eqb who ballot.node && below promise ballot) (Promises node ballot ∷ []) [] (Each (IsHome now.course who)) (λ e. ((sym (eqb-true who ballot.node (and_parts (eqb who ballot.node) (below promise ballot) e).0), k), tt)) (λ _. tt)
     home_of (Asks ballot slot) promise who k = cond_both (eqb who ballot.node) (Votes node ballot slot ∷ []) [] (Each (IsHome now.course who)) (λ _. (tt, tt)) (λ _. tt)
-    home_of (Votes other ballot slot) promise who k = tt
-    home_of (Tells slot) promise who k = tt
-    home_of (Installs slot) promise who k = tt
-    home_of (Promises other ballot) promise who k = tt
+    home_of _ promise who k = tt
 
     stop_row : now.course.runs ≡ false → (who : ℕ) → AreToldLast now.course.newest (marks_after who)
     stop_row off who = elim (cases_eq who node) [
@@ -101,11 +98,7 @@ module _ (at : Sets) (now after : Progress) (node : ℕ) (taken : Option Mark) (
 
     behind_sent : (who : ℕ) → (who ≡ lead → ⊥) → (mark : Mark) → IsHome now.course who mark → Behind (sent who) mark
     behind_sent who apart (Promises n ballot) h = sent_each (IsOtherPrepare ballot) (λ _. tt) (λ _. tt) (λ e. apart (sym h.0 ∙ ap (λ (b : Ballot). b.node) (sym e))) (λ _ _. tt) who
-    behind_sent who apart (Asks ballot slot) h = tt
-    behind_sent who apart (Votes n ballot slot) h = tt
-    behind_sent who apart (Tells slot) h = tt
-    behind_sent who apart (Installs slot) h = tt
-    behind_sent who apart (Prepares ballot) h = tt
+    behind_sent who apart _ h = tt
 
     order_then : (who : ℕ) → ArePromisedLast (marks_after who)
     order_then who = order_row who (elim (cases_eq who lead) [
@@ -142,11 +135,7 @@ module _ (at : Sets) (now after : Progress) (node : ℕ) (taken : Option Mark) (
 
     same_course : (who : ℕ) (mark : Mark) → IsHome now.course who mark → IsHome after.course who mark
     same_course who (Promises n ballot) h = (h.0, subst (λ b. IsAtLeast b ballot) (sym l.ballot) h.1)
-    same_course who (Asks ballot slot) h = tt
-    same_course who (Votes n ballot slot) h = tt
-    same_course who (Tells slot) h = tt
-    same_course who (Installs slot) h = tt
-    same_course who (Prepares ballot) h = tt
+    same_course who _ h = tt
 
     at_lead : (P : List Mark → Type 0) → P (marks_after lead) → P (marks_after after.course.ballot.node)
     at_lead P = subst (λ (b : Ballot). P (marks_after b.node)) (sym l.ballot)
@@ -181,19 +170,11 @@ module _ (at : Sets) (now after : Progress) (node : ℕ) (taken : Option Mark) (
 
     later_home : (who : ℕ) (mark : Mark) → IsHome now.course who mark → IsHome after.course who mark
     later_home who (Promises n b) h = (h.0, later b h.1)
-    later_home who (Asks b slot) h = tt
-    later_home who (Votes n b slot) h = tt
-    later_home who (Tells slot) h = tt
-    later_home who (Installs slot) h = tt
-    later_home who (Prepares b) h = tt
+    later_home who _ h = tt
 
     behind_asked : (who : ℕ) (mark : Mark) → IsHome now.course who mark → Behind (sent who) mark
     behind_asked who (Promises n b) h = asks_each (IsOtherPrepare b) (never b h.1) who
-    behind_asked who (Asks b slot) h = tt
-    behind_asked who (Votes n b slot) h = tt
-    behind_asked who (Tells slot) h = tt
-    behind_asked who (Installs slot) h = tt
-    behind_asked who (Prepares b) h = tt
+    behind_asked who _ h = tt
 
     pub elects_own : IsOwnFirst after marks_after
     elects_own = record {

@@ -130,11 +130,7 @@ module _ (name : Draw) (R : List Mail → List Mail → Type 0) (same : (mails :
   went_kept me group before effect (GiveUp tx) mails = given_kept (decided_in effect) me before tx mails
   went_kept me group before effect (Watched tx watch) mails = watch_kept (cast_in effect) me tx watch mails
   went_kept me group before effect (RecordWatch tx vote by) mails = watched_kept (decided_in effect) vote me before tx by mails
-  went_kept me group before effect (Finish tx outcome) mails = same mails
-  went_kept me group before effect Noop mails = same mails
-  went_kept me group before effect (Call client seq op) mails = same mails
-  went_kept me group before effect (Join node order) mails = same mails
-  went_kept me group before effect (Leave node order) mails = same mails
+  went_kept me group before effect _ mails = same mails
 
   pub spoken_kept : (before : Before) (effect : Effect) (command : Command) (r : ReplicaState) (mails : List Mail) → ((spoken true before effect command (r, mails)).0 ≡ r) × R mails (spoken true before effect command (r, mails)).1
   unfolding spoken spoken_mails

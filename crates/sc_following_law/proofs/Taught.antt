@@ -34,10 +34,7 @@ told_reached next promise (mark ∷ marks) slot f (inr a) = told_reached (next_b
 count_member : (at : Sets) (node : ℕ) (mark : Mark) → IsCount mark → IsForMember at node mark
 count_member at node (Votes other ballot slot) c = tt
 count_member at node (Promises other ballot) c = tt
-count_member at node (Asks ballot slot) c = absurd c
-count_member at node (Tells slot) c = absurd c
-count_member at node (Installs slot) c = absurd c
-count_member at node (Prepares ballot) c = absurd c
+count_member at node _ c = absurd c
 
 module _ (at : Sets) (course : Course) (who : ℕ) (apart : who ≡ course.ballot.node → ⊥) where
   -- each member of a state is told the entry after it
@@ -131,10 +128,7 @@ module _ (at : Sets) (by : Tellers) (now after : Progress) (node : ℕ) (taken :
     by_mark : (mark : Mark) (next slot : ℕ) → IsForMember at node mark → (next ≡ suc slot → IsMemberBy at node slot) → next_by next mark ≡ suc slot → IsMemberBy at node slot
     by_mark (Tells told) next slot m old e = (let is : told ≡ slot = omega (arith, e) in inl (subst (λ s. is_member (members_at at s) node ≡ true) is m))
     by_mark (Installs told) next slot m old e = (let is : suc told ≡ suc slot = e in inr (subst (λ s. is_member (members_at at s) node ≡ true) is m))
-    by_mark (Asks ballot other) next slot m old e = old e
-    by_mark (Votes who ballot other) next slot m old e = old e
-    by_mark (Prepares ballot) next slot m old e = old e
-    by_mark (Promises who ballot) next slot m old e = old e
+    by_mark _ next slot m old e = old e
 
     takes_taught : AreTaught at after marks_after
     takes_taught = record {

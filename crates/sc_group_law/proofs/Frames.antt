@@ -46,15 +46,6 @@ module _ (ahead : Ahead) (base : Base) where
   -- what is of the group's own name is of no other
   pub own_far : (heard : MailBody → Type 0) (name : Draw) → same_draw base.core.id name ≡ false → (body : MailBody) → IsOwn ahead base heard body → IsFar heard name body
   own_far heard name f (Request group client seq op) own = own
-  own_far heard name f (Answer group seq answer) own = ap (λ d. same_draw d name) own ∙ f
-  own_far heard name f (Prepare group ballot from_slot) own = ap (λ d. same_draw d name) own ∙ f
-  own_far heard name f (Promise group ballot reports) own = ap (λ d. same_draw d name) own ∙ f
-  own_far heard name f (Accept group ballot slot command) own = ap (λ d. same_draw d name) own ∙ f
-  own_far heard name f (AcceptedMail group ballot slot) own = ap (λ d. same_draw d name) own ∙ f
-  own_far heard name f (Nack group promised) own = ap (λ d. same_draw d name) own ∙ f
-  own_far heard name f (Learn group slot command) own = ap (λ d. same_draw d name) own ∙ f
-  own_far heard name f (Ask group from_slot) own = ap (λ d. same_draw d name) own ∙ f
-  own_far heard name f (Install group slot record_of sets) own = ap (λ d. same_draw d name) own ∙ f
   own_far heard name f (TxPrepare tx offer) own = own
   own_far heard name f (TxVote tx coord part vote) own = own
   own_far heard name f (TxOutcome tx part outcome) own = own
@@ -62,19 +53,13 @@ module _ (ahead : Ahead) (base : Base) where
   own_far heard name f (TxWatch tx watch) own = own
   own_far heard name f (TxWatched tx coord part vote) own = own
   own_far heard name f (Told number result) own = tt
+  own_far heard name f _ own = ap (λ d. same_draw d name) own ∙ f
 
   -- what is said of another group is true of this one
   pub far_true : (made : Command → Type 0) (heard : MailBody → Type 0) (h : Steps) (mail : Mail) (body : MailBody) → IsFar heard base.core.id body → IsTrue ahead base made heard h mail body
   far_true made heard h mail (Request group client seq op) far = absurd far
-  far_true made heard h mail (Answer group seq answer) far = λ t. (let no_way : true ≡ false = sym t ∙ far in absurd (cc))
-  far_true made heard h mail (Prepare group ballot from_slot) far = λ t. (let no_way : true ≡ false = sym t ∙ far in absurd (cc))
-  far_true made heard h mail (Promise group ballot reports) far = λ t. (let no_way : true ≡ false = sym t ∙ far in absurd (cc))
-  far_true made heard h mail (Accept group ballot slot command) far = λ t. (let no_way : true ≡ false = sym t ∙ far in absurd (cc))
-  far_true made heard h mail (AcceptedMail group ballot slot) far = λ t. (let no_way : true ≡ false = sym t ∙ far in absurd (cc))
   far_true made heard h mail (Nack group promised) far = tt
-  far_true made heard h mail (Learn group slot command) far = λ t. (let no_way : true ≡ false = sym t ∙ far in absurd (cc))
   far_true made heard h mail (Ask group from_slot) far = tt
-  far_true made heard h mail (Install group slot record_of sets) far = λ t. (let no_way : true ≡ false = sym t ∙ far in absurd (cc))
   far_true made heard h mail (TxPrepare tx offer) far = far
   far_true made heard h mail (TxVote tx coord part vote) far = far
   far_true made heard h mail (TxOutcome tx part outcome) far = far
@@ -82,6 +67,7 @@ module _ (ahead : Ahead) (base : Base) where
   far_true made heard h mail (TxWatch tx watch) far = far
   far_true made heard h mail (TxWatched tx coord part vote) far = far
   far_true made heard h mail (Told number result) far = tt
+  far_true made heard h mail _ far = λ t. (let no_way : true ≡ false = sym t ∙ far in absurd (cc))
 
 -- ---- steps
 

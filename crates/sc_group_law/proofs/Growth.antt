@@ -86,10 +86,7 @@ IsFresh me h = Each (λ s. By me s → ⊥) h
 
 by_one : {V : Type 0} (one other : ℕ) (s : Step V) → By one s → By other s → one ≡ other
 by_one one other (Prepared b from) p q = sym p ∙ q
-by_one one other (Promised n b from rs) p q = sym p ∙ q
-by_one one other (Offered b s v) p q = sym p ∙ q
-by_one one other (Accepted n b s v) p q = sym p ∙ q
-by_one one other (Cut n upto) p q = sym p ∙ q
+by_one one other _ p q = sym p ∙ q
 
 -- steps of others keep it so
 pub fresh_on : {V : Type 0} (me other : ℕ) (newer h : List (Step V)) → Each (By other) newer → (other ≡ me → ⊥) → IsFresh me h → IsFresh me (newer ++ h)

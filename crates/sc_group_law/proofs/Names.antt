@@ -100,14 +100,6 @@ answer_named bases group _ one = tt
 pub own_named : (ahead : Ahead) (heard : MailBody → Type 0) (bases : List Base) (base : Base) → Among base bases → (body : MailBody) → IsOwn ahead base heard body → IsNamedIn heard bases body
 own_named ahead heard bases base a (Request group client seq op) own = absurd own
 own_named ahead heard bases base a (Answer group seq answer) own = answer_named bases group answer (base, a, own)
-own_named ahead heard bases base a (Prepare group ballot from_slot) own = (base, a, own)
-own_named ahead heard bases base a (Promise group ballot reports) own = (base, a, own)
-own_named ahead heard bases base a (Accept group ballot slot command) own = (base, a, own)
-own_named ahead heard bases base a (AcceptedMail group ballot slot) own = (base, a, own)
-own_named ahead heard bases base a (Nack group promised) own = (base, a, own)
-own_named ahead heard bases base a (Learn group slot command) own = (base, a, own)
-own_named ahead heard bases base a (Ask group from_slot) own = (base, a, own)
-own_named ahead heard bases base a (Install group slot record_of sets) own = (base, a, own)
 own_named ahead heard bases base a (TxPrepare tx offer) own = own
 own_named ahead heard bases base a (TxVote tx coord part vote) own = own
 own_named ahead heard bases base a (TxOutcome tx part outcome) own = own
@@ -115,6 +107,7 @@ own_named ahead heard bases base a (TxElsewhere tx coord hint) own = own
 own_named ahead heard bases base a (TxWatch tx watch) own = own
 own_named ahead heard bases base a (TxWatched tx coord part vote) own = own
 own_named ahead heard bases base a (Told number result) own = tt
+own_named ahead heard bases base a _ own = (base, a, own)
 
 -- what is sent where there is no replica is of the group of the mail that came
 pub absent_named : (heard : MailBody → Type 0) → ((body : MailBody) → heard body → (tx coord : Draw) (hint : Option ℕ) → heard (TxElsewhere tx coord hint)) → (bases : List Base) (me from : ℕ) (body : MailBody) → IsNamedIn heard bases body

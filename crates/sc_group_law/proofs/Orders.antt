@@ -56,15 +56,8 @@ module _ {O : Type 0} (Q : ℕ → O → Type 0) where
 
   line_so : (words : ℕ → ℕ → ℕ × ℕ) (line : Line O) → TellsSo line → Each IsTaskSo (tasks_of words line)
   line_so words (ToldLine who order) q = (q, tt)
-  line_so words (GoLine who) q = (tt, tt)
-  line_so words (DeliverLine who k) q = (tt, tt)
-  line_so words (DropLine who k) q = (tt, tt)
-  line_so words (AgainLine mail) q = (tt, tt)
-  line_so words (TickLine who) q = (tt, tt)
-  line_so words (CrashLine who) q = (tt, tt)
-  line_so words (Settle most) q = (tt, tt)
-  line_so words (Free most workers) q = (tt, tt)
   line_so words (Storm number most) q = storm_so (words number) 0 most
+  line_so words _ q = (tt, tt)
 
   lines_so : (words : ℕ → ℕ → ℕ × ℕ) (lines : List (Line O)) → Each TellsSo lines → Each IsTaskSo (flat_map (tasks_of words) lines)
   lines_so words [] q = tt

@@ -59,11 +59,4 @@ applied_roster group (Leave node order) whole roster =
     ordered_if (λ g. IsRoster g.core.members) group.core.gone (refusal_of group.core (Leave node order)) (without_node group node) group
     (λ e. roster_without group.core.members node roster (may_leave group.core node (free_refusal (locked_in group.core.lock) group.core (Leave node order) e) roster)) roster
 applied_roster group Noop whole roster = roster
-applied_roster group (Split at child order) whole roster = absurd whole
-applied_roster group (Begin tx body order) whole roster = absurd whole
-applied_roster group (Prepared tx offer) whole roster = absurd whole
-applied_roster group (RecordVote tx vote by) whole roster = absurd whole
-applied_roster group (GiveUp tx) whole roster = absurd whole
-applied_roster group (Finish tx outcome) whole roster = absurd whole
-applied_roster group (Watched tx watch) whole roster = absurd whole
-applied_roster group (RecordWatch tx vote by) whole roster = absurd whole
+applied_roster group _ whole roster = absurd whole

@@ -16,14 +16,7 @@ no_birth group Noop effect keeps = refl
 no_birth group (Call client seq op) effect keeps = refl
 no_birth group (Join node order) effect keeps = refl
 no_birth group (Leave node order) effect keeps = refl
-no_birth group (Split at child order) effect keeps = absurd keeps
-no_birth group (Begin tx body order) effect keeps = absurd keeps
-no_birth group (Prepared tx offer) effect keeps = absurd keeps
-no_birth group (RecordVote tx vote by) effect keeps = absurd keeps
-no_birth group (GiveUp tx) effect keeps = absurd keeps
-no_birth group (Finish tx outcome) effect keeps = absurd keeps
-no_birth group (Watched tx watch) effect keeps = absurd keeps
-no_birth group (RecordWatch tx vote by) effect keeps = absurd keeps
+no_birth group _ effect keeps = absurd keeps
 
 -- no transaction is begun or decided
 pub same_transactions : (core : Core) (c : Command) (effect : Effect) (transactions : List Transaction) → LeavesWhole c → transactions_after core c effect transactions ≡ transactions
@@ -31,14 +24,7 @@ same_transactions core Noop effect transactions keeps = refl
 same_transactions core (Call client seq op) effect transactions keeps = refl
 same_transactions core (Join node order) effect transactions keeps = refl
 same_transactions core (Leave node order) effect transactions keeps = refl
-same_transactions core (Split at child order) effect transactions keeps = absurd keeps
-same_transactions core (Begin tx body order) effect transactions keeps = absurd keeps
-same_transactions core (Prepared tx offer) effect transactions keeps = absurd keeps
-same_transactions core (RecordVote tx vote by) effect transactions keeps = absurd keeps
-same_transactions core (GiveUp tx) effect transactions keeps = absurd keeps
-same_transactions core (Finish tx outcome) effect transactions keeps = absurd keeps
-same_transactions core (Watched tx watch) effect transactions keeps = absurd keeps
-same_transactions core (RecordWatch tx vote by) effect transactions keeps = absurd keeps
+same_transactions core _ effect transactions keeps = absurd keeps
 
 -- no cut is changed
 pub same_ring : (core : Core) (c : Command) (effect : Effect) (ring : List Cut) → LeavesWhole c → ring_after core c effect ring ≡ ring
@@ -46,11 +32,4 @@ same_ring core Noop effect ring keeps = refl
 same_ring core (Call client seq op) effect ring keeps = refl
 same_ring core (Join node order) effect ring keeps = refl
 same_ring core (Leave node order) effect ring keeps = refl
-same_ring core (Split at child order) effect ring keeps = absurd keeps
-same_ring core (Begin tx body order) effect ring keeps = absurd keeps
-same_ring core (Prepared tx offer) effect ring keeps = absurd keeps
-same_ring core (RecordVote tx vote by) effect ring keeps = absurd keeps
-same_ring core (GiveUp tx) effect ring keeps = absurd keeps
-same_ring core (Finish tx outcome) effect ring keeps = absurd keeps
-same_ring core (Watched tx watch) effect ring keeps = absurd keeps
-same_ring core (RecordWatch tx vote by) effect ring keeps = absurd keeps
+same_ring core _ effect ring keeps = absurd keeps

@@ -30,9 +30,7 @@ use Rattle.sc_log_entries.proofs.Lemmas.{draw_cases}
 
 by_lock : (lock : Lock) (group : Group) → effective_by lock [] group ≡ group
 by_lock Free group = refl
-by_lock (Coordinating tx body order heard) group = refl
-by_lock (Promised tx offer) group = refl
-by_lock (Watching tx watch) group = refl
+by_lock _ group = refl
 
 maps_same : (f : Group → Group) (o : Option Group) → ((group : Group) → f group ≡ group) → option_map f o ≡ o
 maps_same f None same = refl
@@ -169,14 +167,7 @@ module _ (request : RequestOf) (bases : List Base) (world : StoreWorld) (quiet :
   quiet_after Noop keeps asked = idle request bases world quiet name group found Noop keeps (applied group Noop) refl refl refl
   quiet_after (Join node order) keeps asked = ordered_kept (Join node order) keeps (with_node group node) refl refl (λ effect. refl)
   quiet_after (Leave node order) keeps asked = ordered_kept (Leave node order) keeps (without_node group node) refl refl (λ effect. refl)
-  quiet_after (Split at child order) keeps asked = absurd keeps
-  quiet_after (Begin tx body order) keeps asked = absurd keeps
-  quiet_after (Prepared tx offer) keeps asked = absurd keeps
-  quiet_after (RecordVote tx vote by) keeps asked = absurd keeps
-  quiet_after (GiveUp tx) keeps asked = absurd keeps
-  quiet_after (Finish tx outcome) keeps asked = absurd keeps
-  quiet_after (Watched tx watch) keeps asked = absurd keeps
-  quiet_after (RecordWatch tx vote by) keeps asked = absurd keeps
+  quiet_after _ keeps asked = absurd keeps
 
 by_group : (request : RequestOf) (bases : List Base) (world : StoreWorld) → IsQuietWorld request bases world → (name : Draw) (c : Command) → LeavesWhole c → IsAskedCall request c → (o : Option Group) → named_group name world.groups ≡ o
     → IsQuietWorld request bases (after_command world o c)

@@ -181,14 +181,7 @@ one_more entries group (Leave node order) keeps told =
     ordered_either (IsTold (entries ++ [])) group.core.gone (refusal_of group.core (Leave node order)) (without_node group node) group
     (idle entries (without_node group node) (of_same entries group (without_node group node) refl refl told)) (idle entries group told)
 one_more entries group Noop keeps told = idle entries group told
-one_more entries group (Split at child order) keeps told = absurd keeps
-one_more entries group (Begin tx body order) keeps told = absurd keeps
-one_more entries group (Prepared tx offer) keeps told = absurd keeps
-one_more entries group (RecordVote tx vote by) keeps told = absurd keeps
-one_more entries group (GiveUp tx) keeps told = absurd keeps
-one_more entries group (Finish tx outcome) keeps told = absurd keeps
-one_more entries group (Watched tx watch) keeps told = absurd keeps
-one_more entries group (RecordWatch tx vote by) keeps told = absurd keeps
+one_more entries group _ keeps told = absurd keeps
 
 told_on : (entries : List Entry) (group : Group) (log : List Command) → Each LeavesWhole log → IsTold entries group → IsTold (entries ++ done_by group log) (state_after group log)
 told_on entries group [] keeps told = idle entries group told

@@ -17,17 +17,7 @@ turned_sets (first ∷ sets) set e = (let longer = length_push sets set in omega
 pub back_runs : (command : Command) (r : ReplicaState) → (put_back command r).running ≡ r.running
 unfolding put_back
 back_runs Noop r = refl
-back_runs (Call client seq op) r = refl
-back_runs (Join node order) r = refl
-back_runs (Leave node order) r = refl
-back_runs (Split at child order) r = refl
-back_runs (Begin tx body order) r = refl
-back_runs (Prepared tx offer) r = refl
-back_runs (RecordVote tx vote by) r = refl
-back_runs (GiveUp tx) r = refl
-back_runs (Finish tx outcome) r = refl
-back_runs (Watched tx watch) r = refl
-back_runs (RecordWatch tx vote by) r = refl
+back_runs _ r = refl
 
 -- an order is asked
 pub order_is_asked : (command : Command) → IsOrder command → IsAsked command
@@ -35,14 +25,8 @@ order_is_asked (Join node order) q = tt
 order_is_asked (Leave node order) q = tt
 order_is_asked (Split at child order) q = tt
 order_is_asked (Begin tx body order) q = tt
-order_is_asked Noop q = q
 order_is_asked (Call client seq op) q = tt
-order_is_asked (Prepared tx offer) q = q
-order_is_asked (RecordVote tx vote by) q = q
-order_is_asked (GiveUp tx) q = q
-order_is_asked (Finish tx outcome) q = q
-order_is_asked (Watched tx watch) q = q
-order_is_asked (RecordWatch tx vote by) q = q
+order_is_asked _ q = q
 
 -- a request less, and one that goes back
 pub without_asked : (calls : List Command) (client : ℕ) → Each IsAsked calls → Each IsAsked (without_call calls client)

@@ -149,11 +149,7 @@ module _ (w : Walk) (me : ℕ) (same : me ≡ w.facts.me) where
   went_said group before effect (GiveUp tx) mails m = given_up_said (decided_in effect) before tx mails m
   went_said group before effect (Watched tx watch) mails m = watch_said (cast_in effect) tx watch mails m
   went_said group before effect (RecordWatch tx vote by) mails m = watch_replied (decided_in effect) vote before tx by mails m
-  went_said group before effect (Finish tx outcome) mails m = m
-  went_said group before effect Noop mails m = m
-  went_said group before effect (Call client seq op) mails m = m
-  went_said group before effect (Join node order) mails m = m
-  went_said group before effect (Leave node order) mails m = m
+  went_said group before effect _ mails m = m
 
   begun_said : (before : Before) (effect : Effect) (command : Command) (mails : List Mail) → AreSaid w mails → AreSaid w (told_begun me before effect command mails)
   unfolding told_begun

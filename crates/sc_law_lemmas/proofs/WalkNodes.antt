@@ -80,16 +80,7 @@ module _ (w : Walk) (b : Births w.facts) where
   unknown_step from (Learn group slot command) node h k = sent_one node from (Ask group 0) k (b.wants_all from group)
   unknown_step from (TxPrepare tx offer) node h k = sent_one node from (TxElsewhere tx offer.coord None) k (w.mails.sends_on from tx offer.coord None)
   unknown_step from (TxWatch tx watch) node h k = sent_one node from (TxElsewhere tx watch.coord None) k (w.mails.sends_on from tx watch.coord None)
-  unknown_step from (Answer group seq answer) node h k = (k, tt)
-  unknown_step from (Promise group ballot reports) node h k = (k, tt)
-  unknown_step from (Accepted group ballot slot) node h k = (k, tt)
-  unknown_step from (Nack group promised) node h k = (k, tt)
-  unknown_step from (Ask group from_slot) node h k = (k, tt)
-  unknown_step from (TxVote tx coord part vote) node h k = (k, tt)
-  unknown_step from (TxOutcome tx part outcome) node h k = (k, tt)
-  unknown_step from (TxElsewhere tx coord hint) node h k = (k, tt)
-  unknown_step from (TxWatched tx coord part vote) node h k = (k, tt)
-  unknown_step from (ToldMail order result) node h k = (k, tt)
+  unknown_step from _ node h k = (k, tt)
 
   child_step : (child : Base) (node : NodeState) → Stands node → Stands (with_born child node)
   child_step child node k =

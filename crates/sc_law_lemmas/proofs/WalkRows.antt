@@ -269,11 +269,7 @@ module _ (w : Walk) where
 
   pub order_asked : (name : Draw) (number : ℕ) (order : Order) → IsOrder (ordered_command name number order)
   order_asked name number (An.Join node group) = tt
-  order_asked name number (An.Leave node group) = tt
-  order_asked name number (An.Split group at) = tt
-  order_asked name number (An.Merge group) = tt
-  order_asked name number (An.Repart group at) = tt
-  order_asked name number (An.Migrate group node) = tt
+  order_asked name number _ = tt
 
   -- an order is taken by one that runs
   told_runs : (gone running offer : Bool) (why : OrderRefusal) (other : Option OrderRefusal) → cond (gone || not (running && offer)) (Some why) other ≡ None → running ≡ true

@@ -197,13 +197,4 @@ module _ (w : Walk) where
   hears_all rounds entries slots (Nack group promised) states = (rounds promised).0
   hears_all rounds entries slots (Learn group slot command) states = (entries slot command, (slots slot).1)
   hears_all rounds entries slots (Install group slot base sets) states = states group slot base sets refl
-  hears_all rounds entries slots (Ask group from_slot) states = tt
-  hears_all rounds entries slots (Request group client seq op) states = tt
-  hears_all rounds entries slots (Answer group seq answer) states = tt
-  hears_all rounds entries slots (TxPrepare tx offer) states = tt
-  hears_all rounds entries slots (TxVote tx coord part vote) states = tt
-  hears_all rounds entries slots (TxOutcome tx part outcome) states = tt
-  hears_all rounds entries slots (TxElsewhere tx coord hint) states = tt
-  hears_all rounds entries slots (TxWatch tx watch) states = tt
-  hears_all rounds entries slots (TxWatched tx coord part vote) states = tt
-  hears_all rounds entries slots (Told order result) states = tt
+  hears_all rounds entries slots _ states = tt

@@ -246,18 +246,14 @@ module _ (sources : Sources) (w : ToldWorld) (k : KeptWorld sources.owner w) (g 
   -- ---- all
 
   pub may_execute : (command : Command) → IsAllowed sources ys g command → MayExecute sources.request w.store s command
-  may_execute Noop a = tt
   may_execute (Call client seq op) a = may_call client seq op a
-  may_execute (Join node order) a = tt
-  may_execute (Leave node order) a = tt
   may_execute (Split at child order) a = may_split at child a.0 a.1
-  may_execute (Begin tx body order) a = tt
   may_execute (Prepared tx offer) a = may_vote tx offer a.0 a.1 a.2 a.3
   may_execute (RecordVote tx vote by) a = may_hear tx vote a
   may_execute (GiveUp tx) a = may_give_up tx
   may_execute (Finish tx outcome) a = may_finish tx outcome a.0 a.1 a.2
-  may_execute (Watched tx watch) a = tt
   may_execute (RecordWatch tx vote by) a = may_hear_watcher tx vote
+  may_execute _ a = tt
 
 -- each allowed entry may be told when it is
 pub all_may_be_told : (sources : Sources) (w : ToldWorld) (entries : List LogEntry) → KeptWorld sources.owner w → AreAllowed sources w entries → MayAllBeTold sources.request w.store entries

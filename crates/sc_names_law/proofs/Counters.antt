@@ -76,11 +76,8 @@ got sent number old (Some mail) e = record {
 pub acts : (sent : List Mail) (event : Event OrderLine) (old : NodeState) → Acts sent event old
 acts sent (Deliver number) old = got sent number old (numbered sent number) refl
 acts sent Tick old = record { node = (on_tick old).0; value_is = refl; draws = ticks_draw old.policy old.draws old.replicas }
-acts sent Go old = record { node = old; value_is = refl; draws = refl }
-acts sent Crash old = record { node = old; value_is = refl; draws = refl }
-acts sent (Drop number) old = record { node = old; value_is = refl; draws = refl }
-acts sent (Again number) old = record { node = old; value_is = refl; draws = refl }
 acts sent (Told line) old = record { node = (on_order line old).0; value_is = refl; draws = order_draws line old (replica_of (group_of_order line.order) old.replicas) }
+acts sent _ old = record { node = old; value_is = refl; draws = refl }
 
 -- ---- all rows
 

@@ -146,17 +146,7 @@ module _ (K : Draw → Type 0) where
 
   turned_names : (core : Core) (command : Command) → CoreNames K core → Opt (AnswerNames K) (turned_down core command)
   turned_names core (Call client seq op) k = refused_names core.gone core op k.gone k
-  turned_names core Noop k = tt
-  turned_names core (Join node order) k = tt
-  turned_names core (Leave node order) k = tt
-  turned_names core (Split at child order) k = tt
-  turned_names core (Begin tx body order) k = tt
-  turned_names core (Prepared tx offer) k = tt
-  turned_names core (RecordVote tx vote by) k = tt
-  turned_names core (GiveUp tx) k = tt
-  turned_names core (Finish tx outcome) k = tt
-  turned_names core (Watched tx watch) k = tt
-  turned_names core (RecordWatch tx vote by) k = tt
+  turned_names core _ k = tt
 
   calls_names : (place : Place) → Fine place → FoundNames (from_calls place)
   unfolding from_calls

@@ -86,14 +86,7 @@ module _ (K : Draw → Type 0) where
   free_refusal core (Leave node order) = either_way RefusedOf (not (is_member core.members node)) _ _ tt (either_way RefusedOf (eqb (length core.members) 1) _ _ tt tt)
   free_refusal core (Split at child order) = either_way RefusedOf (eqb at core.arc.lo || not (holds core.arc at)) _ _ tt (either_way RefusedOf (eqb (length core.members) 1) _ _ tt (either_way RefusedOf (not (is_alone core) && nat_le 256 core.begun) _ _ tt tt))
   free_refusal core (Begin tx body order) = either_way RefusedOf (is_alone core) _ _ tt (body_refusal body core)
-  free_refusal core Noop = tt
-  free_refusal core (Call client seq op) = tt
-  free_refusal core (Prepared tx offer) = tt
-  free_refusal core (RecordVote tx vote by) = tt
-  free_refusal core (GiveUp tx) = tt
-  free_refusal core (Finish tx outcome) = tt
-  free_refusal core (Watched tx watch) = tt
-  free_refusal core (RecordWatch tx vote by) = tt
+  free_refusal core _ = tt
 
   refusal_in : (o : Option Draw) (core : Core) (command : Command) → TxOf o → RefusedOf (refused_in o core command)
   refusal_in (Some tx) core command t = t
@@ -314,10 +307,7 @@ module _ (K : Draw → Type 0) where
 
   pred_names : (outcome : Outcome) (next pred : Link) → K next.group → K pred.group → K (pred_after outcome next pred).group
   pred_names Is.Abort next pred n p = p
-  pred_names (Is.Merged into) next pred n p = n
-  pred_names (Is.Moved at gift) next pred n p = n
-  pred_names (Is.Migrated node) next pred n p = n
-  pred_names Is.Divided next pred n p = n
+  pred_names _ next pred n p = n
 
   abbrev Votes : List (Draw × Past) → Type 0
   Votes vs = Each (λ (v : Draw × Past). K v.0 × PastNames K v.1) vs
@@ -403,13 +393,4 @@ module _ (K : Draw → Type 0) where
   pub child_by_names : (group : Group) (command : Command) → CoreNames K group.core → CommandNames K command → ChildOf (child_by group command)
   child_by_names group (Split at child order) k c = either_way ChildOf (has_named group.core child) _ _ tt (ordered_kid group.core.gone (refusal_of group.core (Split at child order)) group at child c k)
   child_by_names group (RecordWatch tx vote by) k c = watched_kid group.core.lock group tx vote k.lock k
-  child_by_names group Noop k c = tt
-  child_by_names group (Call client seq op) k c = tt
-  child_by_names group (Join node order) k c = tt
-  child_by_names group (Leave node order) k c = tt
-  child_by_names group (Begin tx body order) k c = tt
-  child_by_names group (Prepared tx offer) k c = tt
-  child_by_names group (RecordVote tx vote by) k c = tt
-  child_by_names group (GiveUp tx) k c = tt
-  child_by_names group (Finish tx outcome) k c = tt
-  child_by_names group (Watched tx watch) k c = tt
+  child_by_names group _ k c = tt

@@ -16,16 +16,7 @@ use Rattle.sc_names_law.proofs.Owned.{owned_are_drawn, owned_later}
 is_named : (K : Draw → Type 0) (command : Command) (name : Draw) → CommandNames K command → draw_of command ≡ Some name → K name
 is_named K (Split at child order) name c e = subst K (same_Some child name e) c
 is_named K (Begin tx body order) name c e = subst K (same_Some tx name e) c.0
-is_named K Noop name c e = cc
-is_named K (Call client seq op) name c e = cc
-is_named K (Join node order) name c e = cc
-is_named K (Leave node order) name c e = cc
-is_named K (Prepared tx offer) name c e = cc
-is_named K (RecordVote tx vote by) name c e = cc
-is_named K (GiveUp tx) name c e = cc
-is_named K (Finish tx outcome) name c e = cc
-is_named K (Watched tx watch) name c e = cc
-is_named K (RecordWatch tx vote by) name c e = cc
+is_named K _ name c e = cc
 
 pub allowed_are_drawn : AllowedNamesAreDrawn
 allowed_are_drawn ahead scenario rows request stories group command name a e =
@@ -46,13 +37,8 @@ logged_are_drawn ahead words scenario begins rows more lawful base command among
 pub more_owners_allow : MoreOwnersAllow
 more_owners_allow ahead scenario rows more request stories group (Split at child order) a = (owned_later ahead scenario rows more child group a.0, a.1)
 more_owners_allow ahead scenario rows more request stories group (Begin tx body order) a = (owned_later ahead scenario rows more tx group a.0, a.1)
-more_owners_allow ahead scenario rows more request stories group (Call client seq op) a = a
-more_owners_allow ahead scenario rows more request stories group (Prepared tx offer) a = a
-more_owners_allow ahead scenario rows more request stories group (RecordVote tx vote by) a = a
-more_owners_allow ahead scenario rows more request stories group (Watched tx watch) a = a
-more_owners_allow ahead scenario rows more request stories group (RecordWatch tx vote by) a = a
-more_owners_allow ahead scenario rows more request stories group (Finish tx outcome) a = a
 more_owners_allow ahead scenario rows more request stories group Noop a = tt
 more_owners_allow ahead scenario rows more request stories group (Join node order) a = tt
 more_owners_allow ahead scenario rows more request stories group (Leave node order) a = tt
 more_owners_allow ahead scenario rows more request stories group (GiveUp tx) a = tt
+more_owners_allow ahead scenario rows more request stories group _ a = a

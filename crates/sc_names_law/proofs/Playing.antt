@@ -47,19 +47,9 @@ module _ (K : Draw → Type 0) where
   absent_names me from (Prepare group ballot from_slot) b = sent_names K me from (Ask group 0) [] b tt
   absent_names me from (Accept group ballot slot command) b = sent_names K me from (Ask group 0) [] b.0 tt
   absent_names me from (Learn group slot command) b = sent_names K me from (Ask group 0) [] b.0 tt
-  absent_names me from (Answer group seq answer) b = tt
-  absent_names me from (Promise group ballot reports) b = tt
-  absent_names me from (Accepted group ballot slot) b = tt
-  absent_names me from (Nack group promised) b = tt
-  absent_names me from (Ask group from_slot) b = tt
-  absent_names me from (Install group slot base sets) b = tt
   absent_names me from (TxPrepare tx offer) b = sent_names K me from (TxElsewhere tx offer.coord None) [] (b.0, b.1.coord) tt
-  absent_names me from (TxVote tx coord part vote) b = tt
-  absent_names me from (TxOutcome tx part outcome) b = tt
-  absent_names me from (TxElsewhere tx coord hint) b = tt
   absent_names me from (TxWatch tx watch) b = sent_names K me from (TxElsewhere tx watch.coord None) [] (b.0, b.1.coord) tt
-  absent_names me from (TxWatched tx coord part vote) b = tt
-  absent_names me from (ToldMail order result) b = tt
+  absent_names me from _ b = tt
 
   made_step : (place : Place) (node : NodeState) → Fine K place → NodeNames K node → NodeStep (with_made place node)
   made_step (r, mails) node f k = (new_names r node.replicas f.0 k, f.1)
@@ -244,22 +234,7 @@ module _ (K : Draw → Type 0) where
 
   got_names : (from : ℕ) (body : MailBody) (client : ClientState) → BodiesNames K body → ClientNames K client → C (got from body client)
   got_names from (Answer group seq answer) client b k = either_way C (waits_for client.waiting seq) (answer_taken from group seq answer client) (client, []) (answer_names from group seq answer client b.0 b.1 k) (k, tt)
-  got_names from (Request group to seq op) client b k = (k, tt)
-  got_names from (Prepare group ballot from_slot) client b k = (k, tt)
-  got_names from (Promise group ballot reports) client b k = (k, tt)
-  got_names from (Accept group ballot slot command) client b k = (k, tt)
-  got_names from (Accepted group ballot slot) client b k = (k, tt)
-  got_names from (Nack group promised) client b k = (k, tt)
-  got_names from (Learn group slot command) client b k = (k, tt)
-  got_names from (Ask group from_slot) client b k = (k, tt)
-  got_names from (Install group slot base sets) client b k = (k, tt)
-  got_names from (TxPrepare tx offer) client b k = (k, tt)
-  got_names from (TxVote tx coord part vote) client b k = (k, tt)
-  got_names from (TxOutcome tx part outcome) client b k = (k, tt)
-  got_names from (TxElsewhere tx coord hint) client b k = (k, tt)
-  got_names from (TxWatch tx watch) client b k = (k, tt)
-  got_names from (TxWatched tx coord part vote) client b k = (k, tt)
-  got_names from (ToldMail order result) client b k = (k, tt)
+  got_names from _ client b k = (k, tt)
 
   -- what an input brings to a client
   abbrev pub BringsClient : Input Mail OrderLine → Type 0

@@ -55,17 +55,11 @@ module _ (K : Draw → Type 0) where
   dismissed_names : (me : ℕ) (group : Draw) (hint : Option ℕ) (answer : AnswerBody) (command : Command) (mails : List Mail) → K group → AnswerNames K answer → Sent mails → Sent (dismissed me group hint answer command mails)
   unfolding dismissed
   dismissed_names me group hint answer (Call client seq op) mails g a m = sent_names me _ (Answer group seq answer) mails (g, a) m
-  dismissed_names me group hint answer Noop mails g a m = told_names me 0 (Tells.Refused (Why.NotLeader hint)) mails tt m
   dismissed_names me group hint answer (Join node order) mails g a m = told_names me order (Tells.Refused (Why.NotLeader hint)) mails tt m
   dismissed_names me group hint answer (Leave node order) mails g a m = told_names me order (Tells.Refused (Why.NotLeader hint)) mails tt m
   dismissed_names me group hint answer (Split at child order) mails g a m = told_names me order (Tells.Refused (Why.NotLeader hint)) mails tt m
   dismissed_names me group hint answer (Begin tx body order) mails g a m = told_names me order (Tells.Refused (Why.NotLeader hint)) mails tt m
-  dismissed_names me group hint answer (Prepared tx offer) mails g a m = told_names me 0 (Tells.Refused (Why.NotLeader hint)) mails tt m
-  dismissed_names me group hint answer (RecordVote tx vote by) mails g a m = told_names me 0 (Tells.Refused (Why.NotLeader hint)) mails tt m
-  dismissed_names me group hint answer (GiveUp tx) mails g a m = told_names me 0 (Tells.Refused (Why.NotLeader hint)) mails tt m
-  dismissed_names me group hint answer (Finish tx outcome) mails g a m = told_names me 0 (Tells.Refused (Why.NotLeader hint)) mails tt m
-  dismissed_names me group hint answer (Watched tx watch) mails g a m = told_names me 0 (Tells.Refused (Why.NotLeader hint)) mails tt m
-  dismissed_names me group hint answer (RecordWatch tx vote by) mails g a m = told_names me 0 (Tells.Refused (Why.NotLeader hint)) mails tt m
+  dismissed_names me group hint answer _ mails g a m = told_names me 0 (Tells.Refused (Why.NotLeader hint)) mails tt m
 
   pub dismissed_all_names : (me : ℕ) (group : Draw) (hint : Option ℕ) (answer : AnswerBody) (commands : List Command) (mails : List Mail) → K group → AnswerNames K answer → Sent mails → Sent (dismissed_all me group hint answer commands mails)
   unfolding dismissed_all
@@ -146,10 +140,7 @@ module _ (K : Draw → Type 0) where
 
   outcome_result_names : (outcome : Outcome) → ResultNames K (outcome_result outcome)
   outcome_result_names Is.Abort = tt
-  outcome_result_names (Is.Merged into) = tt
-  outcome_result_names (Is.Moved at gift) = tt
-  outcome_result_names (Is.Migrated node) = tt
-  outcome_result_names Is.Divided = tt
+  outcome_result_names _ = tt
 
   decided_result_names : (effect : Effect) → ResultOf (decided_result effect)
   decided_result_names (Was.Decided outcome) = outcome_result_names outcome
@@ -230,11 +221,7 @@ module _ (K : Draw → Type 0) where
   went_on_names me group before effect (GiveUp tx) mails k b e c m = given_up_names (decided_in effect) me before tx mails b c m
   went_on_names me group before effect (Watched tx watch) mails k b e c m = watch_sent_names (cast_in effect) me tx watch mails (cast_names effect e) c.0 c.1 m
   went_on_names me group before effect (RecordWatch tx vote by) mails k b e c m = watch_answered_names (decided_in effect) vote me before tx by mails (decided_names effect e) b c.0 m
-  went_on_names me group before effect (Finish tx outcome) mails k b e c m = m
-  went_on_names me group before effect Noop mails k b e c m = m
-  went_on_names me group before effect (Call client seq op) mails k b e c m = m
-  went_on_names me group before effect (Join node order) mails k b e c m = m
-  went_on_names me group before effect (Leave node order) mails k b e c m = m
+  went_on_names me group before effect _ mails k b e c m = m
 
   -- all that is said of an executed entry
   pub spoken_names : (counted : Bool) (me : ℕ) (group : Group) (before : Before) (effect : Effect) (command : Command) (mails : List Mail) → CoreNames K group.core → BeforeNames before → EffectNames K effect → CommandNames K command → Sent mails → Sent (spoken_mails counted me group before effect command mails)

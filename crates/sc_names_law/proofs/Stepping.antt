@@ -323,18 +323,4 @@ module _ (K : Draw → Type 0) where
   unfolding mailed
   mailed_kids from (Accepted group ballot slot) place b f = accepted_kids K from ballot slot place f
   mailed_kids from (Learn group slot command) place b f = learn_kids K from slot command place b.1 f
-  mailed_kids from (Request group client seq op) place b f = tt
-  mailed_kids from (Answer group seq answer) place b f = tt
-  mailed_kids from (Prepare group ballot from_slot) place b f = tt
-  mailed_kids from (Promise group ballot reports) place b f = tt
-  mailed_kids from (Accept group ballot slot command) place b f = tt
-  mailed_kids from (Nack group ballot) place b f = tt
-  mailed_kids from (Ask group from_slot) place b f = tt
-  mailed_kids from (Install group slot base sets) place b f = tt
-  mailed_kids from (TxPrepare tx offer) place b f = tt
-  mailed_kids from (TxVote tx coord part vote) place b f = tt
-  mailed_kids from (TxOutcome tx part outcome) place b f = tt
-  mailed_kids from (TxElsewhere tx coord hint) place b f = tt
-  mailed_kids from (TxWatch tx watch) place b f = tt
-  mailed_kids from (TxWatched tx coord part vote) place b f = tt
-  mailed_kids from (Told order result) place b f = tt
+  mailed_kids from _ place b f = tt

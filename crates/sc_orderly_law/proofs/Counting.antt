@@ -64,10 +64,7 @@ module _ {A M O : Type 0} (s : System A M O) (apart : are_apart s.births ≡ tru
       let count = count_push (λ (r : Row M O). is_delivery r.event) rows row false refl in
       omega (arith, all, count, after, le)
   mails-row rows seat Tick born fine after le = absurd fine
-  mails-row rows seat (Told order) born fine after le = absurd fine
-  mails-row rows seat Crash born fine after le = absurd fine
-  mails-row rows seat (Drop mail) born fine after le = absurd fine
-  mails-row rows seat (Again mail) born fine after le = absurd fine
+  mails-row rows seat _ born fine after le = absurd fine
 
   -- each mail was delivered or is under way
   mails_under_way : SendsToActors s lines → (journal : List (Row M O)) → IsLawful s lines journal → length (mails journal) ≤ deliveries journal + length (under_way s journal)
@@ -160,10 +157,7 @@ module _ {A M O : Type 0} (s : System A M O) where
   one_of_three rows who (Deliver number) fine = refl
   one_of_three rows who Go fine = refl
   one_of_three rows who (Told order) fine = refl
-  one_of_three rows who Tick fine = absurd fine
-  one_of_three rows who Crash fine = absurd fine
-  one_of_three rows who (Drop mail) fine = absurd fine
-  one_of_three rows who (Again mail) fine = absurd fine
+  one_of_three rows who _ fine = absurd fine
 
   -- each row delivers, tells to go or tells an order
   pub rows_of_all : (journal : List (Row M O)) → AreInTime s journal → length journal ≡ deliveries journal + goes journal + orders journal
@@ -182,11 +176,7 @@ module _ {A M O : Type 0} (s : System A M O) where
   one_of_two : (rows : List (Row M O)) (who : ℕ) (event : Event O) → IsInOrder s rows who event → cond (is_delivery event) 1 0 + cond (is_go event) 1 0 ≡ 1
   one_of_two rows who (Deliver number) fine = refl
   one_of_two rows who Go fine = refl
-  one_of_two rows who Tick fine = absurd fine
-  one_of_two rows who (Told order) fine = absurd fine
-  one_of_two rows who Crash fine = absurd fine
-  one_of_two rows who (Drop mail) fine = absurd fine
-  one_of_two rows who (Again mail) fine = absurd fine
+  one_of_two rows who _ fine = absurd fine
 
   -- each row delivers or tells to go
   pub rows_are : (lines : List (Line O)) (journal : List (Row M O)) → Each IsPlainLine lines → IsLawful s lines journal → length journal ≡ deliveries journal + goes journal

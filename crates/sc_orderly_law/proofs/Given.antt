@@ -79,12 +79,7 @@ module _ {A M O : Type 0} (s : System A M O) where
   -- a delivery tells no order
   delivered_so : (allowed : ℕ → O → Bool) (who : ℕ) (event : Event O) → is_delivery event ≡ true → IsToldSo allowed who event
   delivered_so allowed who (Told order) d = absurd (true≢false (sym d))
-  delivered_so allowed who (Deliver number) d = tt
-  delivered_so allowed who Tick d = tt
-  delivered_so allowed who Go d = tt
-  delivered_so allowed who Crash d = tt
-  delivered_so allowed who (Drop mail) d = tt
-  delivered_so allowed who (Again mail) d = tt
+  delivered_so allowed who _ d = tt
 
   -- a line as calm journals have it, which gives its order as orders may be
   abbrev IsCalmSo : (ℕ → O → Bool) → Line O → Type 0

@@ -63,22 +63,13 @@ module _ {A M O : Type 0} (s : System A M O) where
 
   -- a delivery tells no order, and comes in time
   pub delivery_untold : (event : Event O) → is_delivery event ≡ true → is_told event ≡ false
-  delivery_untold (Deliver number) e = refl
-  delivery_untold Go e = refl
   delivery_untold (Told order) e = cc
-  delivery_untold Tick e = refl
-  delivery_untold Crash e = refl
-  delivery_untold (Drop mail) e = refl
-  delivery_untold (Again mail) e = refl
+  delivery_untold _ e = refl
 
   pub delivery_in_time : (rows : List (Row M O)) (event : Event O) → is_delivery event ≡ true → ComesInTime s rows event
-  delivery_in_time rows (Deliver number) e = tt
   delivery_in_time rows Go e = cc
   delivery_in_time rows (Told order) e = cc
-  delivery_in_time rows Tick e = tt
-  delivery_in_time rows Crash e = tt
-  delivery_in_time rows (Drop mail) e = tt
-  delivery_in_time rows (Again mail) e = tt
+  delivery_in_time rows _ e = tt
 
   -- ---- since the last order
 

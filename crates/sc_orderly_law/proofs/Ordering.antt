@@ -23,13 +23,7 @@ pub plain_is_calm : {O : Type 0} (line : Line O) → IsPlainLine line → IsCalm
 plain_is_calm (GoLine who) p = tt
 plain_is_calm (Settle most) p = tt
 plain_is_calm (Free most workers) p = tt
-plain_is_calm (DeliverLine who k) p = absurd p
-plain_is_calm (DropLine who k) p = absurd p
-plain_is_calm (AgainLine mail) p = absurd p
-plain_is_calm (TickLine who) p = absurd p
-plain_is_calm (CrashLine who) p = absurd p
-plain_is_calm (ToldLine who order) p = absurd p
-plain_is_calm (Storm number most) p = absurd p
+plain_is_calm _ p = absurd p
 
 pub plain_are_calm : {O : Type 0} (lines : List (Line O)) → Each IsPlainLine lines → Each IsCalmLine lines
 plain_are_calm [] p = tt
@@ -46,16 +40,10 @@ IsTaskOf P (Storms words) = ⊥
 
 module _ {O : Type 0} (P : Line O → Type 0) (calm : (line : Line O) → P line → IsCalmLine line) where
   line_tasks : (words : ℕ → ℕ → ℕ × ℕ) (line : Line O) → P line → Each (IsTaskOf P) (tasks_of words line)
-  line_tasks words (GoLine who) p = (p, tt)
   line_tasks words (Settle most) p = (tt, tt)
   line_tasks words (Free most workers) p = (tt, tt)
-  line_tasks words (DeliverLine who k) p = (p, tt)
-  line_tasks words (DropLine who k) p = (p, tt)
-  line_tasks words (AgainLine mail) p = (p, tt)
-  line_tasks words (TickLine who) p = (p, tt)
-  line_tasks words (CrashLine who) p = (p, tt)
-  line_tasks words (ToldLine who order) p = (p, tt)
   line_tasks words (Storm number most) p = absurd (calm (Storm number most) p)
+  line_tasks words _ p = (p, tt)
 
   lines_tasks : (words : ℕ → ℕ → ℕ × ℕ) (lines : List (Line O)) → Each P lines → Each (IsTaskOf P) (flat_map (tasks_of words) lines)
   lines_tasks words [] p = tt
@@ -130,11 +118,7 @@ module _ {A M O : Type 0} (s : System A M O) where
     pub event_is_calm : (who : ℕ) (event : Event O) → IsInOrder s rows who event → IsCalmEvent s rows who event
     event_is_calm who Go fine = fine
     event_is_calm who (Deliver number) fine = fine
-    event_is_calm who Tick fine = absurd fine
-    event_is_calm who (Told order) fine = absurd fine
-    event_is_calm who Crash fine = absurd fine
-    event_is_calm who (Drop mail) fine = absurd fine
-    event_is_calm who (Again mail) fine = absurd fine
+    event_is_calm who _ fine = absurd fine
 
     pub orderly_is_calm : (row : Row M O) → IsOrderly s rows row → IsCalmRow s rows row
     orderly_is_calm row o = record { seat = o.seat; born = o.born; event = o.event; row_is = o.row_is; calm = event_is_calm o.seat.who o.event o.in_order }

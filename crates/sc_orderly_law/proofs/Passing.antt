@@ -226,14 +226,7 @@ module _ {A M O : Type 0} (s : System A M O) where
           many_task : (line : Line O) → IsManyLine line → (task : Task O) × IsMany task × (tasks_of s.words line ≡ task ∷ [])
           many_task (Settle most) is = (Settles most, tt, refl)
           many_task (Free most workers) is = (Frees most, tt, refl)
-          many_task (GoLine w) is = absurd is
-          many_task (DeliverLine w k) is = absurd is
-          many_task (DropLine w k) is = absurd is
-          many_task (AgainLine mail) is = absurd is
-          many_task (TickLine w) is = absurd is
-          many_task (CrashLine w) is = absurd is
-          many_task (ToldLine w order) is = absurd is
-          many_task (Storm number most) is = absurd is
+          many_task _ is = absurd is
 
           left : (xs ys : List (Task O)) → Among (Once (GoLine who)) xs → Among (Once (GoLine who)) (xs ++ ys)
           left [] ys a = absurd a

@@ -91,20 +91,13 @@ module _ {A M O : Type 0} (s : System A M O) (apart : are_apart s.births ≡ tru
         let count = count_push (λ (r : Row M O). is_delivery r.event) rows row false refl in
         omega (arith, paid, actors, mail, count)
     pays rows seat Tick born fine paid = absurd fine
-    pays rows seat (Told order) born fine paid = absurd fine
-    pays rows seat Crash born fine paid = absurd fine
-    pays rows seat (Drop mail) born fine paid = absurd fine
-    pays rows seat (Again mail) born fine paid = absurd fine
+    pays rows seat _ born fine paid = absurd fine
 
   module _ (owing : Owing A M) (lines : List (Line O)) (plain : Each IsPlainLine lines) (lowers : Lowers s owing lines) where
     all_paid : (rows : List (Row M O)) (seat : Seat A) (event : Event O) → find (λ other. eqb other.who seat.who) s.births ≡ Some seat → IsLawful s lines (rows ++ row_of s.table seat rows event ∷ []) → IsPaid owing rows seat event
     all_paid rows seat (Deliver number) born lawful = λ mail sent. lowers.delivery rows seat number mail born sent lawful
     all_paid rows seat Go born lawful = lowers.go rows seat born lawful
-    all_paid rows seat Tick born lawful = tt
-    all_paid rows seat (Told order) born lawful = tt
-    all_paid rows seat Crash born lawful = tt
-    all_paid rows seat (Drop mail) born lawful = tt
-    all_paid rows seat (Again mail) born lawful = tt
+    all_paid rows seat _ born lawful = tt
 
     -- the deliveries made, and what is owed still, are no more than was owed at birth
     pub deliveries_are_owed : (journal : List (Row M O)) → IsLawful s lines journal → deliveries journal + owed s owing journal ≤ owed_at_birth s owing

@@ -37,20 +37,14 @@ module _ {A M O : Type 0} (s : System A M O) where
   event_once rows who counts (Deliver zero) fine all = all
   event_once rows who counts (Deliver (suc place)) fine all = let le = get_once counts place all in set_once counts place (get_or counts place 0 - 1) (omega (arith, le)) all
   event_once rows who counts Go fine all = all
-  event_once rows who counts Tick fine all = absurd fine
   event_once rows who counts (Told order) fine all = all
-  event_once rows who counts Crash fine all = absurd fine
-  event_once rows who counts (Drop mail) fine all = absurd fine
-  event_once rows who counts (Again mail) fine all = absurd fine
+  event_once rows who counts _ fine all = absurd fine
 
   no_crash : (rows : List (Row M O)) (who : ℕ) (event : Event O) → IsCalmEvent s rows who event → is_crash event ≡ false
   no_crash rows who (Deliver number) fine = refl
   no_crash rows who Go fine = refl
-  no_crash rows who Tick fine = absurd fine
   no_crash rows who (Told order) fine = refl
-  no_crash rows who Crash fine = absurd fine
-  no_crash rows who (Drop mail) fine = absurd fine
-  no_crash rows who (Again mail) fine = absurd fine
+  no_crash rows who _ fine = absurd fine
 
   -- a calm row keeps the journal tidy
   pub tidy-row : (rows : List (Row M O)) (row : Row M O) → IsTidy rows → IsCalmRow s rows row → IsTidy (rows ++ row ∷ [])
@@ -148,11 +142,8 @@ module _ {A M O : Type 0} (s : System A M O) where
   left_by : (rows : List (Row M O)) (maker who : ℕ) (event : Event O) → IsTidy rows → is_born s maker ≡ true → IsCalmEvent s rows maker event → mail_with (λ mail. eqb (s.receiver mail) who) (mails rows) (counts_at (copies rows) event) ≡ drop (cond (eqb maker who && is_delivery event) 1 0) (rest s rows who)
   left_by rows maker who (Deliver number) t born fine = taken_by rows maker who number (first-rest rows maker number t born fine) (eqb maker who) refl
   left_by rows maker who Go t born fine = sym (ap (λ b. drop (cond b 1 0) (rest s rows who)) (and_right (eqb maker who) false refl) ∙ at_zero (rest s rows who))
-  left_by rows maker who Tick t born fine = absurd fine
   left_by rows maker who (Told order) t born fine = sym (ap (λ b. drop (cond b 1 0) (rest s rows who)) (and_right (eqb maker who) false refl) ∙ at_zero (rest s rows who))
-  left_by rows maker who Crash t born fine = absurd fine
-  left_by rows maker who (Drop mail) t born fine = absurd fine
-  left_by rows maker who (Again mail) t born fine = absurd fine
+  left_by rows maker who _ t born fine = absurd fine
 
   -- after a calm row: the receiver's mail without its first, and what the row sends behind
   pub rest-calm : (rows : List (Row M O)) (row : Row M O) (who : ℕ) → IsTidy rows → IsCalmRow s rows row → rest s (rows ++ row ∷ []) who ≡ drop (taken who row) (rest s rows who) ++ mail_for s who row.sent

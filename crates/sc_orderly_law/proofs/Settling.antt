@@ -34,13 +34,7 @@ line_room : {O : Type 0} (words : ℕ → ℕ → ℕ × ℕ) (total : ℕ) (lin
 line_room words total (GoLine who) p room = (tt, tt)
 line_room words total (Settle most) p room = (omega arith, tt)
 line_room words total (Free most workers) p room = (omega arith, tt)
-line_room words total (DeliverLine who k) p room = absurd p
-line_room words total (DropLine who k) p room = absurd p
-line_room words total (AgainLine mail) p room = absurd p
-line_room words total (TickLine who) p room = absurd p
-line_room words total (CrashLine who) p room = absurd p
-line_room words total (ToldLine who order) p room = absurd p
-line_room words total (Storm number most) p room = absurd p
+line_room words total _ p room = absurd p
 
 lines_room : {O : Type 0} (words : ℕ → ℕ → ℕ × ℕ) (total : ℕ) (lines : List (Line O)) → Each IsPlainLine lines → Each (HasRoom total) lines → Each (HasRoomLeft total 0) (flat_map (tasks_of words) lines)
 lines_room words total [] p room = tt

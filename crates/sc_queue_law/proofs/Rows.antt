@@ -183,11 +183,7 @@ outcome_keeps tx outcome (r, mails) k = either_way Keeps (r.running && is_bound 
 
 ordered_keeps : (name : Draw) (number : ℕ) (order : Order) (calls : List Command) → One calls → One (ordered_command name number order ∷ calls)
 ordered_keeps name number (An.Join node group) calls k = k
-ordered_keeps name number (An.Leave node group) calls k = k
-ordered_keeps name number (An.Split group at) calls k = k
-ordered_keeps name number (An.Merge group) calls k = k
-ordered_keeps name number (An.Repart group at) calls k = k
-ordered_keeps name number (An.Migrate group node) calls k = k
+ordered_keeps name number _ calls k = k
 
 order_last : (name : Draw) (number : ℕ) (order : Order) (calls : List Command) → One calls → One (calls ++ ordered_command name number order ∷ [])
 order_last name number order calls k = one_last (ordered_command name number order) calls (ordered_keeps name number order calls k)

@@ -54,16 +54,7 @@ module _ (r : ReplicaState) (W : Ballot → Draw → ℕ) (Q : Type 0) (numbered
     loses group slot command e is (GiveUp tx) flies apart =
         (ends_queued tx r.acts + 1, omega arith, inr (omega arith, inr (record { mail = mail; brought = refl; group = group; slot = slot; learnt = command; body = sym e; flies = flies; is_next = is; other = apart })))
     loses group slot command e is (Call client seq op) flies apart = tt
-    loses group slot command e is Noop flies apart = tt
-    loses group slot command e is (Join node order) flies apart = tt
-    loses group slot command e is (Leave node order) flies apart = tt
-    loses group slot command e is (Split at child order) flies apart = tt
-    loses group slot command e is (Begin tx body order) flies apart = tt
-    loses group slot command e is (Prepared tx offer) flies apart = tt
-    loses group slot command e is (RecordVote tx vote by) flies apart = tt
-    loses group slot command e is (Finish tx outcome) flies apart = tt
-    loses group slot command e is (Watched tx watch) flies apart = tt
-    loses group slot command e is (RecordWatch tx vote by) flies apart = tt
+    loses group slot command e is _ flies apart = tt
 
     -- ---- Learn
 
@@ -181,17 +172,7 @@ module _ (r : ReplicaState) where
 
   any_kept : (command : Command) → Kept Any Ever command
   any_kept (Call client seq op) = tt
-  any_kept (GiveUp tx) = tt
-  any_kept Noop = tt
-  any_kept (Join node order) = tt
-  any_kept (Leave node order) = tt
-  any_kept (Split at child order) = tt
-  any_kept (Begin tx body order) = tt
-  any_kept (Prepared tx offer) = tt
-  any_kept (RecordVote tx vote by) = tt
-  any_kept (Finish tx outcome) = tt
-  any_kept (Watched tx watch) = tt
-  any_kept (RecordWatch tx vote by) = tt
+  any_kept _ = tt
 
   each_any : {X : Type 0} (of : X → Command) (xs : List X) → Each (λ x. Kept Any Ever (of x)) xs
   each_any of [] = tt

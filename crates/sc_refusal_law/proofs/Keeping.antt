@@ -110,16 +110,7 @@ module _ (A : Command → Type 0) (G : Draw → ℕ → Type 0) where
       (λ e now. (let p = subst (λ (name : Draw). Due (GiveUp name) acts) (sym (draw_is tx other e)) k in let most = p.1 in (p.0, omega (arith, now, most), p.2)))
       (λ _ now. (let p = d tx in let most = p.1 in (p.0, omega (arith, now, most), p.2))) (is tx)
   more_due Noop acts more is k d = other_due acts more is d
-  more_due (Call client seq op) acts more is k d = other_due acts more is d
-  more_due (Join node order) acts more is k d = other_due acts more is d
-  more_due (Leave node order) acts more is k d = other_due acts more is d
-  more_due (Split at child order) acts more is k d = other_due acts more is d
-  more_due (Begin tx body order) acts more is k d = other_due acts more is d
-  more_due (Prepared tx offer) acts more is k d = other_due acts more is d
-  more_due (RecordVote tx vote by) acts more is k d = other_due acts more is d
-  more_due (Finish tx outcome) acts more is k d = other_due acts more is d
-  more_due (Watched tx watch) acts more is k d = other_due acts more is d
-  more_due (RecordWatch tx vote by) acts more is k d = other_due acts more is d
+  more_due _ acts more is k d = other_due acts more is d
 
   -- ---- what goes back
 

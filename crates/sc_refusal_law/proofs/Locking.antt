@@ -37,9 +37,7 @@ Follows before after = (after ≡ Free) ⊎ ((before ≡ Free) ⊎ (coordinated 
 
 few_waits : (lock : Lock) (waits : ℕ) → waits_in lock waits ≤ waits
 few_waits Free waits = omega arith
-few_waits (Coordinating tx body order heard) waits = omega arith
-few_waits (Promised tx offer) waits = omega arith
-few_waits (Watching tx watch) waits = omega arith
+few_waits _ waits = omega arith
 
 -- so the waiting is within what is allowed after an entry, if it was before
 pub still_allowed : (W : Ballot → Draw → ℕ) (lead : Ballot) (before after : Lock) (waits : ℕ) → Follows before after → waits ≤ allowed W lead before → waits_in after waits ≤ allowed W lead after

@@ -175,11 +175,7 @@ module _ (Sent : List Mail → Type 0) (plain : (me to : ℕ) (body : MailBody) 
   went_plain me group before effect (GiveUp tx) mails m = given_up_plain (decided_in effect) me before tx mails m
   went_plain me group before effect (Watched tx watch) mails m = watch_plain (cast_in effect) me tx watch mails m
   went_plain me group before effect (RecordWatch tx vote by) mails m = watcher_answered (decided_in effect) vote me before tx by mails m
-  went_plain me group before effect (Finish tx outcome) mails m = m
-  went_plain me group before effect Noop mails m = m
-  went_plain me group before effect (Call client seq op) mails m = m
-  went_plain me group before effect (Join node order) mails m = m
-  went_plain me group before effect (Leave node order) mails m = m
+  went_plain me group before effect _ mails m = m
 
   -- all that is said of an executed entry
   pub spoken_plain : (counted : Bool) (me : ℕ) (group : Group) (before : Before) (effect : Effect) (command : Command) (mails : List Mail) → Sent mails → Sent (spoken_mails counted me group before effect command mails)

@@ -230,11 +230,7 @@ module _ (start : ReplicaState) (A : Command → Type 0) (G : Draw → ℕ → T
 
   order_kept : (name : Draw) (number : ℕ) (order : Order) → Kept A G (ordered_command name number order)
   order_kept name number (An.Join node group) = tt
-  order_kept name number (An.Leave node group) = tt
-  order_kept name number (An.Split group at) = tt
-  order_kept name number (An.Merge group) = tt
-  order_kept name number (An.Repart group at) = tt
-  order_kept name number (An.Migrate group node) = tt
+  order_kept name number _ = tt
 
   taken_fine : (o : Option OrderRefusal) (number : ℕ) (command : Command) (place : Place) → Kept A G command → F place → F (taken_or_told o number command place)
   taken_fine (Some why) number command (r, mails) k f = (f.0, with_plain start A G W Q false true r mails r.me 0 (Told number (Tells.Refused why)) tt f.1)

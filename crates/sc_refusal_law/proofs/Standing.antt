@@ -92,11 +92,8 @@ module _ (start : ReplicaState) (A : Command → Type 0) (G : Draw → ℕ → T
 
   -- once the replica has stopped
   stopped_cause : (entries : List Command) (refused turned : Bool) (op : Op) (answer : AnswerBody) → CauseSo entries refused turned op answer → CauseSo entries true turned op answer
-  stopped_cause entries refused turned op (Says.Value reply) c = c
   stopped_cause entries refused turned op (Says.NotLeader hint) c = refl
-  stopped_cause entries refused turned op (Says.NotMine arc succ) c = c
-  stopped_cause entries refused turned op (Says.Gone into) c = c
-  stopped_cause entries refused turned op (Says.Stale last) c = c
+  stopped_cause entries refused turned op _ c = c
 
   pub stopped_caused : (entries : List Command) (refused turned : Bool) (mails : List Mail) → AllCaused entries refused turned mails → AllCaused entries true turned mails
   stopped_caused entries refused turned mails s =

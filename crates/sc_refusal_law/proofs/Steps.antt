@@ -35,17 +35,7 @@ module _ (start : ReplicaState) (input : Input Mail OrderLine) (W : Ballot → D
 
   kept_asked : (command : Command) → A command → Kept A G command
   kept_asked (Call client seq op) a = a
-  kept_asked (GiveUp tx) a = tt
-  kept_asked Noop a = tt
-  kept_asked (Join node order) a = tt
-  kept_asked (Leave node order) a = tt
-  kept_asked (Split at child order) a = tt
-  kept_asked (Begin tx body order) a = tt
-  kept_asked (Prepared tx offer) a = tt
-  kept_asked (RecordVote tx vote by) a = tt
-  kept_asked (Finish tx outcome) a = tt
-  kept_asked (Watched tx watch) a = tt
-  kept_asked (RecordWatch tx vote by) a = tt
+  kept_asked _ a = tt
 
   each_kept : (commands : List Command) → ((command : Command) → Among command commands → A command) → Each (Kept A G) commands
   each_kept [] f = tt

@@ -43,17 +43,11 @@ module _ (start : ReplicaState) (A : Command → Type 0) (G : Draw → ℕ → T
     dismissed_caused : (hint : Option ℕ) (command : Command) (mails : List Mail) → Kept A G command → C mails → C (dismissed me group hint answer command mails)
     unfolding dismissed
     dismissed_caused hint (Call client seq op) mails k c = answered_one client seq op mails k c
-    dismissed_caused hint Noop mails k c = desk 0 hint mails c
     dismissed_caused hint (Join node order) mails k c = desk order hint mails c
     dismissed_caused hint (Leave node order) mails k c = desk order hint mails c
     dismissed_caused hint (Split at child order) mails k c = desk order hint mails c
     dismissed_caused hint (Begin tx body order) mails k c = desk order hint mails c
-    dismissed_caused hint (Prepared tx offer) mails k c = desk 0 hint mails c
-    dismissed_caused hint (RecordVote tx vote by) mails k c = desk 0 hint mails c
-    dismissed_caused hint (GiveUp tx) mails k c = desk 0 hint mails c
-    dismissed_caused hint (Finish tx outcome) mails k c = desk 0 hint mails c
-    dismissed_caused hint (Watched tx watch) mails k c = desk 0 hint mails c
-    dismissed_caused hint (RecordWatch tx vote by) mails k c = desk 0 hint mails c
+    dismissed_caused hint _ mails k c = desk 0 hint mails c
 
     pub dismissals_caused : (hint : Option ℕ) (commands : List Command) (mails : List Mail) → KeptAll A G commands → C mails → C (dismissed_all me group hint answer commands mails)
     unfolding dismissed_all

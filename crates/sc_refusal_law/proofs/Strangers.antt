@@ -61,18 +61,9 @@ module _ (node : NodeState) (mail : Mail) (group : Draw) (missing : replica_of g
   unknown_as (Prepare other ballot from_slot) e g = plain node.me mail.from (Ask other 0) [] tt tt
   unknown_as (Accept other ballot slot command) e g = plain node.me mail.from (Ask other 0) [] tt tt
   unknown_as (Learn other slot command) e g = plain node.me mail.from (Ask other 0) [] tt tt
-  unknown_as (Answer other seq answer) e g = tt
-  unknown_as (Promise other ballot reports) e g = tt
-  unknown_as (Accepted other ballot slot) e g = tt
-  unknown_as (Nack other ballot) e g = tt
-  unknown_as (Ask other from_slot) e g = tt
   unknown_as (TxPrepare tx offer) e g = plain node.me mail.from (TxElsewhere tx offer.coord None) [] tt tt
-  unknown_as (TxVote tx coord part vote) e g = tt
-  unknown_as (TxOutcome tx part outcome) e g = tt
-  unknown_as (TxElsewhere tx coord hint) e g = tt
   unknown_as (TxWatch tx watch) e g = plain node.me mail.from (TxElsewhere tx watch.coord None) [] tt tt
-  unknown_as (TxWatched tx coord part vote) e g = tt
-  unknown_as (Told order result) e g = tt
+  unknown_as _ e g = tt
 
   pub unknown_says : group_of_mail mail.body ≡ Some group → Each P (unknown mail.from mail.body node).1
   unknown_says g = unknown_as mail.body refl g

@@ -198,10 +198,6 @@ module _ (sources : Sources) (ring : Ring) (gs : Groups) (ys : Stories) (g : Dra
   give_up_grows tx (Watching t watch) e = outcome_quiet tx
 
   pub grows : (command : Command) → IsAllowed sources ys g command → Grows ys (stories_after s command (applied s command).1 ys)
-  grows Noop a = grows_same ys
-  grows (Call client seq op) a = grows_same ys
-  grows (Join node order) a = grows_same ys
-  grows (Leave node order) a = grows_same ys
   grows (Split at child order) a = split_grows at child order a.0
   grows (Begin tx body order) a = begin_grows tx body order a.0
   grows (Prepared tx offer) a = prepared_grows tx offer a.0 a.1 a.2 a.3
@@ -209,7 +205,7 @@ module _ (sources : Sources) (ring : Ring) (gs : Groups) (ys : Stories) (g : Dra
   grows (Watched tx watch) a = watched_grows tx watch a.0 a.1 a.2 a.3
   grows (RecordWatch tx vote by) a = watch_grows tx vote s.core.lock refl
   grows (GiveUp tx) a = give_up_grows tx s.core.lock refl
-  grows (Finish tx outcome) a = grows_same ys
+  grows _ a = grows_same ys
 
 -- ---- what is allowed stays allowed
 
@@ -223,18 +219,15 @@ watch_stays ys zs k tx (Cast.No why) a = tt
 watch_stays ys zs k tx Cast.Ended a = tt
 
 stays : (sources : Sources) (ys zs : Stories) → Grows ys zs → (g : Draw) (command : Command) → IsAllowed sources ys g command → IsAllowed sources zs g command
-stays sources ys zs k g Noop a = tt
 stays sources ys zs k g (Call client seq op) a = a
-stays sources ys zs k g (Join node order) a = tt
-stays sources ys zs k g (Leave node order) a = tt
 stays sources ys zs k g (Split at child order) a = a
 stays sources ys zs k g (Begin tx body order) a = a
 stays sources ys zs k g (Prepared tx offer) a = (let r = k tx a.0 a.1 in (r.0, r.1, r.2.offer ∙ a.2, a.3))
 stays sources ys zs k g (RecordVote tx vote by) a = vote_stays ys zs k tx vote a
 stays sources ys zs k g (Watched tx watch) a = (let r = k tx a.0 a.1 in (r.0, r.1, r.2.watch (unsigned_watch watch) a.2, a.3))
 stays sources ys zs k g (RecordWatch tx vote by) a = watch_stays ys zs k tx vote a
-stays sources ys zs k g (GiveUp tx) a = tt
 stays sources ys zs k g (Finish tx outcome) a = (let r = k tx a.0 a.1 in (r.0, r.1, r.2.outcome outcome a.2))
+stays sources ys zs k g _ a = tt
 
 step_grows : (sources : Sources) (w : ToldWorld) (g : Draw) (command : Command) → KeptWorld sources.owner w → IsAllowed sources w.stories g command → (o : Option Group) → named_group g w.store.groups ≡ o → Grows w.stories (stories_told w.stories o command)
 step_grows sources w g command k a None e = grows_same w.stories

@@ -128,10 +128,7 @@ end_of_party s after tx k = record {
 
 not_commit : (o : Outcome) → is_commit o ≡ false → o ≡ Abort
 not_commit Abort e = refl
-not_commit (Merged into) e = absurd (let f : true ≡ false = e in cc)
-not_commit (Moved at gift) e = absurd (let f : true ≡ false = e in cc)
-not_commit (Migrated node) e = absurd (let f : true ≡ false = e in cc)
-not_commit Divided e = absurd (let f : true ≡ false = e in cc)
+not_commit _ e = absurd (let f : true ≡ false = e in cc)
 
 promised_apart : (l : Lock) (t : Draw) (offer : Offer) (body : Body) (tx : Draw) (order : ℕ) (heard : Option Heard) → l ≡ Promised t offer → l ≡ Coordinating tx body order heard → ⊥
 promised_apart l t offer body tx order heard a b = let e = sym a ∙ b in cc

@@ -77,35 +77,17 @@ no_division d e = absurd (let f : None ≡ Some d = e in cc)
 
 -- what divides moves no other cut
 watch_alone : (effect : Effect) (x : Option Division) (d : Division) (ring : List Cut) (g p : Draw) → cond (is_divided effect) x None ≡ Some d → ring_decided (decided_in effect) g p ring ≡ ring
-watch_alone (Was.Done reply) x d ring g p e = refl
-watch_alone (Was.Again reply) x d ring g p e = refl
-watch_alone (Was.Stale last) x d ring g p e = refl
-watch_alone (Was.NotMine arc succ) x d ring g p e = refl
-watch_alone (Was.Gone into) x d ring g p e = refl
-watch_alone (Was.NoEffect tx) x d ring g p e = refl
-watch_alone Was.Idle x d ring g p e = refl
-watch_alone Was.Changed x d ring g p e = refl
-watch_alone (Was.Voted past) x d ring g p e = refl
 watch_alone (Was.Decided Abort) x d ring g p e = refl
 watch_alone (Was.Decided (Merged into)) x d ring g p e = no_division d e
 watch_alone (Was.Decided (Moved at gift)) x d ring g p e = no_division d e
 watch_alone (Was.Decided (Migrated node)) x d ring g p e = refl
 watch_alone (Was.Decided Divided) x d ring g p e = refl
-watch_alone (Was.Refused why) x d ring g p e = refl
+watch_alone _ x d ring g p e = refl
 
 divides_alone : (core : Core) (command : Command) (effect : Effect) (d : Division) (ring : List Cut) (g p : Draw) → division_of core command effect ≡ Some d → ring_decided (decided_by command effect) g p ring ≡ ring
-divides_alone core (Split at child order) effect d ring g p e = refl
 divides_alone core (RecordWatch tx vote by) effect d ring g p e = watch_alone effect (division_in core.lock) d ring g p e
-divides_alone core Noop effect d ring g p e = refl
-divides_alone core (Call client seq op) effect d ring g p e = refl
-divides_alone core (Join node order) effect d ring g p e = refl
-divides_alone core (Leave node order) effect d ring g p e = refl
-divides_alone core (Begin tx body order) effect d ring g p e = refl
-divides_alone core (Prepared tx offer) effect d ring g p e = refl
 divides_alone core (RecordVote tx vote by) effect d ring g p e = no_division d e
-divides_alone core (GiveUp tx) effect d ring g p e = refl
-divides_alone core (Finish tx outcome) effect d ring g p e = refl
-divides_alone core (Watched tx watch) effect d ring g p e = refl
+divides_alone core _ effect d ring g p e = refl
 
 split_is : (ring : List Cut) (g : Draw) (d : Division) → (g ≡ d.child → ⊥) → arc_in d.child ring ≡ None → (a : Option Arc) → arc_in g ring ≡ a → (h : Draw) → arc_in h (flat_map (parts_of g d) ring) ≡ ring_split a d (arcs_in ring) g h
 split_is ring g d gc none None e h = ap (arc_in h) (flat_none g d ring (none_each g d g ring (no_cut ring g e)))

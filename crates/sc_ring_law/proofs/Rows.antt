@@ -108,15 +108,11 @@ plain_facts gs ys owner g s s' f is k p =
 
 offer_begun : (s : Group) (tx : Draw) (b : Body) (order : ℕ) (body : Body) → offer_for s.core body ≡ offer_for (begun_group s tx b order).core body
 offer_begun s tx b order At.Merge = refl
-offer_begun s tx b order (At.Repart at) = refl
-offer_begun s tx b order (At.Migrate node) = refl
-offer_begun s tx b order (At.Split at child) = refl
+offer_begun s tx b order _ = refl
 
 watch_begun : (s : Group) (tx : Draw) (b : Body) (order : ℕ) (body : Body) → watch_for s.core body None ≡ watch_for (begun_group s tx b order).core body None
 watch_begun s tx b order At.Merge = refl
-watch_begun s tx b order (At.Repart at) = refl
-watch_begun s tx b order (At.Migrate node) = refl
-watch_begun s tx b order (At.Split at child) = refl
+watch_begun s tx b order _ = refl
 
 pub begin_facts : (gs : Groups) (ys : Stories) (owner : Draw → Option Draw) (g : Draw) (s : Group) (tx : Draw) (body : Body) (order : ℕ) → Facts owner gs ys → gs g ≡ Some s → s.core.lock ≡ Free → s.core.gone ≡ None
     → ys tx ≡ None → owner tx ≡ Some g → ((at : ℕ) (child : Draw) → body ≡ At.Split at child → gs tx ≡ None) → (s.core.succ.group ≡ g → ⊥) → IsOwnBody body tx
@@ -264,9 +260,7 @@ lock_story ys g s s' tx y y' there e votes same (Watching t watch) r =
 
 offer_votes : (s : Group) (tx : Draw) (lock : Lock) (past : Past) (body : Body) → offer_for s.core body ≡ offer_for (Votes s tx lock past).core body
 offer_votes s tx lock past At.Merge = refl
-offer_votes s tx lock past (At.Repart at) = refl
-offer_votes s tx lock past (At.Migrate node) = refl
-offer_votes s tx lock past (At.Split at child) = refl
+offer_votes s tx lock past _ = refl
 
 watch_votes : (s : Group) (tx : Draw) (lock : Lock) (past : Past) (body : Body) (heard : Option Heard) → watch_for s.core body heard ≡ watch_for (Votes s tx lock past).core body heard
 watch_votes s tx lock past At.Merge None = refl

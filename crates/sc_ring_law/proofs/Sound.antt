@@ -168,16 +168,7 @@ entries_keep_the_promises sources bases entries start allowed =
 pub owned : (sources : Sources) (ys : Stories) (g : Draw) (command : Command) (name : Draw) → IsAllowed sources ys g command → draw_of command ≡ Some name → sources.owner name ≡ Some g
 owned sources ys g (Split at child order) name a e = ap sources.owner (sym (same_Some child name e)) ∙ a.0
 owned sources ys g (Begin tx body order) name a e = ap sources.owner (sym (same_Some tx name e)) ∙ a.0
-owned sources ys g Noop name a e = absurd (none-some name e)
-owned sources ys g (Call client seq op) name a e = absurd (none-some name e)
-owned sources ys g (Join node order) name a e = absurd (none-some name e)
-owned sources ys g (Leave node order) name a e = absurd (none-some name e)
-owned sources ys g (Prepared tx offer) name a e = absurd (none-some name e)
-owned sources ys g (RecordVote tx vote by) name a e = absurd (none-some name e)
-owned sources ys g (GiveUp tx) name a e = absurd (none-some name e)
-owned sources ys g (Finish tx outcome) name a e = absurd (none-some name e)
-owned sources ys g (Watched tx watch) name a e = absurd (none-some name e)
-owned sources ys g (RecordWatch tx vote by) name a e = absurd (none-some name e)
+owned sources ys g _ name a e = absurd (none-some name e)
 
 owned_among : (sources : Sources) (w : ToldWorld) (entries : List LogEntry) → AreAllowed sources w entries → (a : LogEntry) → Among a entries → (name : Draw) → draw_of a.command ≡ Some name → sources.owner name ≡ Some a.group
 owned_among sources w [] k a x name e = absurd x

@@ -176,23 +176,14 @@ module _ (ahead : Ahead) (base other : Base) (made made_there : Command → Type
   -- an answer of another group says nothing of this one
   apart_answer : (h : Steps) (mail : Mail) (group : Draw) (seq : ℕ) (answer : AnswerBody) → IsApartAnswer base.core.id group answer → IsTrue ahead base made heard h mail (Answer group seq answer)
   apart_answer h mail group seq (Says.Value reply) e = λ t. (let no_way : true ≡ false = sym t ∙ e in absurd (cc))
-  apart_answer h mail group seq (Says.Stale last) e = λ t. tt
-  apart_answer h mail group seq (Says.NotMine arc succ) e = λ t. tt
-  apart_answer h mail group seq (Says.Gone into) e = λ t. tt
-  apart_answer h mail group seq (Says.NotLeader hint) e = λ t. tt
+  apart_answer h mail group seq _ e = λ t. tt
 
   -- ... of whatever mail
   pub apart_true : (h there : Steps) (mail : Mail) (body : MailBody) → IsApart base.core.id body → IsTrue ahead other made_there heard there mail body → IsTrue ahead base made heard h mail body
   apart_true h there mail (Request group client seq op) e t = calls client seq op t
   apart_true h there mail (Answer group seq answer) e t = apart_answer h mail group seq answer e
-  apart_true h there mail (Prepare group ballot from_slot) e t = λ u. (let no_way : true ≡ false = sym u ∙ e in absurd (cc))
-  apart_true h there mail (Promise group ballot reports) e t = λ u. (let no_way : true ≡ false = sym u ∙ e in absurd (cc))
-  apart_true h there mail (Accept group ballot slot command) e t = λ u. (let no_way : true ≡ false = sym u ∙ e in absurd (cc))
-  apart_true h there mail (AcceptedMail group ballot slot) e t = λ u. (let no_way : true ≡ false = sym u ∙ e in absurd (cc))
   apart_true h there mail (Nack group promised) e t = tt
-  apart_true h there mail (Learn group slot command) e t = λ u. (let no_way : true ≡ false = sym u ∙ e in absurd (cc))
   apart_true h there mail (Ask group from_slot) e t = tt
-  apart_true h there mail (Install group slot record_of sets) e t = λ u. (let no_way : true ≡ false = sym u ∙ e in absurd (cc))
   apart_true h there mail (Told number result) e t = tt
   apart_true h there mail (TxPrepare tx offer) e t = t
   apart_true h there mail (TxVote tx coord part vote) e t = t
@@ -200,3 +191,4 @@ module _ (ahead : Ahead) (base other : Base) (made made_there : Command → Type
   apart_true h there mail (TxElsewhere tx coord hint) e t = t
   apart_true h there mail (TxWatch tx watch) e t = t
   apart_true h there mail (TxWatched tx coord part vote) e t = t
+  apart_true h there mail _ e t = λ u. (let no_way : true ≡ false = sym u ∙ e in absurd (cc))

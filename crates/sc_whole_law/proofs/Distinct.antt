@@ -58,17 +58,10 @@ decided_same (Some outcome) y k = k
 
 -- a dull effect changes nothing
 pub dull_same : (effect : Effect) → IsDull effect → is_changed effect ≡ true → ⊥
-dull_same (Was.Done reply) d e = cc
-dull_same (Was.Again reply) d e = cc
-dull_same (Was.Stale last) d e = cc
-dull_same (Was.NotMine arc succ) d e = cc
-dull_same (Was.Gone into) d e = cc
-dull_same (Was.NoEffect tx) d e = cc
-dull_same Was.Idle d e = cc
 dull_same Was.Changed d e = d
 dull_same (Was.Voted vote) d e = d
 dull_same (Was.Decided outcome) d e = d
-dull_same (Was.Refused why) d e = cc
+dull_same _ d e = cc
 
 -- a vote that changes its coordinator is of a merge
 merges : (s : Group) (tx : Draw) (vote : Vote) (by : ℕ) → is_changed (applied s (RecordVote tx vote by)).1 ≡ true → (order : ℕ) × (got : Option Heard) × (s.core.lock ≡ Coordinating tx At.Merge order got)

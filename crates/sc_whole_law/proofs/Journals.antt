@@ -24,11 +24,7 @@ use Rattle.sc_whole_law.proofs.Turning.{Holds, players, issued_now, told_now, ho
 -- what an order queues is no call
 no_call : (scenario : Scenario) (rows : Rows) (name : Draw) (number : ℕ) (order : Order) → IsIssuedCall scenario rows (ordered_command name number order)
 no_call scenario rows name number (An.Join node group) = tt
-no_call scenario rows name number (An.Leave node group) = tt
-no_call scenario rows name number (An.Split group at) = tt
-no_call scenario rows name number (An.Merge group) = tt
-no_call scenario rows name number (An.Repart group at) = tt
-no_call scenario rows name number (An.Migrate group node) = tt
+no_call scenario rows name number _ = tt
 
 -- the names that are left after one replica more
 names_push : (on : Bool) (drawer : Drawer) (older : List ReplicaState) (r : ReplicaState) → names_after_ticks on drawer (older ++ r ∷ []) ≡ names_after_tick on (names_after_ticks on drawer older) r
@@ -75,12 +71,8 @@ module _ (sources : Sources) (ahead : Ahead) (words : ℕ → ℕ → ℕ × ℕ
         (orders.told before row later are line e low high node is r found taken (stories_at ahead scenario.groups before)),
     no_call scenario before (next_name node.draws) line.number line.order,
   )
-  may_tell all before row later are orders h (Deliver number) e = tt
   may_tell all before row later are orders h Tick e = λ low high node is. may_tick all before row later are orders e low high node is [] node.replicas refl
-  may_tell all before row later are orders h Go e = tt
-  may_tell all before row later are orders h Crash e = tt
-  may_tell all before row later are orders h (Drop number) e = tt
-  may_tell all before row later are orders h (Again number) e = tt
+  may_tell all before row later are orders h _ e = tt
 
   -- ---- beside, where all holds
 

@@ -21,12 +21,9 @@ use Rattle.sc_whole_law.specs.Definitions.{section_op, ToldAreAllowed, WishedAre
 -- ---- the schedule
 
 at_position : (nodes : ℕ) (order : Order) → IsBoundedOrder nodes order → IsAtPosition order
-at_position nodes (An.Join node group) bounded = tt
-at_position nodes (An.Leave node group) bounded = tt
 at_position nodes (An.Split group at) bounded = bounded
-at_position nodes (An.Merge group) bounded = tt
 at_position nodes (An.Repart group at) bounded = bounded
-at_position nodes (An.Migrate group node) bounded = tt
+at_position nodes _ bounded = tt
 
 -- an order at a position, whoever is told it
 abbrev IsPlaced : ℕ → OrderLine → Type 0

@@ -122,16 +122,7 @@ module _ (sources : Sources) (stories : Stories) (fit : MergesFit stories) (name
     -- and nothing is decided
     dull_decides : (effect : Effect) → IsDull effect → decided_in effect ≡ None
     dull_decides (Was.Decided outcome) d = absurd d
-    dull_decides (Was.Done reply) d = refl
-    dull_decides (Was.Again reply) d = refl
-    dull_decides (Was.Stale last) d = refl
-    dull_decides (Was.NotMine arc succ) d = refl
-    dull_decides (Was.Gone into) d = refl
-    dull_decides (Was.NoEffect tx) d = refl
-    dull_decides Was.Idle d = refl
-    dull_decides Was.Changed d = refl
-    dull_decides (Was.Voted vote) d = refl
-    dull_decides (Was.Refused why) d = refl
+    dull_decides _ d = refl
 
     -- where nothing changes nothing is said
     dull_said : (me : ℕ) (group : Group) (was : Before) (effect : Effect) → IsDull effect → (c : Command) → Said (went_on me group was effect c [])

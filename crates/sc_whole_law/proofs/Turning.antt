@@ -46,16 +46,7 @@ issued_later scenario rows row (Call client seq op) i = record {
   is_issued = issue-push client seq rows row ∙ ap (λ o. or_now o (issues client seq row) (length rows + 1)) i.is_issued;
 }
 issued_later scenario rows row Noop i = tt
-issued_later scenario rows row (Join node order) i = tt
-issued_later scenario rows row (Leave node order) i = tt
-issued_later scenario rows row (Split at child order) i = tt
-issued_later scenario rows row (Begin tx body order) i = tt
-issued_later scenario rows row (Prepared tx offer) i = tt
-issued_later scenario rows row (RecordVote tx vote by) i = tt
-issued_later scenario rows row (GiveUp tx) i = tt
-issued_later scenario rows row (Finish tx outcome) i = tt
-issued_later scenario rows row (Watched tx watch) i = tt
-issued_later scenario rows row (RecordWatch tx vote by) i = tt
+issued_later scenario rows row _ i = tt
 
 module _ (sources : Sources) (ahead : Ahead) (words : ℕ → ℕ → ℕ × ℕ) (scenario : Scenario) (route : Route) (start : BeginInPlace sources scenario.groups) (seats : HasSeats ahead scenario route) (asks_are : AsksAre sources scenario) where
   abbrev bases : Rows → List Base
