@@ -73,9 +73,9 @@ def cuts(ring):
 
 
 def has_subcommand(*words):
-    """Tries whether the usage line of a program names the subcommand."""
+    """Tries whether the usage line of a program, or the help of the script, names the subcommand."""
     usage = subprocess.run(
-        [*words, "explain", "?"], stdin=subprocess.DEVNULL, capture_output=True, check=False
+        [*words, "help"], stdin=subprocess.DEVNULL, capture_output=True, check=False
     )
     return b"scatter explain" in usage.stdout
 
