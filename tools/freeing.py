@@ -90,6 +90,7 @@ def told(facts, trial, client):
     """The steps, or None, and what there is to say of them."""
     steps, tried = freed(facts, trial, client)
     if steps is None:
-        return None, [f"none of {tried} tries frees it: up to {MOST_TICKS} ticks of each living node"]
+        last = f"up to {MOST_TICKS} ticks of each living node"
+        return None, [f"none of {tried} tries frees it: {last}"]
     head = "these lines behind the schedule free it, as tried:"
     return steps, [head, *(f"  {line}" for line in lines_of(steps))]

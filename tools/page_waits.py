@@ -1,15 +1,20 @@
 """What the requests without an answer and the open orders of a page wait for, and rows' lines."""
 
-import explained
 import freeing
 import schedules
 import waits
 
 
+def program_of(journal):
+    """The program that is asked of a journal, looked for once."""
+    journal.program = schedules.answering(journal.program)
+    return journal.program
+
+
 def lines_of_rows(journal):
     """The line of the scenario that made each row; 0 where that is not known."""
     try:
-        found = schedules.Walk(journal, journal.program or explained.SCRIPT).line_of_rows()
+        found = schedules.Walk(journal, program_of(journal)).line_of_rows()
     except schedules.Unplayed:
         found = {}
     return [found.get(row.number, 0) for row in journal.rows]
@@ -17,9 +22,8 @@ def lines_of_rows(journal):
 
 def with_tries(facts, wanted, client, lines):
     """The lines, and behind them which lines of a schedule would free it."""
-    program = facts.journal.program or explained.SCRIPT
     try:
-        trial = freeing.Trial(facts.journal, program, wanted)
+        trial = freeing.Trial(facts.journal, program_of(facts.journal), wanted)
         return [*lines, *freeing.told(facts, trial, client)[1]]
     except schedules.Unplayed as fault:
         return [*lines, f"nothing was tried: {fault}"]
