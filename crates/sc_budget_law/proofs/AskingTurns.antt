@@ -3,8 +3,7 @@ use Rattle.std.proofs.Common.{◌≡◌, ℕ, zero, suc, ◌≤◌, eqb, true, f
 use Rattle.std.specs.Option.{option_map}
 use Rattle.std.proofs.lemmas.Bool.{cases_eq, both_ways, eq-eqb}
 use Rattle.sc_base.specs.Definitions.{Among, Each, client_actor}
-use Rattle.sc_node_table.specs.Values.{Op, OrderLine, Mail, Seat, Event, Deliver, Tick, Go, Crash, Drop, Again, Got, Row, Node}
-use Rattle.sc_actor.specs.declared.rows.Event.TheVariants.{Told}
+use Rattle.sc_node_table.specs.Values.{Op, OrderLine, Mail, Seat, Event, Deliver, Go, Got, Row, Node}
 use Rattle.sc_actor.specs.declared.rows.Input.TheVariants.{Go as GoInput}
 use Rattle.sc_actor.specs.Definitions.{mails, value, acted, input_of, System, row_of, has_gone, waiting, kth}
 use Rattle.sc_actor.proofs.Lemmas.{value-snoc}

@@ -1,6 +1,6 @@
 -- As more requests are begun, what is plain stays so.
 use Rattle.std.proofs.Common.{ℕ, List, inl, inr}
-use Rattle.sc_node_table.specs.Values.{Op, Command, Noop, Call, Join, Leave, Split, Begin, Prepared, RecordVote, GiveUp, Finish, Watched, RecordWatch, AnswerBody, Value, NotLeader, NotMine, Gone, Stale, Mail, MailBody, Request, Answer, Prepare, Promise, Accept, Accepted, Nack, Learn, Ask, Install, TxPrepare, TxVote, TxOutcome, TxElsewhere, TxWatch, TxWatched, Told, Flight}
+use Rattle.sc_node_table.specs.Values.{Op, Command, Call, AnswerBody, Value, NotLeader, NotMine, Gone, Stale, Mail, MailBody, Request, Answer, Accept, Accepted, Learn, Flight}
 use Rattle.sc_paxos_words.proofs.Lemmas.{Each-weaker}
 use Rattle.sc_machine_table.specs.Definitions.{Group}
 use Rattle.sc_node_table.specs.Definitions.{NodeState, ReplicaState}

@@ -5,8 +5,7 @@ use Rattle.std.specs.Option.{option_map}
 use Rattle.std.proofs.lemmas.Bool.{cases_eq, both_ways, eq-eqb, or_right}
 use Rattle.std.proofs.lemmas.List.Folds.{list_any-append}
 use Rattle.sc_base.specs.Definitions.{Among, Each, client_actor, is_member}
-use Rattle.sc_node_table.specs.Values.{Draw, Op, OrderLine, Mail, MailBody, Request, Answer, Prepare, Promise, Accept, Accepted, Nack, Learn, Ask, Install, TxPrepare, TxVote, TxOutcome, TxElsewhere, TxWatch, TxWatched, Told as ToldMail, Seat, Row, Event, Deliver, Tick, Go, Crash, Drop, Again, Got, Client}
-use Rattle.sc_actor.specs.declared.rows.Event.TheVariants.{Told}
+use Rattle.sc_node_table.specs.Values.{Draw, Op, OrderLine, Mail, MailBody, Request, Accept, Accepted, Learn, Seat, Row, Event, Deliver, Go, Got, Client}
 use Rattle.sc_actor.specs.declared.rows.Input.TheVariants.{Go as GoInput}
 use Rattle.sc_actor.specs.Definitions.{mails, is_delivery, value, acted, input_of, System, row_of, has_gone, is_go, waiting, kth}
 use Rattle.sc_actor.proofs.Lemmas.{value-snoc}

@@ -2,7 +2,7 @@
 use Rattle.std.proofs.Common.{◌≡◌, ℕ, zero, suc, ◌+◌, true, false, cond, List, [], ◌∷◌, ◌++◌, map, drop, Some, inl, inr, refl, sym, ◌∙◌, ap, subst}
 use Rattle.std.proofs.lemmas.Bool.{cases_Bool, cases_eq, cond-true, cond-false, both_ways}
 use Rattle.sc_base.specs.Definitions.{Among, Each, same_draw, is_member}
-use Rattle.sc_node_table.specs.Values.{Draw, OrderLine, Mail, MailBody, Request, Answer, Prepare, Promise, Accept, Accepted, Nack, Learn, Ask, Install, TxPrepare, TxVote, TxOutcome, TxElsewhere, TxWatch, TxWatched, Told, Row, Node}
+use Rattle.sc_node_table.specs.Values.{Draw, OrderLine, Mail, MailBody, Request, Accept, Accepted, Learn, Row, Node}
 use Rattle.sc_base.proofs.Lemmas.{draw_is, same_name}
 use Rattle.sc_actor.specs.Definitions.{is_delivery, value}
 use Rattle.sc_node_table.specs.Definitions.{NodeState, replica_of, is_node, ReplicaState, next, numbers_from}

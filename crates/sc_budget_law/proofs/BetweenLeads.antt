@@ -5,7 +5,7 @@ use Rattle.std.specs.Option.{option_map}
 use Rattle.std.specs.List.{filter}
 use Rattle.std.proofs.lemmas.Bool.{cases_lt, cond_both, cond-true, cond-false, eqb-true, eq-eqb, ne_eqb}
 use Rattle.sc_base.specs.Definitions.{Among, Each, same_draw, is_member}
-use Rattle.sc_node_table.specs.Values.{Draw, Command, Mail, MailBody, Request, Answer, Prepare, Promise, Accept, Accepted, Nack, Learn, Ask, Install, TxPrepare, TxVote, TxOutcome, TxElsewhere, TxWatch, TxWatched, Told, Flight}
+use Rattle.sc_node_table.specs.Values.{Draw, Command, Mail, MailBody, Answer, Accept, Accepted, Learn, Flight}
 use Rattle.sc_base.proofs.Lemmas.{same_name}
 use Rattle.sc_paxos_words.specs.Definitions.{flight_at, kept_voters}
 use Rattle.sc_paxos_words.proofs.Lemmas.{Each-among, find_found}

@@ -3,7 +3,7 @@ use Rattle.std.proofs.Common.{◌≡◌, ℕ, ◌+◌, ◌-◌, ◌*◌, ◌≤�
 use Rattle.std.specs.List.{sum_by}
 use Rattle.std.proofs.lemmas.List.Sums.{sum_by-cons}
 use Rattle.sc_base.specs.Definitions.{Each}
-use Rattle.sc_node_table.specs.Values.{Op, Get, Put, Del, Add, Cas, Command, Call, Noop, Join, Leave, Split, Begin, Prepared, RecordVote, GiveUp, Finish, Watched, RecordWatch, OrderLine, Value, NotLeader, NotMine, Gone, Stale, Mail, MailBody, Request, Answer, Prepare, Promise, Accept, Accepted, Nack, Learn, Ask, Install, TxPrepare, TxVote, TxOutcome, TxElsewhere, TxWatch, TxWatched, Told as ToldMail, Row}
+use Rattle.sc_node_table.specs.Values.{Op, Get, Put, Del, Add, Cas, Command, Call, OrderLine, Value, NotLeader, NotMine, Gone, Stale, Mail, MailBody, Request, Answer, Accept, Accepted, Learn, Row}
 use Rattle.sc_cmd.specs.Definitions.{op_weight, value_weight, command_weight}
 use Rattle.sc_mail.specs.Definitions.{body_weight}
 use Rattle.sc_actor.specs.Definitions.{mail_bytes, row_bytes, journal_bytes, mails}

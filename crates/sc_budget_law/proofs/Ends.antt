@@ -1,7 +1,7 @@
 -- No line of a plain scenario at its budget is cut off with mail pending.
 use Rattle.std.proofs.Common.{ℕ, ◌+◌, ◌≤◌, List, [], ◌∷◌, map, arith}
 use Rattle.sc_base.specs.Definitions.{Each}
-use Rattle.sc_node_table.specs.Values.{OrderLine, Value, NotLeader, NotMine, Gone, Stale, Mail, MailBody, Request, Answer, Prepare, Promise, Accept, Accepted, Nack, Learn, Ask, Install, TxPrepare, TxVote, TxOutcome, TxElsewhere, TxWatch, TxWatched, Told as ToldMail}
+use Rattle.sc_node_table.specs.Values.{OrderLine, Value, NotLeader, NotMine, Gone, Stale, Mail, MailBody, Answer}
 use Rattle.sc_actor.specs.Definitions.{mails, System}
 use Rattle.sc_paxos_words.proofs.Lemmas.{Each-from}
 use Rattle.sc_node_table.specs.Definitions.{last_slot}

@@ -5,7 +5,7 @@ use Rattle.std.specs.List.{list_any}
 use Rattle.std.specs.Option.{option_map}
 use Rattle.std.proofs.lemmas.Bool.{cases_lt, cases_eq, le-leb, lt-leb, lt-ltb, le-ltb, eq-eqb, ne_eqb, and_from, and_left, and_right, or_parts, or_from}
 use Rattle.sc_base.specs.Definitions.{Among, Each, client_actor, is_member}
-use Rattle.sc_node_table.specs.Values.{Op, Command, Call, Noop, Join, Leave, Split, Begin, Prepared, RecordVote, GiveUp, Finish, Watched, RecordWatch, AnswerBody, Mail, MailBody, Answer, Accept, Learn, Flight}
+use Rattle.sc_node_table.specs.Values.{Op, Command, Call, AnswerBody, Mail, MailBody, Answer, Accept, Learn, Flight}
 use Rattle.sc_paxos_words.specs.Definitions.{flight_at}
 use Rattle.sc_paxos_words.proofs.Lemmas.{Each-among, find_found}
 use Rattle.sc_node_table.specs.Definitions.{is_act, ReplicaState, Place, next, flying, either, taken_at, listed, taken_from, at_slot, numbers_from}

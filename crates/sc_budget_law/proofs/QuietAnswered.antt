@@ -16,7 +16,7 @@ use Rattle.sc_scenario.specs.Definitions.{ValidScenariosAreBounded}
 use Rattle.sc_scenario.specs.declared.scenarios.Asks.{Asks}
 use Rattle.sc_scenario.specs.declared.scenarios.Scenario.{Scenario}
 use Rattle.sc_scenario.specs.declared.scenarios.SchedLine.{SchedLine}
-use Rattle.sc_scenario.specs.declared.scenarios.SchedLine.TheVariants.{Go, Deliver, Drop, Again, Tick, Crash, Told, Settle, Free, Storm}
+use Rattle.sc_scenario.specs.declared.scenarios.SchedLine.TheVariants.{Go, Settle, Free}
 use Rattle.sc_sound.specs.Definitions.{Player, player_table, node_seat, client_seat, route_of, births, line_of, schedule, system_of, as_nodes, replies_of}
 use Rattle.sc_orderly_law.specs.Definitions.{IsPlainLine, rest, is_born, owed_at_birth}
 use Rattle.sc_orderly_law.proofs.Lemmas.{orderly, by_rows, IsManyLine, was_quiet, tidy, quiet-empty, is_born-from, seat_found}

@@ -2,8 +2,7 @@
 use Rattle.std.proofs.Common.{◌≡◌, ℕ, ◌+◌, ◌≤◌, eqb, true, false, List, [], ◌∷◌, ◌++◌, drop, find, Some, None, inl, inr, refl, sym, ◌∙◌, ap, subst, arith}
 use Rattle.std.proofs.lemmas.Bool.{cases_eq, both_ways}
 use Rattle.sc_base.specs.Definitions.{Among, client_actor, is_member}
-use Rattle.sc_node_table.specs.Values.{Draw, OrderLine, AnswerBody, Value, NotLeader, NotMine, Gone, Stale, Mail, Answer, Seat, Event, Deliver, Tick, Go, Crash, Drop, Again, Got, Row, Node, Client}
-use Rattle.sc_actor.specs.declared.rows.Event.TheVariants.{Told}
+use Rattle.sc_node_table.specs.Values.{Draw, OrderLine, AnswerBody, Value, NotLeader, NotMine, Gone, Stale, Mail, Answer, Seat, Event, Deliver, Go, Got, Row, Node, Client}
 use Rattle.sc_actor.specs.declared.rows.Input.TheVariants.{Go as GoInput}
 use Rattle.sc_actor.specs.Definitions.{mails, value, acted, input_of, System, row_of, has_gone, waiting, kth}
 use Rattle.sc_actor.proofs.Lemmas.{mails-snoc}

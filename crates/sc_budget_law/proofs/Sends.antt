@@ -8,7 +8,7 @@ use Rattle.std.proofs.lemmas.List.Sums.{sum_by_push}
 use Rattle.std.proofs.Math.Nat.{suc-mul}
 use Rattle.sc_base.proofs.Lemmas.{same_name, AllPairs-head, AllPairs-tail}
 use Rattle.sc_base.specs.Definitions.{Among, Each, same_draw, is_member, IsRoster}
-use Rattle.sc_node_table.specs.Values.{Draw, Command, Mail, MailBody, Request, Answer, Prepare, Promise, Accept, Accepted, Nack, Learn, Ask, Install, TxPrepare, TxVote, TxOutcome, TxElsewhere, TxWatch, TxWatched, Told}
+use Rattle.sc_node_table.specs.Values.{Draw, Command, Mail, MailBody, Learn}
 use Rattle.sc_paxos_words.proofs.Lemmas.{Each-push, Each-from_All}
 use Rattle.sc_node_table.specs.Definitions.{sent, sent_all, sent_others, numbers_from}
 use Rattle.sc_budget_law.specs.Definitions.{body_owes, mail_owes}

@@ -3,7 +3,7 @@ use Rattle.std.proofs.Common.{◌≡◌, ℕ, suc, zero, ◌+◌, ◌<◌, ◌�
 use Rattle.std.proofs.lemmas.Bool.{cases_eq, cond-true, cond-false, eq-eqb, ne_eqb}
 use Rattle.sc_base.specs.Definitions.{Each, is_member}
 use Rattle.sc_node_table.specs.Definitions.{listed}
-use Rattle.sc_following_law.specs.Definitions.{Dated, marks_in, IsLow, AreLow, IsDatedRow, Mark, Asks, Votes, Tells, Installs, Prepares, Promises, next_by, Course, Progress, Sets, members_at, IsKnown, IsCount, IsOffer, told_from}
+use Rattle.sc_following_law.specs.Definitions.{Dated, marks_in, IsLow, AreLow, IsDatedRow, Mark, Asks, Tells, Installs, Prepares, next_by, Course, Progress, Sets, members_at, IsKnown, IsCount, IsOffer, told_from}
 use Rattle.sc_calm_answers_law.specs.Definitions.{IsAbove, top_by, AreAbove}
 
 -- ---- lists

@@ -3,7 +3,7 @@ use Rattle.std.proofs.Common.{◌≡◌, ℕ, eqb, true, true≢false, List, [],
 use Rattle.std.specs.Option.{option_map}
 use Rattle.std.proofs.lemmas.Bool.{cases_Bool, cond-true, cond-false}
 use Rattle.sc_base.specs.Definitions.{Among}
-use Rattle.sc_node_table.specs.Values.{Command, Noop, Call, Join, Leave, Split, Begin, Prepared, RecordVote, GiveUp, Finish, Watched, RecordWatch, Flight}
+use Rattle.sc_node_table.specs.Values.{Command, Noop, Call, Flight}
 use Rattle.sc_paxos_words.specs.Definitions.{flight_at}
 use Rattle.sc_paxos_words.proofs.Lemmas.{find_found}
 use Rattle.sc_node_table.specs.Definitions.{is_act, ReplicaState, listed, at_slot}

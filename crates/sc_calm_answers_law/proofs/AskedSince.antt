@@ -4,7 +4,7 @@ use Rattle.std.proofs.lemmas.Bool.{cases_Bool, both_ways}
 use Rattle.std.proofs.lemmas.List.Sums.{sum_by-append}
 use Rattle.std.proofs.lemmas.Option.{none-some}
 use Rattle.sc_base.specs.Definitions.{Among, Each}
-use Rattle.sc_node_table.specs.Values.{Ballot, Draw, Command, Noop, Call, Join, Leave, Split, Begin, Prepared, RecordVote, GiveUp, Finish, Watched, RecordWatch, Base, Core, Route, OrderLine, Mail, Seat, Event, Row, Flight}
+use Rattle.sc_node_table.specs.Values.{Ballot, Draw, Command, Noop, Call, Base, Core, Route, OrderLine, Mail, Seat, Event, Row, Flight}
 use Rattle.sc_actor.specs.Definitions.{mails, value, System, row_of, is_quiet}
 use Rattle.sc_orderly_law.specs.Definitions.{IsInOrder, is_told, orders, AreInTime}
 use Rattle.sc_orderly_law.proofs.Lemmas.{last_in_time}

@@ -1,7 +1,7 @@
 -- What a leader saw after what it takes: no later ballot, unless it is its own then.
 use Rattle.std.proofs.Common.{◌≡◌, ℕ, [], Some, None, ◌⊎◌, inl, inr, refl, sym, ◌∙◌, ap, subst}
 use Rattle.sc_base.specs.Definitions.{Each, Drawer}
-use Rattle.sc_node_table.specs.Values.{Ballot, Command, OrderLine, MailBody, Request, Answer, Prepare, Promise, Accept, Accepted, Nack, Learn, Ask, Install, TxPrepare, TxVote, TxOutcome, TxElsewhere, TxWatch, TxWatched, Told, Report}
+use Rattle.sc_node_table.specs.Values.{Ballot, Command, OrderLine, MailBody, Prepare, Promise, Accept, Nack, Learn, Install, Report}
 use Rattle.sc_paxos_words.specs.Definitions.{IsAtLeast}
 use Rattle.sc_paxos_words.proofs.Lemmas.{at_least_itself}
 use Rattle.sc_node_table.specs.Definitions.{ordered_row, ReplicaState, mailed, at_slot}

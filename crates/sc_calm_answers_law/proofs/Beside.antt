@@ -2,7 +2,7 @@
 use Rattle.std.proofs.Common.{List, None, Some, [], ap, false, inl, inr, is_some, not, refl, subst, sym, true, true≢false, ℕ, ◌&&◌, ◌||◌, ◌∙◌, ◌≡◌}
 use Rattle.std.proofs.lemmas.Bool.{cases_Bool, cond-false, cond-true, or_right}
 use Rattle.sc_actor.specs.Definitions.{mails}
-use Rattle.sc_node_table.specs.Values.{Seat, Event, Deliver, Go, Ballot, Draw, Command, Base, OrderLine, OrderRefusal, Mail, MailBody, Accept, Accepted, Answer, Ask, Install, Learn, Nack, Prepare, Promise, Request, TxElsewhere, TxOutcome, TxPrepare, TxVote, TxWatch, TxWatched, Node, Told as ToldMail}
+use Rattle.sc_node_table.specs.Values.{Seat, Event, Deliver, Go, Ballot, Draw, Command, Base, OrderLine, OrderRefusal, Mail, MailBody, Accept, Accepted, Install, Learn, Nack, Prepare, Promise, Request, TxPrepare, TxWatch, Node}
 use Rattle.sc_actor.specs.declared.rows.Event.TheVariants.{Told}
 use Rattle.sc_base.specs.Definitions.{Drawer, next_name, same_draw}
 use Rattle.sc_calm_answers_law.proofs.Leading.{one}

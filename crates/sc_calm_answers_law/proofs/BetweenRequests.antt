@@ -3,7 +3,7 @@ use Rattle.std.proofs.Common.{◌≡◌, ℕ, Bool, false, cond, ◌+◌, ◌≤
 use Rattle.std.proofs.lemmas.Option.{none-some}
 use Rattle.sc_base.proofs.Lemmas.{draw_is}
 use Rattle.sc_base.specs.Definitions.{Among, Each, same_draw}
-use Rattle.sc_node_table.specs.Values.{Draw, Op, Base, OrderLine, Mail, MailBody, Request, Answer, Prepare, Promise, Accept, Accepted, Nack, Learn, Ask, Install, TxPrepare, TxVote, TxOutcome, TxElsewhere, TxWatch, TxWatched, Told, Seat, Event, Row}
+use Rattle.sc_node_table.specs.Values.{Draw, Op, Base, OrderLine, Mail, MailBody, Request, Answer, Accept, Accepted, Learn, Seat, Event, Row}
 use Rattle.sc_actor.specs.Definitions.{System, row_of}
 use Rattle.sc_orderly_law.specs.Definitions.{IsInOrder, IsOrderly, IsTidy, rest, AreInTime}
 use Rattle.sc_orderly_law.proofs.Lemmas.{in_time_tidy}

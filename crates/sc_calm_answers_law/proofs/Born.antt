@@ -20,7 +20,7 @@ use Rattle.sc_whole_law.specs.Definitions.{BeginsWell, OrdersAreAllowed, stories
 use Rattle.sc_whole_law.proofs.Lemmas.{parties_are_apart, merges_fit, goes_on_from, speaks, members_stay_rosters, Holds}
 use Rattle.sc_calm_rows_law.specs.Definitions.{IsSeat, made_children, AreAsBegun}
 use Rattle.sc_calm_logs_law.proofs.Lemmas.{whole, front}
-pub use Rattle.sc_calm_logs_law.proofs.Bringing.{child_in}
+pub use Rattle.sc_calm_logs_law.proofs.ChildrenIn.{child_in}
 
 -- a replica's part of a row begins
 start : (ahead : Ahead) (base : Base) (made : Command → Type 0) (heard : MailBody → Type 0) (me : ℕ) (before : Steps) (lawful : IsLawfulHistory (rule ahead base) (first ahead base) before) (requested : OffersMade made before) (r : ReplicaState) → IsReplica ahead base made before me r

@@ -4,7 +4,7 @@ use Rattle.std.specs.List.{list_any}
 use Rattle.std.proofs.Math.Nat.{mul-le-mul}
 use Rattle.std.proofs.lemmas.Bool.{cases_lt}
 use Rattle.sc_base.specs.Definitions.{Among, Each}
-use Rattle.sc_node_table.specs.Values.{Base, OrderLine, Mail, MailBody, Request, Answer, Prepare, Promise, Accept, Accepted, Nack, Learn, Ask, Install, TxPrepare, TxVote, TxOutcome, TxElsewhere, TxWatch, TxWatched, Told, Node, Client, Seat, Row}
+use Rattle.sc_node_table.specs.Values.{Base, OrderLine, Mail, MailBody, Told, Node, Client, Seat, Row}
 use Rattle.sc_actor.specs.Definitions.{mails, copies, System, numbers_of, is_delivery, is_quiet}
 use Rattle.sc_orderly_law.specs.Definitions.{deliveries, orders, is_born, mail_with, HasRoom, under_way, AreInTime, AreSpaced, Nothing, IsMeasure, orders_given}
 use Rattle.sc_orderly_law.proofs.Given.{few_told, spaced_are_calm}

@@ -3,7 +3,7 @@ use Rattle.std.proofs.Common.{◌≡◌, ◌⊎◌, ℕ, eqb, Bool, true, false,
 use Rattle.std.specs.List.{find, list_any}
 use Rattle.std.proofs.lemmas.Bool.{cases_Bool, eqb-true}
 use Rattle.sc_base.specs.Definitions.{Each, same_draw}
-use Rattle.sc_node_table.specs.Values.{Draw, Base, Mail, MailBody, Request, Answer, Prepare, Promise, Accept, Accepted, Nack, Learn, Ask, Install, TxPrepare, TxVote, TxOutcome, TxElsewhere, TxWatch, TxWatched, Told as ToldMail, Seat}
+use Rattle.sc_node_table.specs.Values.{Draw, Base, Mail, MailBody, Prepare, Promise, Accept, Accepted, Learn, Install, Seat}
 use Rattle.sc_base.proofs.Lemmas.{draw_is}
 use Rattle.sc_orderly_law.specs.Definitions.{is_born, rest, AreInTime}
 use Rattle.sc_paxos_words.proofs.Lemmas.{Each-among, Each-weaker, find_found}

@@ -1,7 +1,7 @@
 -- By a vote a leader executes what adds a member alone, and keeps its ballot.
 use Rattle.std.proofs.Common.{◌≡◌, ℕ, ◌+◌, ◌≤◌, true, false, true≢false, List, [], ◌∷◌, Option, Some, None, ◌⊎◌, inl, inr, refl, sym, ◌∙◌, ap, subst, arith}
 use Rattle.std.proofs.lemmas.Bool.{cases_eq, cases_lt}
-use Rattle.sc_node_table.specs.Values.{Ballot, Command, Noop, Call, Join, Leave, Split, Begin, Prepared, RecordVote, GiveUp, Finish, Watched, RecordWatch, Core, Route, Accepted}
+use Rattle.sc_node_table.specs.Values.{Ballot, Command, Noop, Call, Core, Route, Accepted}
 use Rattle.sc_base.specs.Definitions.{IsRoster, is_member}
 use Rattle.sc_node_table.specs.Definitions.{entered, executed_one, next_child, next_ready, ending, executed_ready, executed, is_act, pumped, ReplicaState, Place, Executed, childless, name_of, next, flying, mailed, at_slot}
 use Rattle.sc_law_lemmas.specs.Definitions.{IfThere}

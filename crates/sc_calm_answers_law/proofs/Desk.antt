@@ -1,7 +1,7 @@
 -- Mail that has no mark for any group is nothing to requests.
 use Rattle.std.proofs.Common.{◌≡◌, ℕ, cond, true, false, Bool, List, [], ◌∷◌, ◌++◌, Option, Some, None, refl, sym, ◌∙◌, ap}
 use Rattle.sc_base.specs.Definitions.{Each, same_draw}
-use Rattle.sc_node_table.specs.Values.{Draw, Mail, MailBody, Request, Answer, Prepare, Promise, Accept, Accepted, Nack, Learn, Ask, Install, TxPrepare, TxVote, TxOutcome, TxElsewhere, TxWatch, TxWatched, Told}
+use Rattle.sc_node_table.specs.Values.{Draw, Mail, MailBody, Accept, Accepted, Learn}
 use Rattle.sc_node_table.specs.Definitions.{listed}
 use Rattle.sc_following_law.specs.Definitions.{Mark, marks_of, mark_of}
 use Rattle.sc_budget_law.specs.Definitions.{Mark as AskMark, Other, mark, mark_of as ask_mark}

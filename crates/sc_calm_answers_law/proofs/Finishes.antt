@@ -2,7 +2,7 @@
 use Rattle.std.proofs.Common.{◌≡◌, ℕ, Bool, List, [], ◌∷◌, Some, refl, sym, ◌∙◌, ap, subst}
 use Rattle.std.proofs.lemmas.Bool.{cond-true}
 use Rattle.sc_base.specs.Definitions.{Among, same_draw}
-use Rattle.sc_node_table.specs.Values.{Draw, Seat, Offer, Watch, Command, Noop, Call, Join, Leave, Split, Begin, Prepared, RecordVote, GiveUp, Finish, Watched, RecordWatch, Base, Free, Promised, Watching, NoEffect, Outcome, Flight}
+use Rattle.sc_node_table.specs.Values.{Draw, Seat, Offer, Watch, Command, Split, Begin, Prepared, RecordVote, Finish, Watched, RecordWatch, Base, Free, Promised, Watching, NoEffect, Outcome, Flight}
 use Rattle.sc_base.proofs.Lemmas.{same_name}
 use Rattle.sc_actor.proofs.Lemmas.{lawful-prefix}
 use Rattle.sc_machine_table.specs.Definitions.{finished, participant_after, settled_in, watch_ended, Group, state_after, applied, frozen_of}

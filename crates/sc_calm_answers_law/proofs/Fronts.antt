@@ -2,7 +2,7 @@
 use Rattle.std.proofs.Common.{◌≡◌, ℕ, false, true≢false, [], inl, inr, refl, ap, arith}
 use Rattle.std.proofs.lemmas.Bool.{cases_Bool}
 use Rattle.sc_base.specs.Definitions.{Among}
-use Rattle.sc_node_table.specs.Values.{Draw, Base, OrderLine, Mail, Event, Deliver, Tick, Go, Crash, Drop, Again}
+use Rattle.sc_node_table.specs.Values.{Draw, Base, OrderLine, Mail, Event, Deliver, Go}
 use Rattle.sc_actor.specs.Definitions.{System}
 use Rattle.sc_actor.specs.declared.rows.Event.TheVariants.{Told}
 use Rattle.sc_orderly_law.specs.Definitions.{IsInOrder, IsCalmEvent, is_born, is_told}

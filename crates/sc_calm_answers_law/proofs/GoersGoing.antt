@@ -2,7 +2,7 @@
 use Rattle.std.proofs.Common.{◌≡◌, ◌⊎◌, ℕ, true, false, true≢false, List, [], ◌∷◌, ◌++◌, Option, Some, None, is_some, inl, inr, refl, sym, ◌∙◌, ap, subst, arith, append_assoc}
 use Rattle.std.proofs.lemmas.Option.{none-some, same_Some}
 use Rattle.sc_base.specs.Definitions.{Among, Each}
-use Rattle.sc_node_table.specs.Values.{Draw, Seat, Deliver, Command, Noop, Call, Join, Leave, Split, Begin, Prepared, RecordVote, GiveUp, Finish, Watched, RecordWatch, Base, Route, Flight}
+use Rattle.sc_node_table.specs.Values.{Draw, Seat, Deliver, Command, Split, Begin, Base, Route, Flight}
 use Rattle.sc_actor.specs.Definitions.{row_of}
 use Rattle.sc_machine_table.specs.Definitions.{Group}
 use Rattle.sc_node_table.specs.Definitions.{Place, ReplicaState, born_replica, listed, next, slots_ahead}

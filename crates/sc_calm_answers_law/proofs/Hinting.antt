@@ -2,7 +2,7 @@
 use Rattle.std.proofs.Common.{◌≡◌, ℕ, Bool, true, false, true≢false, cond, List, [], ◌∷◌, ◌++◌, Option, Some, None, inl, inr, refl, sym, ◌∙◌, ap, subst}
 use Rattle.std.proofs.lemmas.Bool.{cases_Bool}
 use Rattle.sc_base.specs.Definitions.{Among, Each, same_draw, least_of}
-use Rattle.sc_node_table.specs.Values.{Draw, Command, Noop, Call, Join, Leave, Split, Begin, Prepared, RecordVote, GiveUp, Finish, Watched, RecordWatch, Free, Frozen, Mail, MailBody, Accept, Accepted, Answer, Ask, Install, Learn, Nack, Prepare, Promise, Request, TxElsewhere, TxOutcome, TxPrepare, TxVote, TxWatch, TxWatched, Told as ToldMail}
+use Rattle.sc_node_table.specs.Values.{Draw, Command, Noop, Call, Join, Split, Begin, RecordVote, Free, Frozen, Mail, MailBody, Accept, TxElsewhere, TxOutcome, TxPrepare, TxVote, TxWatch, TxWatched}
 use Rattle.sc_base.proofs.Lemmas.{draw_is}
 use Rattle.sc_cmd.specs.Definitions.{is_alone, is_changed}
 use Rattle.sc_cmd.specs.declared.votes.Vote.TheVariants as Says

@@ -7,7 +7,7 @@ use Rattle.sc_actor.specs.Definitions.{row_of}
 use Rattle.sc_orderly_law.proofs.Lemmas.{last_in_time}
 use Rattle.sc_sound.specs.Definitions.{as_nodes, births, player_table}
 use Rattle.sc_calm_law.specs.Definitions.{players}
-use Rattle.sc_calm_orders_law.specs.Definitions.{errand_by, Elsewhere, Here, Unbound, Asks, Closes, ClosesBoth, IsAt, Ordered, Recorded, Replied, SentOn, Stage, Still, Weighs}
+use Rattle.sc_calm_orders_law.specs.Definitions.{errand_by, Elsewhere, Here, Unbound, Asks, IsAt, SentOn, Stage, Still}
 use Rattle.sc_calm_orders_law.proofs.Lemmas.{among-right}
 use Rattle.sc_calm_rows_law.specs.Definitions.{with_event}
 use Rattle.sc_calm_scenes_law.specs.Definitions.{StageAfter, left_after, scene_at}

@@ -2,7 +2,7 @@
 use Rattle.std.proofs.Common.{◌≡◌, ℕ, eqb, List, [], ◌∷◌, ◌++◌, map, find, Option, Some, None, inl, inr, refl, sym, subst, arith}
 use Rattle.std.specs.Option.{option_map}
 use Rattle.sc_base.specs.Definitions.{Each}
-use Rattle.sc_node_table.specs.Values.{Ballot, Draw, Command, OrderLine, Mail, MailBody, Request, Node, Client, Seat, Event, Deliver, Tick as TickEvent, Go, Crash, Drop, Again, Got, Row}
+use Rattle.sc_node_table.specs.Values.{Ballot, Draw, Command, OrderLine, Mail, MailBody, Request, Node, Client, Seat, Event, Deliver, Go, Got, Row}
 use Rattle.sc_actor.specs.declared.rows.Event.TheVariants.{Told}
 use Rattle.sc_actor.specs.declared.rows.Input.TheVariants.{Go as GoInput, Told as ToldInput}
 use Rattle.sc_actor.specs.Definitions.{mails, numbered, value, acted, row_of}

@@ -1,8 +1,7 @@
 -- While clients ask alone no errand is sent, to whomever.
 use Rattle.std.proofs.Common.{◌≡◌, ℕ, ◌≤◌, eqb, List, [], ◌∷◌, ◌++◌, find, Option, Some, None, inl, inr, refl, sym, ◌∙◌, ap, subst, append_assoc}
 use Rattle.sc_base.specs.Definitions.{Each}
-use Rattle.sc_node_table.specs.Values.{Draw, Base, OrderLine, Mail, MailBody, Request, Answer, Accept, Accepted, Learn, Client, Seat, Event, Deliver, Tick, Go, Crash, Drop, Again, Input, Got, Row}
-use Rattle.sc_actor.specs.declared.rows.Event.TheVariants.{Told}
+use Rattle.sc_node_table.specs.Values.{Draw, Base, OrderLine, Mail, MailBody, Request, Answer, Accept, Accepted, Learn, Client, Seat, Event, Deliver, Go, Input, Got, Row}
 use Rattle.sc_actor.specs.declared.rows.Input.TheVariants.{Go as GoInput}
 use Rattle.sc_actor.specs.Definitions.{mails, acted, input_of, row_of}
 use Rattle.sc_actor.proofs.Lemmas.{mails-snoc}

@@ -1,7 +1,7 @@
 -- Errands go to nodes after one row more, where an order is at a stage after it: one that it sends is under way then, and so for the node that is asked, or for one that leads.
 use Rattle.std.proofs.Common.{◌≡◌, ℕ, List, [], ◌∷◌, ◌++◌, ◌⊎◌, Some, None, inl, inr, refl, sym, ◌∙◌, ap, subst}
 use Rattle.sc_base.specs.Definitions.{Among, Each}
-use Rattle.sc_node_table.specs.Values.{Draw, OrderLine, Mail, MailBody, Request, Answer, Prepare, Promise, Accept, Accepted, Nack, Learn, Ask, Install, TxPrepare, TxVote, TxOutcome, TxElsewhere, TxWatch, TxWatched, Told, Seat, Row}
+use Rattle.sc_node_table.specs.Values.{Draw, OrderLine, Mail, MailBody, TxPrepare, TxVote, TxOutcome, TxElsewhere, TxWatch, TxWatched, Seat, Row}
 use Rattle.sc_actor.specs.Definitions.{mails, numbers_of}
 use Rattle.sc_actor.proofs.Lemmas.{mails-snoc}
 use Rattle.sc_paxos_words.proofs.Lemmas.{Each-among, Each-append, Each-from, find_found}

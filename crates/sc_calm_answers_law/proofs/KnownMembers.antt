@@ -14,8 +14,8 @@ use Rattle.sc_whole_law.specs.Definitions.{BeginsWell, section_op, OrdersAreAllo
 use Rattle.sc_whole_law.proofs.Lemmas.{orders_allowed}
 use Rattle.sc_calm_logs_law.specs.Definitions.{logged_sets, IsGroupOf}
 use Rattle.sc_calm_answers_law.specs.Definitions.{MembersAreHome}
-use Rattle.sc_calm_answers_law.proofs.HomeNodes.{BringsNodes, HasNodes, slots_have_nodes}
-use Rattle.sc_calm_answers_law.proofs.HomeBringing.{begins_nodes, brings_nodes}
+use Rattle.sc_calm_logs_law.proofs.Nodes.{BringsNodes, HasNodes, slots_have_nodes}
+use Rattle.sc_calm_logs_law.proofs.Bringing.{begins_nodes, brings_nodes}
 
 module _ (bounded : ValidScenariosAreBounded) (begin : ValidScenariosBeginWell) (allowed : TakenOrdersAreAllowed) (wishes : TakenWishesAreAllowed) (positions : WishesAreAtPositions) (free : OtherNamesAreFree) where
   module _ (ahead : Ahead) (words : ℕ → ℕ → ℕ × ℕ) (scenario : Scenario) (journal : Rows) (base : Base) (group : IsGroupOf ahead words scenario journal base) where

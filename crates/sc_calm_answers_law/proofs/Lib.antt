@@ -68,10 +68,6 @@ mod Heard
 pub mod Hinting
 pub mod Hintless
 pub mod Hints
-pub mod HomeBearing
-pub mod HomeBringing
-pub mod HomeNaming
-pub mod HomeNodes
 mod Homeward
 mod HomewardAsking
 mod HomewardErrands

@@ -2,9 +2,8 @@
 use Rattle.std.proofs.Common.{◌≡◌, ℕ, ◌≤◌, eqb, [], ◌∷◌, ◌++◌, find, Some, None, inl, inr, refl, sym, ◌∙◌, ap, subst, arith, append-nil}
 use Rattle.std.proofs.lemmas.Bool.{cases_eq, both_ways}
 use Rattle.sc_base.specs.Definitions.{Among, client_actor}
-use Rattle.sc_node_table.specs.Values.{Draw, Base, OrderLine, Mail, Client, Seat, Event, Deliver, Tick, Go, Crash, Drop, Again, Got, Row}
+use Rattle.sc_node_table.specs.Values.{Draw, Base, OrderLine, Mail, Client, Seat, Event, Deliver, Tick, Go, Got, Row}
 use Rattle.sc_lookup.specs.declared.ways.Way.{Way}
-use Rattle.sc_actor.specs.declared.rows.Event.TheVariants.{Told}
 use Rattle.sc_actor.specs.declared.rows.Input.TheVariants.{Go as GoInput}
 use Rattle.sc_actor.specs.Definitions.{value, System, row_of, has_gone}
 use Rattle.sc_client_table.specs.Definitions.{Client as ClientState, table}

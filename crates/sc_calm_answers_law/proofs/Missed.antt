@@ -1,7 +1,7 @@
 -- A node without replica of a group, and the children that it makes.
 use Rattle.std.proofs.Common.{List, None, Some, [], ap, append-nil, arith, eqb, inl, inr, refl, subst, sym, true, ℕ, ◌∙◌, ◌≡◌, ◌≤◌}
 use Rattle.std.proofs.lemmas.Bool.{cases_Bool, eqb-true}
-use Rattle.sc_node_table.specs.Values.{Seat, Deliver, Draw, Base, Mail, MailBody, Accept, Accepted, Answer, Ask, Install, Learn, Nack, Prepare, Promise, Request, TxElsewhere, TxOutcome, TxPrepare, TxVote, TxWatch, TxWatched, Told as ToldMail}
+use Rattle.sc_node_table.specs.Values.{Seat, Deliver, Draw, Base, Mail, MailBody, Install, TxPrepare, TxVote, TxWatch}
 use Rattle.sc_calm_answers_law.proofs.Leading.{gives, one}
 use Rattle.sc_calm_answers_law.proofs.Newest.{newest_after, newest_before, unled}
 use Rattle.sc_calm_answers_law.proofs.Posted.{offers_own, watches_own}

@@ -1,6 +1,6 @@
 -- What the entries of an order make of a group: by one that begins a transaction it asks its successor, by one that hears it asks the participant's, and by a Yes it is bound as it was.
 use Rattle.std.proofs.Common.{◌≡◌, ℕ, Bool, true, false, Option, Some, None, refl, sym, ◌∙◌, ap, subst}
-use Rattle.sc_node_table.specs.Values.{Draw, Body, Offer, Watch, Command, Noop, Call, Join, Leave, Split, Begin, Prepared, RecordVote, GiveUp, Finish, Watched, RecordWatch, Core, Free, Coordinating, Promised, Watching, Effect, OrderRefusal, Heard, No}
+use Rattle.sc_node_table.specs.Values.{Draw, Body, Offer, Watch, Command, Split, Begin, RecordVote, GiveUp, RecordWatch, Core, Free, Coordinating, Promised, Watching, Effect, OrderRefusal, Heard, No}
 use Rattle.sc_cmd.specs.declared.bodies.Body.TheVariants as At
 use Rattle.sc_machine_table.specs.Definitions.{Group, applied, begin_refused, refusal_of, refused_in, split_refused, locked_in, begun_group, decided_group, heard_group, vote_of, watch_vote_of}
 use Rattle.sc_whole_law.proofs.Lemmas.{EndsIt, comes, voting_group}

@@ -1,7 +1,7 @@
 -- Each delivery while an order is under way keeps all that holds then, and finds what keeps the journal calm.
 use Rattle.std.proofs.Common.{◌≡◌, ◌⊎◌, ◌≤◌, ℕ, true, false, length, List, [], ◌∷◌, ◌++◌, Option, Some, None, inl, inr, refl, sym, ◌∙◌, ap, subst, arith, append_assoc}
 use Rattle.sc_base.specs.Definitions.{Among, Each}
-use Rattle.sc_node_table.specs.Values.{Draw, Command, Base, OrderLine, Mail, MailBody, Request, Answer, Prepare, Promise, Accept, Accepted, Nack, Learn, Ask, Install, TxPrepare, TxVote, TxOutcome, TxElsewhere, TxWatch, TxWatched, Told, Node, Client, Seat, Deliver, Row, Flight, Op}
+use Rattle.sc_node_table.specs.Values.{Draw, Command, Base, OrderLine, Mail, MailBody, Request, TxPrepare, TxVote, TxOutcome, TxElsewhere, TxWatch, TxWatched, Node, Client, Seat, Deliver, Row, Flight, Op}
 use Rattle.sc_actor.specs.Definitions.{mails, numbered, value, System, row_of}
 use Rattle.sc_orderly_law.specs.Definitions.{is_told, AreInTime}
 use Rattle.sc_orderly_law.proofs.Lemmas.{count_push, is_born-from}

@@ -2,7 +2,7 @@
 use Rattle.std.proofs.Common.{◌≡◌, ℕ, ◌≤◌, Bool, true, false, true≢false, List, [], ◌∷◌, Some, None, inl, inr, refl, sym, ◌∙◌, ap, subst}
 use Rattle.std.specs.Prelude.{length, not, ◌&&◌}
 use Rattle.sc_base.specs.Definitions.{Among, Each, holds, is_member, united}
-use Rattle.sc_node_table.specs.Values.{Draw, Seat, Body, Offer, Command, Noop, Call, Join, Leave, Split, Begin, Prepared, RecordVote, GiveUp, Finish, Watched, RecordWatch, Base, Coordinating, Free, Promised, Frozen, Past, Flight}
+use Rattle.sc_node_table.specs.Values.{Draw, Seat, Body, Offer, Command, Split, Prepared, RecordVote, RecordWatch, Base, Coordinating, Free, Promised, Frozen, Past, Flight}
 use Rattle.sc_actor.proofs.Lemmas.{lawful-prefix}
 use Rattle.sc_budget_law.specs.Definitions.{replicas_after}
 use Rattle.sc_cmd.specs.Definitions.{is_alone}

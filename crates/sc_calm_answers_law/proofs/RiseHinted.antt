@@ -3,7 +3,7 @@ use Rattle.std.proofs.Common.{◌≡◌, ℕ, suc, ◌+◌, ◌-◌, ◌^◌, �
 use Rattle.std.specs.Prelude.{is_some}
 use Rattle.std.proofs.lemmas.Bool.{cond-false}
 use Rattle.sc_base.specs.Definitions.{same_ballot, is_member}
-use Rattle.sc_node_table.specs.Values.{Ballot, Draw, Command, Base, Route, OrderLine, Mail, MailBody, Request, Answer, Prepare, Promise, Accept, Accepted, Nack, Learn, Ask, Install, TxPrepare, TxVote, TxOutcome, TxElsewhere, TxWatch, TxWatched, Told as ToldMail, Seat, Event, Report}
+use Rattle.sc_node_table.specs.Values.{Ballot, Draw, Command, Base, Route, OrderLine, Mail, MailBody, Prepare, Promise, Accept, Accepted, Nack, Learn, Install, Seat, Event, Report}
 use Rattle.sc_actor.specs.Definitions.{mails, row_of}
 use Rattle.sc_orderly_law.specs.Definitions.{IsCalmEvent, AreInTime}
 use Rattle.sc_orderly_law.proofs.Lemmas.{in_time_before}

@@ -3,7 +3,7 @@ use Rattle.std.proofs.Common.{◌≡◌, ℕ, zero, suc, ◌+◌, eqb, true, fal
 use Rattle.std.specs.Option.{option_map}
 use Rattle.std.proofs.lemmas.Bool.{cases_eq}
 use Rattle.sc_base.specs.Definitions.{Each, is_member}
-use Rattle.sc_node_table.specs.Values.{Ballot, Draw, Base, OrderLine, Mail, MailBody, Request, Answer, Prepare, Promise, Accept, Accepted, Nack, Learn, Ask, Install, TxPrepare, TxVote, TxOutcome, TxElsewhere, TxWatch, TxWatched, Told as ToldMail, Node, Seat, Event, Deliver, Tick as TickEvent, Go, Crash, Drop, Again, Input, Got, Row}
+use Rattle.sc_node_table.specs.Values.{Ballot, Draw, Base, OrderLine, Mail, MailBody, Prepare, Promise, Accept, Nack, Node, Seat, Event, Deliver, Tick as TickEvent, Go, Input, Got, Row}
 use Rattle.sc_actor.specs.declared.rows.Event.TheVariants.{Told}
 use Rattle.sc_actor.specs.declared.rows.Input.TheVariants.{Tick}
 use Rattle.sc_actor.specs.Definitions.{mails, numbered, value, acted, input_of, row_of}
@@ -18,7 +18,7 @@ use Rattle.sc_node_table.specs.Definitions.{NodeState, replica_of, group_of_mail
 use Rattle.sc_sound.specs.Definitions.{Player, player_table, births, as_nodes}
 use Rattle.sc_law_lemmas.proofs.Lemmas.{either_way}
 use Rattle.sc_calm_law.specs.Definitions.{players, Rows}
-use Rattle.sc_following_law.specs.Definitions.{Mark, Asks, Votes, Tells, Installs, Prepares, Promises, promise_by, pledged, mark_of, AreFit, Course, Progress, Sets, members_at, Tellers, IsRow, answered, welcome, told_of, told_from, IsOffer, marks_for}
+use Rattle.sc_following_law.specs.Definitions.{Mark, Asks, Votes, Tells, Prepares, Promises, promise_by, pledged, mark_of, AreFit, Course, Progress, Sets, members_at, Tellers, IsRow, answered, welcome, told_of, told_from, IsOffer, marks_for}
 use Rattle.sc_following_law.proofs.Lemmas.{count-pledged, same_mark, last_promise as last_pledged}
 use Rattle.sc_calm_rows_law.specs.Definitions.{view_at, marks_at, taken_mark, promise_in, progress_at, IsOwnMail, IsOwnAsking, led_course, IsSeat, with_event}
 use Rattle.sc_calm_rows_law.proofs.Lemmas.{rows_are, ballots_own, births_alone, view_others, view_was, found_name}

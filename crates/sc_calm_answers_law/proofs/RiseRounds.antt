@@ -2,7 +2,7 @@
 use Rattle.std.proofs.Common.{◌≡◌, ℕ, ◌+◌, ◌≤◌, true, false, true≢false, List, [], Option, Some, None, ◌⊎◌, inl, inr, refl, sym, ◌∙◌, ap, subst, arith}
 use Rattle.std.proofs.lemmas.Bool.{cases_Bool}
 use Rattle.sc_base.specs.Definitions.{Among}
-use Rattle.sc_node_table.specs.Values.{Ballot, Draw, Base, OrderLine, Seat, Event, Deliver, Tick, Go, Crash, Drop, Again}
+use Rattle.sc_node_table.specs.Values.{Ballot, Draw, Base, OrderLine, Seat, Event}
 use Rattle.sc_actor.specs.declared.rows.Event.TheVariants.{Told}
 use Rattle.sc_actor.specs.Definitions.{mails, numbers_of}
 use Rattle.sc_orderly_law.specs.Definitions.{IsCalmEvent, AreInTime}

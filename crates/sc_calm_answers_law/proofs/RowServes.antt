@@ -2,9 +2,8 @@
 use Rattle.std.proofs.Common.{◌≡◌, ℕ, ◌+◌, ◌<◌, ◌≤◌, eqb, true, List, [], ◌∷◌, ◌++◌, map, find, Some, ◌⊎◌, inl, inr, sym, ◌∙◌, ap, subst, arith}
 use Rattle.std.proofs.lemmas.Bool.{cond-true, cases_eq}
 use Rattle.sc_base.specs.Definitions.{Among, Each, client_actor, same_draw}
-use Rattle.sc_node_table.specs.Values.{Draw, Op, Core, OrderLine, Mail, MailBody, Node, Seat, Event, Deliver, Tick, Go, Crash, Drop, Again, Got, Row}
+use Rattle.sc_node_table.specs.Values.{Draw, Op, Core, OrderLine, Mail, MailBody, Node, Seat, Event, Deliver, Go, Got, Row}
 use Rattle.sc_base.proofs.Lemmas.{draw_is, same_name}
-use Rattle.sc_actor.specs.declared.rows.Event.TheVariants.{Told}
 use Rattle.sc_actor.specs.declared.rows.Input.TheVariants.{Go as GoInput}
 use Rattle.sc_actor.specs.Definitions.{mails, value, acted, input_of, System, row_of, waiting, kth}
 use Rattle.sc_paxos_words.proofs.Lemmas.{find_found}

@@ -1,6 +1,6 @@
 -- A player refuses nothing but what it is asked to promise or to accept.
 use Rattle.std.proofs.Common.{◌≡◌, ℕ, ◌||◌, not, nat_lt, eqb, refl, List, [], length, Option, Some, None, sym, subst}
-use Rattle.sc_node_table.specs.Values.{Ballot, Draw, OrderLine, Mail, MailBody, Request, Answer, Prepare, Promise, Accept, Accepted, Nack, Learn, Ask, Install, TxPrepare, TxVote, TxOutcome, TxElsewhere, TxWatch, TxWatched, Told, Node, Client, Input, Got}
+use Rattle.sc_node_table.specs.Values.{Ballot, Draw, OrderLine, Mail, MailBody, Request, Prepare, Accept, Learn, Install, TxPrepare, TxWatch, Node, Client, Input, Got}
 use Rattle.sc_actor.specs.declared.rows.Input.TheVariants.{Tick, Go as GoInput, Told as ToldInput}
 use Rattle.sc_client_table.specs.Definitions.{table}
 use Rattle.sc_node_table.specs.Definitions.{NodeState, replica_of, group_of_mail, with_made, unknown, may_come, taken_by, routed, on_mail, group_of_order, ordered_of, ReplicaState, name_of, last_slot, made_by, slots_ahead}

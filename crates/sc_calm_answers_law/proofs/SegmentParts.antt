@@ -1,7 +1,7 @@
 -- The segments of a calm journal: quiet fronts that rest, requests behind them, and orders.
 use Rattle.std.proofs.Common.{◌≡◌, ℕ, ◌+◌, ◌≤◌, true, false, true≢false, List, [], ◌∷◌, ◌++◌, length, refl, sym, ◌∙◌, ap, subst, arith, append_assoc, append-nil}
 use Rattle.sc_base.specs.Definitions.{Each}
-use Rattle.sc_node_table.specs.Values.{Base, OrderLine, Mail, Seat, Event, Deliver, Tick, Go, Crash, Drop, Again, Row}
+use Rattle.sc_node_table.specs.Values.{Base, OrderLine, Mail, Seat, Event, Deliver, Row}
 use Rattle.sc_actor.specs.declared.rows.Event.TheVariants.{Told}
 use Rattle.sc_actor.specs.Definitions.{mails, System, row_of}
 use Rattle.sc_orderly_law.specs.Definitions.{IsInOrder, is_told, orders, AreInTime}

@@ -2,7 +2,7 @@
 use Rattle.std.proofs.Common.{◌≡◌, ℕ, zero, suc, eqb, Bool, true, false, true≢false, cond, List, [], ◌∷◌, ◌++◌, replicate, Option, ◌⊎◌, inl, inr, refl, sym, ◌∙◌, ap, subst, append_assoc, append-nil}
 use Rattle.std.proofs.lemmas.Bool.{cases_Bool, eq-eqb}
 use Rattle.sc_base.specs.Definitions.{Among, Each}
-use Rattle.sc_node_table.specs.Values.{Draw, Base, OrderLine, Mail, TxElsewhere, Node, Client, Seat, Event, Deliver, Tick, Go, Crash, Drop, Again, Row}
+use Rattle.sc_node_table.specs.Values.{Draw, Base, OrderLine, Mail, TxElsewhere, Node, Client, Seat, Event, Deliver, Tick, Go, Row}
 use Rattle.sc_actor.specs.declared.rows.Event.TheVariants.{Told}
 use Rattle.sc_actor.specs.Definitions.{mails, copies, value, System, row_of, is_quiet}
 use Rattle.sc_orderly_law.specs.Definitions.{IsCalmEvent, IsCalmRow, IsInOrder, is_told, is_born, mail_with, rest, under_way, AreInTime, ComesInTime}

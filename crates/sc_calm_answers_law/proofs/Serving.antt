@@ -2,7 +2,7 @@
 use Rattle.std.proofs.Common.{◌≡◌, ℕ, ◌+◌, ◌≤◌, true, List, [], ◌∷◌, filter, Some, ◌⊎◌, inl, inr, refl, sym, ◌∙◌, ap, subst, arith}
 use Rattle.std.proofs.lemmas.Bool.{cond_both, cases_lt, both_ways}
 use Rattle.sc_base.specs.Definitions.{Among, client_actor, is_member}
-use Rattle.sc_node_table.specs.Values.{Ballot, Draw, Op, Command, Call, MailBody, Request, Answer, Prepare, Promise, Accept, Accepted, Nack, Learn, Ask, Install, TxPrepare, TxVote, TxOutcome, TxElsewhere, TxWatch, TxWatched, Told, Report}
+use Rattle.sc_node_table.specs.Values.{Ballot, Draw, Op, Command, Call, MailBody, Request, Answer, Accept, Accepted, Learn, Report}
 use Rattle.std.specs.Prelude.{nat_lt}
 use Rattle.sc_paxos_words.specs.Definitions.{with_report, below}
 use Rattle.sc_paxos_words.proofs.Lemmas.{from_filter}

@@ -16,7 +16,7 @@ use Rattle.sc_scenario.specs.Definitions.{most_deliveries, IsBoundedLine, ValidS
 use Rattle.sc_scenario.specs.declared.scenarios.Asks.{Asks}
 use Rattle.sc_scenario.specs.declared.scenarios.Scenario.{Scenario}
 use Rattle.sc_scenario.specs.declared.scenarios.SchedLine.{SchedLine}
-use Rattle.sc_scenario.specs.declared.scenarios.SchedLine.TheVariants.{Go, Deliver, Drop, Again, Tick, Crash, Told, Settle, Free, Storm}
+use Rattle.sc_scenario.specs.declared.scenarios.SchedLine.TheVariants.{Go, Told, Settle, Free}
 use Rattle.sc_sound.specs.Definitions.{client_seats, client_seat, node_seat, route_of, schedule, as_nodes, system_of}
 use Rattle.sc_whole_law.proofs.Lemmas.{all_apart}
 use Rattle.sc_budget_law.specs.Definitions.{delivers, gives_order, orders_of, calm_budget_of, AllowsCalmly, CalmLinesAreSpaced}

@@ -4,7 +4,7 @@ use Rattle.std.specs.Prelude.{find}
 use Rattle.std.proofs.lemmas.Bool.{cases_Bool, cond-true, eqb-true, eq-eqb}
 use Rattle.std.proofs.lemmas.Option.{none-some}
 use Rattle.sc_base.specs.Definitions.{Among, same_draw, is_member}
-use Rattle.sc_node_table.specs.Values.{Draw, Base, OrderLine, Refused, Mail, MailBody, Request, Answer, Prepare, Promise, Accept, Accepted, Nack, Learn, Ask, Install, TxPrepare, TxVote, TxOutcome, TxElsewhere, TxWatch, TxWatched, Told as ToldMail, Node, Client, Seat, Event, Deliver, Tick, Go, Crash, Drop, Again, Input, Got, Row}
+use Rattle.sc_node_table.specs.Values.{Draw, Base, OrderLine, Refused, Mail, MailBody, Request, Prepare, Accept, Learn, Install, TxPrepare, TxVote, TxOutcome, TxElsewhere, TxWatch, TxWatched, Node, Client, Seat, Event, Deliver, Tick, Go, Input, Got, Row}
 use Rattle.sc_base.proofs.Lemmas.{draw_is, same_name}
 use Rattle.sc_cmd.specs.declared.orders.OrderRefusal.TheVariants.{NotLeader}
 use Rattle.sc_actor.specs.declared.rows.Event.TheVariants.{Told}

@@ -2,7 +2,7 @@
 use Rattle.std.proofs.Common.{◌≡◌, ℕ, ◌≤◌, ◌&&◌, true, false, [], Option, Some, None, inl, inr, refl, sym, ◌∙◌, ap, subst, arith}
 use Rattle.std.proofs.lemmas.Bool.{both_ways}
 use Rattle.sc_base.specs.Definitions.{Each, client_actor, same_draw, is_member}
-use Rattle.sc_node_table.specs.Values.{Ballot, Draw, Op, Command, Core, Route, Mail, MailBody, Request, Answer, Prepare, Promise, Accept, Accepted, Nack, Learn, Ask, Install, TxPrepare, TxVote, TxOutcome, TxElsewhere, TxWatch, TxWatched, Told}
+use Rattle.sc_node_table.specs.Values.{Ballot, Draw, Op, Command, Core, Route, Mail, MailBody, Request, Answer, Accept, Accepted, Learn}
 use Rattle.sc_base.proofs.Lemmas.{draw_is}
 use Rattle.sc_paxos_words.specs.Definitions.{below}
 use Rattle.sc_paxos_words.proofs.Lemmas.{Each-among, find_found}

@@ -4,8 +4,7 @@ use Rattle.std.specs.List.{filter}
 use Rattle.std.specs.Option.{option_map}
 use Rattle.std.proofs.lemmas.List.Sums.{sum_by-append, sum_by-cons}
 use Rattle.sc_base.specs.Definitions.{Among, client_actor, same_draw}
-use Rattle.sc_node_table.specs.Values.{Draw, Op, Base, OrderLine, Mail, Answer, Node, Client, Seat, Event, Deliver, Tick, Go, Crash, Drop, Again, Got, Row}
-use Rattle.sc_actor.specs.declared.rows.Event.TheVariants.{Told}
+use Rattle.sc_node_table.specs.Values.{Draw, Op, Base, OrderLine, Mail, Answer, Node, Client, Seat, Event, Deliver, Tick, Go, Got, Row}
 use Rattle.sc_actor.specs.declared.rows.Input.TheVariants.{Go as GoInput}
 use Rattle.sc_actor.specs.Definitions.{mails, copies, counts_at, numbered, value, acted, input_of, System, row_of, are_apart, waiting, kth}
 use Rattle.sc_actor.proofs.PendingLemmas as pending

@@ -3,7 +3,7 @@ use Rattle.std.proofs.Common.{◌≡◌, ℕ, ◌+◌, ◌-◌, ◌≤◌, eqb, 
 use Rattle.std.proofs.lemmas.Bool.{both_ways, eqb-true, eq-eqb, cond-true}
 use Rattle.std.proofs.lemmas.List.Sums.{sum_by-append, sum_by-cons}
 use Rattle.sc_base.specs.Definitions.{Among, client_actor, same_draw, is_member}
-use Rattle.sc_node_table.specs.Values.{Draw, Op, Command, Call, Base, OrderLine, AnswerBody, Mail, MailBody, Request, Answer, Prepare, Promise, Accept, Accepted, Nack, Learn, Ask, Install, TxPrepare, TxVote, TxOutcome, TxElsewhere, TxWatch, TxWatched, Told, Node, Client, Flight, Seat, Row}
+use Rattle.sc_node_table.specs.Values.{Draw, Op, Command, Call, Base, OrderLine, AnswerBody, Mail, MailBody, Request, Answer, Prepare, Accept, Accepted, Learn, Node, Client, Flight, Seat, Row}
 use Rattle.sc_paxos_words.proofs.Lemmas.{find_found}
 use Rattle.sc_actor.specs.Definitions.{mails, copies, numbered, value, System, has_gone, waiting, kth}
 use Rattle.sc_client_table.specs.Definitions.{Client as ClientState}

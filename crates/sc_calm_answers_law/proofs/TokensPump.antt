@@ -5,7 +5,7 @@ use Rattle.std.specs.List.{list_any}
 use Rattle.std.proofs.lemmas.Bool.{cond-true, cond-false, cases_eq, eq-eqb, ne_eqb}
 use Rattle.std.proofs.lemmas.List.Sums.{sum_by_push, sum_by-cons}
 use Rattle.sc_base.specs.Definitions.{client_actor}
-use Rattle.sc_node_table.specs.Values.{Draw, Op, Command, Noop, Call, Join, Leave, Split, Begin, Prepared, RecordVote, GiveUp, Finish, Watched, RecordWatch, Core, AnswerBody, Mail, MailBody, Accept, Answer, Must, Flight}
+use Rattle.sc_node_table.specs.Values.{Draw, Op, Command, Call, Core, AnswerBody, Mail, MailBody, Accept, Answer, Must, Flight}
 use Rattle.sc_paxos_words.specs.declared.answers.Must.TheVariants.{Free as Open}
 use Rattle.sc_paxos_words.specs.Definitions.{must, flight_at, without_flight, with_voters}
 use Rattle.sc_node_table.specs.Definitions.{sent, sent_all, sent_others, answered, Found, is_act, waits, turned_down, next_call, from_calls, from_acts, from_queues, found_by, found_for, offered, pumped_from, pumped, call_of, is_call_of, without_call, ReplicaState, Place, name_of, next, settled, may_offer, taken_at, under_way, is_idle, last_slot, refused_at, queued, requested, request_row, at_slot, with_slot, without_slot}

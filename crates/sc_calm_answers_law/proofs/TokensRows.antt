@@ -2,7 +2,7 @@
 use Rattle.std.proofs.Common.{◌≡◌, ℕ, ◌+◌, ◌≤◌, ◌&&◌, eqb, Bool, true, false, cond, List, [], ◌∷◌, ◌++◌, length, sum_by, Option, Some, None, inl, inr, refl, sym, ◌∙◌, ap, subst, arith}
 use Rattle.std.proofs.lemmas.Bool.{eqb-true, and_parts}
 use Rattle.sc_base.specs.Definitions.{Each, client_actor, same_ballot, is_majority, is_member}
-use Rattle.sc_node_table.specs.Values.{Ballot, Draw, Op, Command, Call, Core, AnswerBody, Mail, MailBody, Request, Answer, Prepare, Promise, Accept, Accepted, Nack, Learn, Ask, Install, TxPrepare, TxVote, TxOutcome, TxElsewhere, TxWatch, TxWatched, Told, Chosen, NotYet, Flight}
+use Rattle.sc_node_table.specs.Values.{Ballot, Draw, Op, Command, Call, Core, AnswerBody, Mail, MailBody, Request, Answer, Accept, Accepted, Learn, Chosen, NotYet, Flight}
 use Rattle.sc_paxos_words.specs.Definitions.{must, flight_at, without_flight_at, kept_voters, voters_after, with_voters, vote_at}
 use Rattle.sc_paxos_words.proofs.Lemmas.{Each-among, find_found}
 use Rattle.sc_machine_table.specs.Definitions.{applied}

@@ -16,7 +16,7 @@ use Rattle.sc_scenario.specs.declared.scenarios.Scenario.{Scenario}
 use Rattle.sc_whole_law.specs.Definitions.{ValidScenariosBeginWell}
 use Rattle.sc_sound.specs.Definitions.{Lawful, Player, as_nodes, births, player_table, schedule, system_of}
 use Rattle.sc_calm_law.specs.Definitions.{Rows}
-use Rattle.sc_calm_orders_law.specs.Definitions.{IsStepOf, ByRest, ByOrder, ByChange, ByDeal, ByPassing, ByAsking, ByTaking, ByVote, ByNo, ByHearing, ByDeciding, ByEnd, LastFreed, LastTakes, OfOutcome, OfQuestion, OfVote, OneFreed, OneTakes, TwoFreed, TwoTakes, work_by, works, Answers, Asking, Bound, Changes, Ends, GivesUp, Here, Opens, Records, Scene, Turn, Unbound, Work, free, Asks, Closes, ClosesBoth, Filed, IsAt, Leg, Mailed, Ordered, Recorded, Replied, SentOn, Stage, Still, Weighs, closing, MayFile}
+use Rattle.sc_calm_orders_law.specs.Definitions.{IsStepOf, ByRest, ByOrder, ByChange, ByDeal, ByPassing, ByAsking, ByTaking, ByVote, ByNo, ByHearing, ByDeciding, ByEnd, LastFreed, LastTakes, OfOutcome, OfQuestion, OfVote, OneFreed, OneTakes, TwoFreed, TwoTakes, work_by, works, Asking, Bound, Here, Opens, Scene, Turn, Unbound, Work, free, Asks, Closes, ClosesBoth, Filed, IsAt, Leg, Mailed, Ordered, Recorded, Replied, SentOn, Stage, Still, Weighs, closing, MayFile}
 use Rattle.sc_calm_orders_law.proofs.Lemmas.{cases-draw, tables-order}
 use Rattle.sc_calm_rows_law.specs.Definitions.{view_at, with_event}
 use Rattle.sc_calm_rows_law.proofs.Lemmas.{view_is, view_others, none_some}

@@ -2,7 +2,7 @@
 use Rattle.std.proofs.Common.{◌≡◌, ℕ, Bool, true, false, true≢false, cond, List, [], ◌∷◌, Option, Some, None, inl, inr, refl, sym, ◌∙◌, ap, subst}
 use Rattle.std.proofs.lemmas.Bool.{cases_Bool, cond-true, cond-false, cond_both}
 use Rattle.sc_base.specs.Definitions.{Among, Each, same_draw, is_member}
-use Rattle.sc_node_table.specs.Values.{Draw, Body, Watch, Command, Noop, Call, Join, Leave, Split, Begin, Prepared, RecordVote, GiveUp, Finish, Watched, RecordWatch, Base, Core, Coordinating, Free, Effect, NoEffect, Voted, Route, OrderRefusal, No, Flight, Seat, Promised, Watching, Apart}
+use Rattle.sc_node_table.specs.Values.{Draw, Body, Watch, Command, Split, Begin, Prepared, RecordVote, Finish, Watched, RecordWatch, Base, Core, Coordinating, Free, Effect, NoEffect, Voted, Route, OrderRefusal, No, Flight, Seat, Promised, Watching, Apart}
 use Rattle.sc_base.proofs.Lemmas.{same_name}
 use Rattle.sc_cmd.specs.Definitions.{is_alone, is_changed}
 use Rattle.sc_cmd.specs.declared.bodies.Body.TheVariants as At

@@ -1,7 +1,7 @@
 -- So each question goes to a node that has a replica of its group, and a coordinator that is to ask elsewhere is told whom.
 use Rattle.std.proofs.Common.{◌≡◌, ℕ, Bool, true, false, true≢false, List, [], ◌∷◌, Some, None, ◌⊎◌, inl, inr, refl, sym, ◌∙◌, ap, subst}
 use Rattle.sc_base.specs.Definitions.{Among, Each, least_of}
-use Rattle.sc_node_table.specs.Values.{Draw, Seat, Deliver, Command, Noop, Call, Join, Leave, Split, Begin, Prepared, RecordVote, GiveUp, Finish, Watched, RecordWatch, Base, Frozen, Mail, Flight}
+use Rattle.sc_node_table.specs.Values.{Draw, Seat, Deliver, Command, Noop, Call, Join, RecordVote, RecordWatch, Base, Frozen, Mail, Flight}
 use Rattle.sc_actor.specs.Definitions.{row_of, mails, numbered}
 use Rattle.sc_cmd.specs.declared.votes.Vote.TheVariants as Says
 use Rattle.sc_node_table.specs.Definitions.{group_of_mail, ReplicaState}
@@ -11,7 +11,7 @@ use Rattle.sc_sound.specs.Definitions.{Player, as_nodes, births, player_table}
 use Rattle.sc_budget_law.specs.Definitions.{replicas_after}
 use Rattle.sc_calm_law.specs.Definitions.{HasReplica, Rows}
 use Rattle.sc_calm_answers_law.specs.Definitions.{IsTrueEntry, HasDone, Promising, doer, opened, GoesOnSince, IsHinted, IsAllowedBy, ReplicasTell, IsTrueSince, HintedOrdersGoOn, heard_doer}
-use Rattle.sc_calm_orders_law.specs.Definitions.{bond_of, work_by, works, Asking, First, Here, Next, Records, is_watch, Asks, IsAt, Ordered, Recorded, SentOn, Stage, Hears, OfQuestion, OfVote, OfOutcome, LastTakes, OneTakes, TwoTakes, LastFreed, OneFreed, TwoFreed, IsStepOf, ByRest, ByOrder, ByChange, ByDeal, ByPassing, ByAsking, ByTaking, ByVote, ByNo, ByHearing, ByDeciding, ByEnd, closed, Lone, Turn, Closes, ClosesBoth, Replied, Still, Weighs, heard, heard_lead}
+use Rattle.sc_calm_orders_law.specs.Definitions.{bond_of, work_by, works, Asking, First, Here, Next, Records, is_watch, Asks, IsAt, Recorded, SentOn, Stage, Hears, OfQuestion, OfVote, OfOutcome, LastTakes, OneTakes, TwoTakes, LastFreed, OneFreed, TwoFreed, IsStepOf, ByRest, ByOrder, ByChange, ByDeal, ByPassing, ByAsking, ByTaking, ByVote, ByNo, ByHearing, ByDeciding, ByEnd, closed, Lone, Turn, Still, heard, heard_lead}
 use Rattle.sc_calm_rows_law.specs.Definitions.{view_at, with_event}
 use Rattle.sc_calm_scenes_law.specs.Definitions.{scene_at, GoesBy}
 use Rattle.sc_calm_answers_law.proofs.TrueAsking.{one}

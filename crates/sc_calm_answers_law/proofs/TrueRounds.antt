@@ -2,14 +2,14 @@
 use Rattle.std.proofs.Common.{◌≡◌, ℕ, zero, suc, ◌+◌, ◌≤◌, ◌==◌, true, true≢false, is_some, List, [], ◌∷◌, ◌++◌, Option, Some, None, ◌⊎◌, inl, inr, option_map, refl, sym, ◌∙◌, ap, subst, arith}
 use Rattle.std.proofs.lemmas.Bool.{cases_eq, cases_lt, cond_both}
 use Rattle.sc_base.specs.Definitions.{Each, is_member}
-use Rattle.sc_node_table.specs.Values.{Ballot, Seat, Event, Command, Noop, Call, Join, Leave, Split, Begin, Prepared, RecordVote, GiveUp, Finish, Watched, RecordWatch, Base, OrderLine, Flight}
+use Rattle.sc_node_table.specs.Values.{Ballot, Seat, Event, Command, Noop, Call, Base, OrderLine, Flight}
 use Rattle.sc_actor.specs.Definitions.{row_of}
 use Rattle.sc_node_table.specs.Definitions.{is_act, ReplicaState, flying, listed, next, at_slot}
 use Rattle.sc_orderly_law.specs.Definitions.{AreInTime}
 use Rattle.sc_paxos_words.specs.Definitions.{flight_at}
 use Rattle.sc_paxos_words.proofs.Lemmas.{Each-among, Each-append, Each-weaker, find_found}
 use Rattle.sc_sound.specs.Definitions.{Player, player_table}
-use Rattle.sc_following_law.specs.Definitions.{Asks, Course, Installs, Mark, Prepares, Progress, Promises, Sets, Tells, Votes, members_at, Tellers, ActsAlone, IsLeadOf, IsLed, IsOrderly, IsOffer, IsRow, answered, told_from, told_of, welcome}
+use Rattle.sc_following_law.specs.Definitions.{Asks, Course, Mark, Prepares, Progress, Sets, Tells, Votes, members_at, Tellers, ActsAlone, IsLeadOf, IsLed, IsOrderly, IsOffer, IsRow, answered, told_from, told_of, welcome}
 use Rattle.sc_calm_law.specs.Definitions.{players, Rows}
 use Rattle.sc_calm_orders_law.specs.Definitions.{work_by, Work}
 use Rattle.sc_calm_rows_law.specs.Definitions.{progress_at, view_at, led_course, with_event}

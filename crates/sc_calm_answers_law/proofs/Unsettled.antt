@@ -2,7 +2,7 @@
 use Rattle.std.proofs.Common.{◌≡◌, ℕ, Bool, true, false, List, Option, Some, None, option_map, refl, sym, ◌∙◌, ap, subst}
 use Rattle.std.specs.List.{find}
 use Rattle.sc_base.specs.Definitions.{Among, same_draw}
-use Rattle.sc_node_table.specs.Values.{Draw, Seat, Deliver, Base, Outcome, Mail, MailBody, Accept, Accepted, Answer, Ask, Install, Learn, Nack, Prepare, Promise, Request, TxElsewhere, TxOutcome, TxPrepare, TxVote, TxWatch, TxWatched, Told as ToldMail, Node}
+use Rattle.sc_node_table.specs.Values.{Draw, Seat, Deliver, Base, Outcome, Mail, MailBody, TxElsewhere, TxPrepare, TxVote, TxWatch, TxWatched, Node}
 use Rattle.sc_actor.proofs.Lemmas.{lawful-prefix}
 use Rattle.sc_machine_table.specs.Definitions.{Group, locked_in, is_locked_in}
 use Rattle.sc_node_table.specs.Definitions.{NodeState, ReplicaState, gone_vote, noted_outcome, standing_by, standing_vote}

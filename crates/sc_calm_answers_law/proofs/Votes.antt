@@ -11,7 +11,7 @@ use Rattle.sc_calm_answers_law.specs.Definitions.{IsHere, IsGuided, IsOrdersAlon
 use Rattle.sc_calm_groups_law.specs.Definitions.{IsSlotKept}
 use Rattle.sc_calm_law.specs.Definitions.{Rows}
 use Rattle.sc_calm_orders_law.proofs.Lemmas.{votes-count-alone, orders-leave, votes-leave, among-left, among-right, cases-draw, ends-leave, records-leave, watch-records-leave, entries-run-alone}
-use Rattle.sc_calm_orders_law.specs.Definitions.{EntryLeaves, bond_of, work_by, works, works_flying, works_in, works_ready, results, FliesLone, Answers, Asking, Bond, Bound, Changes, Elsewhere, Ends, Errand, First, GivesUp, Here, IsNone, Lone, Next, Opens, Question, Records, Reply, Result, Scene, Turn, Unbound, Work, free, is_watch, Closes, ClosesBoth, Filed, IsOrder, IsSound, IsUnderWay, IsVote, Leg, Mailed, Ordered, Recorded, Replied, SentOn, Stage, Still, Weighs, bound_by, closing, heard, parties_of, Asks as AsksStage}
+use Rattle.sc_calm_orders_law.specs.Definitions.{EntryLeaves, bond_of, work_by, works, works_flying, works_in, works_ready, results, FliesLone, Answers, Asking, Bond, Bound, Changes, Elsewhere, Ends, Errand, First, Here, IsNone, Lone, Next, Opens, Question, Records, Reply, Result, Scene, Turn, Unbound, Work, free, is_watch, Closes, ClosesBoth, Filed, IsOrder, IsSound, IsUnderWay, IsVote, Leg, Mailed, Ordered, Recorded, Replied, SentOn, Stage, Still, Weighs, bound_by, closing, heard, parties_of, Asks as AsksStage}
 use Rattle.sc_calm_rows_law.proofs.Lemmas.{known, found_name}
 use Rattle.sc_calm_rows_law.specs.Definitions.{progress_at, with_event}
 use Rattle.sc_calm_scenes_law.proofs.Lemmas.{fly_lone, quiet_over, tell}

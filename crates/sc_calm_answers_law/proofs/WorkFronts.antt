@@ -2,7 +2,7 @@
 use Rattle.std.proofs.Common.{◌≡◌, ◌⊎◌, ℕ, eqb, Bool, true, false, List, [], drop, Some, inl, inr, refl, sym, ◌∙◌, ap, subst}
 use Rattle.std.proofs.lemmas.Bool.{cases_Bool, eq-eqb, eqb-true}
 use Rattle.sc_base.specs.Definitions.{Each}
-use Rattle.sc_node_table.specs.Values.{Draw, Command, Noop, Call, Join, Leave, Split, Begin, Prepared, RecordVote, GiveUp, Finish, Watched, RecordWatch, Base, OrderLine, Mail, MailBody, Request, Answer, Prepare, Promise, Accept, Accepted, Nack, Learn, Ask, Install, TxPrepare, TxVote, TxOutcome, TxElsewhere, TxWatch, TxWatched, Told as ToldMail, Seat, Event, Deliver, Row}
+use Rattle.sc_node_table.specs.Values.{Draw, Command, Noop, Call, Base, OrderLine, Mail, MailBody, Request, Answer, Prepare, Promise, Accept, Accepted, Nack, Learn, Ask, Install, TxPrepare, TxVote, TxOutcome, TxElsewhere, TxWatch, TxWatched, Told as ToldMail, Seat, Event, Deliver, Row}
 use Rattle.sc_actor.specs.Definitions.{mails, numbered, System, row_of}
 use Rattle.sc_orderly_law.specs.Definitions.{is_born, rest, mail_for, taken, AreInTime}
 use Rattle.sc_orderly_law.proofs.Lemmas.{in_time_before, in_time_tidy, last_in_time, TakesFirst, is_born-from, takes_first, rest-calm}

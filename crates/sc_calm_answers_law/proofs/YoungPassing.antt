@@ -4,7 +4,7 @@ use Rattle.std.specs.Option.{option_map}
 use Rattle.std.specs.Prelude.{is_some}
 use Rattle.std.proofs.lemmas.Bool.{cond-true, cond-false}
 use Rattle.sc_base.specs.Definitions.{Among}
-use Rattle.sc_node_table.specs.Values.{Draw, Base, AnswerBody, Mail, MailBody, Request, Answer, Prepare, Promise, Accept, Accepted, Nack, Learn, Ask, Install, TxPrepare, TxVote, TxOutcome, TxElsewhere, TxWatch, TxWatched, Told as ToldMail, Node, Client, Seat, Deliver, Go, Got}
+use Rattle.sc_node_table.specs.Values.{Draw, Base, AnswerBody, Mail, MailBody, Request, Answer, Install, Node, Client, Seat, Deliver, Go, Got}
 use Rattle.sc_actor.specs.Definitions.{mails, numbered, value}
 use Rattle.sc_orderly_law.specs.Definitions.{AreInTime}
 use Rattle.sc_node_table.specs.Definitions.{NodeState, replica_of, with_replica, with_new, with_born, with_children, group_of_mail, may_come, unknown, taken_by, routed, on_mail, ReplicaState, Executed, born_replica, mailed, slots_ahead}

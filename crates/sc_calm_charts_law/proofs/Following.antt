@@ -1,7 +1,7 @@
 -- The chart after a row follows that before it.
 use Rattle.std.proofs.Common.{◌≡◌, ℕ, ◌+◌, ◌≤◌, Bool, true, false, List, [], ◌∷◌, ◌++◌, Option, Some, None, refl, sym, ◌∙◌, ap, subst, arith}
 use Rattle.sc_base.specs.Definitions.{Each}
-use Rattle.sc_node_table.specs.Values.{Draw, OrderLine, Mail, MailBody, Request, Answer, Prepare, Promise, Accept, Accepted, Nack, Learn, Ask, Install, TxPrepare, TxVote, TxOutcome, TxElsewhere, TxWatch, TxWatched, Told, Node, Client, Seat, Row}
+use Rattle.sc_node_table.specs.Values.{Draw, OrderLine, Mail, MailBody, Answer, TxElsewhere, Node, Client, Seat, Row}
 use Rattle.sc_mail.specs.declared.bodies.AnswerBody.TheVariants as Says
 use Rattle.sc_actor.specs.Definitions.{value, System, is_quiet}
 use Rattle.sc_orderly_law.specs.Definitions.{under_way, AreInTime}

@@ -1,7 +1,7 @@
 -- A coordinator's question, and entries by which no member comes or goes.
 use Rattle.std.proofs.Common.{◌≡◌, ℕ, ◌≤◌, Bool, true, false, cond, length, Option, Some, None, inr, refl, sym, ◌∙◌, ap, arith}
 use Rattle.std.proofs.lemmas.Bool.{eq-eqb, cond_both}
-use Rattle.sc_node_table.specs.Values.{Draw, Body, Command, Noop, Call, Join, Leave, Split, Begin, Prepared, RecordVote, GiveUp, Finish, Watched, RecordWatch, Core, Lock, Promised, Watching, Effect, Route, OrderRefusal, Heard, No}
+use Rattle.sc_node_table.specs.Values.{Draw, Body, Command, Split, Begin, Prepared, Watched, Core, Lock, Promised, Watching, Effect, Route, OrderRefusal, Heard, No}
 use Rattle.sc_cmd.specs.declared.bodies.Body.TheVariants as At
 use Rattle.sc_cmd.specs.declared.effects.Effect.TheVariants as Was
 use Rattle.sc_machine_table.specs.Definitions.{Group, applied, refusal_of, ordered, has_named, begun_group, has_voted, vote_of, watch_vote_of, voted_on}

@@ -2,7 +2,7 @@
 use Rattle.std.proofs.Common.{◌≡◌, ℕ, ◌&&◌, cond, List, [], ◌∷◌, ◌++◌, Option, Some, None, drop, refl, sym, ◌∙◌, ap, subst, append_assoc}
 use Rattle.std.specs.Option.{option_map}
 use Rattle.std.proofs.lemmas.Bool.{ne_eqb, eq-eqb}
-use Rattle.sc_node_table.specs.Values.{Draw, Base, OrderLine, Mail, Seat, Event, Deliver, Tick, Go, Crash, Drop, Again, Row}
+use Rattle.sc_node_table.specs.Values.{Draw, Base, OrderLine, Mail, Seat, Event, Deliver, Tick, Go, Row}
 use Rattle.sc_actor.specs.declared.rows.Event.TheVariants.{Told}
 use Rattle.sc_actor.specs.Definitions.{mails, numbered, is_delivery, System, row_of}
 use Rattle.sc_orderly_law.specs.Definitions.{IsTidy, IsCalmRow, IsCalmEvent, rest, mail_for, taken, AreInTime}

@@ -3,7 +3,7 @@ use Rattle.std.proofs.Common.{◌≡◌, ℕ, ◌+◌, ◌-◌, ◌^◌, ◌≤�
 use Rattle.std.specs.Prelude.{is_some}
 use Rattle.std.specs.List.{list_any}
 use Rattle.std.proofs.lemmas.Bool.{cond_both, and_parts}
-use Rattle.sc_node_table.specs.Values.{Ballot, Command, Noop, Call, Join, Leave, Split, Begin, Prepared, RecordVote, GiveUp, Finish, Watched, RecordWatch, Effect, Route, ToldResult, AnswerBody, Mail, Must, Gap, Flight}
+use Rattle.sc_node_table.specs.Values.{Ballot, Command, Noop, Call, Effect, Route, ToldResult, AnswerBody, Mail, Must, Gap, Flight}
 use Rattle.sc_mail.specs.declared.bodies.AnswerBody.TheVariants as Says
 use Rattle.sc_base.specs.Definitions.{is_member, least_of}
 use Rattle.sc_machine_table.specs.Definitions.{applied}

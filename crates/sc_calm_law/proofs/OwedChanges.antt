@@ -4,7 +4,7 @@ use Rattle.std.specs.List.{filter}
 use Rattle.std.proofs.lemmas.Bool.{eq-eqb, or_right}
 use Rattle.std.proofs.lemmas.List.Elements.{filter-append}
 use Rattle.sc_base.specs.Definitions.{Among, is_member, with_member}
-use Rattle.sc_node_table.specs.Values.{Command, Noop, Call, Join, Leave, Split, Begin, Prepared, RecordVote, GiveUp, Finish, Watched, RecordWatch, Effect, Route, OrderRefusal, AnswerBody, Mail}
+use Rattle.sc_node_table.specs.Values.{Command, Noop, Join, Leave, Effect, Route, OrderRefusal, AnswerBody, Mail}
 use Rattle.sc_machine_table.specs.Definitions.{Group, applied, ordered, refusal_of, with_node, without_node}
 use Rattle.sc_node_table.specs.declared.Before.{Before}
 use Rattle.sc_node_table.specs.Definitions.{entered, order_result, told_effect, told_call, announced, answer_of, executed_one, ReplicaState, Place, members, forgotten, before_of, told_begun, went_on, spoken_mails, spoken}

@@ -3,7 +3,7 @@ use Rattle.std.proofs.Common.{◌≡◌, ℕ, ◌+◌, ◌≤◌, ◌&&◌, Bool
 use Rattle.std.specs.Prelude.{is_some, nat_le}
 use Rattle.std.specs.List.{list_any}
 use Rattle.std.proofs.lemmas.List.Sums.{sum_by_push, sum_by-cons}
-use Rattle.sc_node_table.specs.Values.{Draw, Op, Command, Noop, Call, Join, Leave, Split, Begin, Prepared, RecordVote, GiveUp, Finish, Watched, RecordWatch, Core, Route, AnswerBody, Mail, Accept, Answer, Must, Flight}
+use Rattle.sc_node_table.specs.Values.{Draw, Op, Command, Noop, Call, Core, Route, AnswerBody, Mail, Accept, Answer, Must, Flight}
 use Rattle.sc_ideal.specs.Definitions.{key_of, holds_key}
 use Rattle.sc_mail.specs.declared.bodies.AnswerBody.TheVariants as Says
 use Rattle.sc_paxos_words.specs.declared.answers.Must.TheVariants.{Free as Open}

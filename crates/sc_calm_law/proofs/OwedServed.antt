@@ -2,7 +2,7 @@
 use Rattle.std.proofs.Common.{◌≡◌, ℕ, ◌≤◌, ◌&&◌, eqb, ltb, Bool, true, false, cond, List, [], ◌∷◌, length, Option, Some, None, refl, sym, ◌∙◌, ap, subst}
 use Rattle.std.proofs.lemmas.Bool.{cond-true, cond-false, eq-eqb}
 use Rattle.sc_base.specs.Definitions.{Each, is_member}
-use Rattle.sc_node_table.specs.Values.{Op, Command, Noop, Call, Join, Leave, Split, Begin, Prepared, RecordVote, GiveUp, Finish, Watched, RecordWatch, Core, Flight}
+use Rattle.sc_node_table.specs.Values.{Op, Command, Noop, Call, Core, Flight}
 use Rattle.sc_machine_table.specs.Definitions.{Group}
 use Rattle.sc_paxos_words.specs.Definitions.{flight_at, without_flight}
 use Rattle.sc_node_table.specs.Definitions.{entered, looked, executed_one, has_room, next_ready, ReplicaState, Place, next, members, at_slot, with_slot, without_slot}

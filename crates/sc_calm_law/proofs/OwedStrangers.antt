@@ -2,7 +2,7 @@
 use Rattle.std.proofs.Common.{◌≡◌, ℕ, ◌+◌, ◌-◌, ◌^◌, ◌≤◌, ◌==◌, ◌||◌, not, eqb, Bool, true, false, true≢false, cond, List, [], ◌∷◌, length, Option, Some, None, nat_lt, inl, inr, refl, sym, ◌∙◌, ap, arith}
 use Rattle.std.proofs.lemmas.Bool.{cond_both, cond-true, cond-false, cases_Bool}
 use Rattle.sc_base.specs.Definitions.{same_draw, is_member, least_of}
-use Rattle.sc_node_table.specs.Values.{Ballot, Draw, Base, Route, Mail, MailBody, Request, Answer, Prepare, Promise, Accept, Accepted, Nack, Learn, Ask, Install, TxPrepare, TxVote, TxOutcome, TxElsewhere, TxWatch, TxWatched, Told}
+use Rattle.sc_node_table.specs.Values.{Ballot, Draw, Base, Route, Mail, MailBody, Request, Prepare, Learn, Install, Told}
 use Rattle.sc_base.proofs.Lemmas.{draw_is, same_name}
 use Rattle.sc_machine_table.specs.Definitions.{Group}
 use Rattle.sc_paxos_words.specs.Definitions.{new_leader}

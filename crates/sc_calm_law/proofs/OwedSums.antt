@@ -2,7 +2,7 @@
 use Rattle.std.proofs.Common.{◌≡◌, ℕ, suc, ◌+◌, ◌*◌, ◌≤◌, eqb, ltb, Bool, true, false, cond, List, [], ◌∷◌, length, sum_by, Some, ap, arith}
 use Rattle.std.proofs.lemmas.List.Sums.{sum_by_push, sum_by-cons}
 use Rattle.std.proofs.Math.Nat.{suc-mul}
-use Rattle.sc_node_table.specs.Values.{Command, Noop, Call, Join, Leave, Split, Begin, Prepared, RecordVote, GiveUp, Finish, Watched, RecordWatch, Mail, MailBody, Flight}
+use Rattle.sc_node_table.specs.Values.{Command, Noop, Mail, MailBody, Flight}
 use Rattle.sc_paxos_words.specs.Definitions.{without_flight}
 use Rattle.sc_node_table.specs.Definitions.{sent, sent_all, at_slot, with_slot, without_slot}
 use Rattle.sc_calm_law.specs.Definitions.{Ways, command_owes, offered_owes, body_owes, mail_owes, flights_owe, ready_owes}

@@ -1,19 +1,18 @@
--- Each entry of a group's log brings nodes, row by row of a lawful journal of a valid scenario.
-use Rattle.std.proofs.Common.{◌≡◌, ℕ, Bool, List, [], ◌∷◌, ◌++◌, length, drop, Some, inl, inr, refl, sym, ◌∙◌, ap, subst, append_assoc, append-nil, option_to_list}
+-- Each entry of a group's log brings nodes of the scenario, row by row of a lawful journal of a valid scenario.
+use Rattle.std.proofs.Common.{◌≡◌, ℕ, Bool, List, [], ◌∷◌, ◌++◌, length, drop, inl, inr, refl, sym, ◌∙◌, ap, subst, append_assoc, append-nil}
 use Rattle.sc_base.specs.Definitions.{Among, Each, Drawer, next_name}
-use Rattle.sc_node_table.specs.Values.{Command, Base, Route, OrderLine, Mail, MailBody, Event, Deliver, Tick, Go, Crash, Drop, Again, Row}
+use Rattle.sc_node_table.specs.Values.{Command, Base, Route, OrderLine, Mail, MailBody, Event, Tick, Row}
 use Rattle.sc_actor.specs.declared.rows.Event.TheVariants.{Told}
 use Rattle.sc_actor.specs.Definitions.{IsStep}
 use Rattle.sc_actor.proofs.Lemmas.{lawful-induction}
-use Rattle.sc_machine_table.specs.Definitions.{Group, group_of, state_after, applied}
-use Rattle.sc_log_entries.specs.Definitions.{birth_of}
+use Rattle.sc_machine_table.specs.Definitions.{group_of, state_after}
 use Rattle.sc_log_entries.proofs.Lemmas.{births_are_children}
 use Rattle.sc_node_table.specs.Definitions.{names_after_tick, waited_in, ReplicaState}
 use Rattle.sc_paxos_words.proofs.Lemmas.{Each-among, Each-append, Each-from_All}
-use Rattle.sc_paxos_law.proofs.Lemmas.{Among-left, Among-right}
-use Rattle.sc_scenario.specs.Definitions.{IsBounded, IsBoundedLine}
+use Rattle.sc_paxos_law.proofs.Lemmas.{Among-right}
+use Rattle.sc_scenario.specs.Definitions.{IsBounded, IsBoundedLine, IsUpTo}
 use Rattle.sc_scenario.specs.declared.scenarios.Scenario.{Scenario}
-use Rattle.sc_sound.specs.Definitions.{children_of, groups_at, birth_at, decided_log, decided_state, Ahead, Lawful, schedule, system_of}
+use Rattle.sc_sound.specs.Definitions.{groups_at, birth_at, decided_log, decided_state, Ahead, Lawful, schedule, system_of}
 use Rattle.sc_ring_law.specs.Definitions.{Sources}
 use Rattle.sc_ring_law.proofs.Lemmas.{some_none}
 use Rattle.sc_log_law.specs.Definitions.{Rows, added_by, AreFound, IsNewborn, DecidesInTurn}
@@ -22,23 +21,17 @@ use Rattle.sc_names_law.proofs.Lemmas.{Each-drop}
 use Rattle.sc_group_law.proofs.Lemmas.{at_start, first_of, h_of, Kept, IsLater, Moved, push, decided_made, entry_offered, each_got, IsToldSo, told_induction, HasPlayers, MayTell, KnowsOffspring, moved, MayTick}
 use Rattle.sc_whole_law.specs.Definitions.{BeginsWell, OrdersAreAllowed}
 use Rattle.sc_whole_law.proofs.Lemmas.{IsNew, IsOldOrNew, goes_on_from, grown, members_stay_rosters, Holds}
-use Rattle.sc_calm_logs_law.specs.Definitions.{BringsNodes, HasNodes, SaysNodes}
-use Rattle.sc_calm_logs_law.proofs.Bearing.{first_nodes, OrdersNodes, lines_nodes, wishes_nodes, children_nodes}
 use Rattle.sc_calm_logs_law.proofs.Journals.{front}
+use Rattle.sc_calm_logs_law.proofs.Nodes.{BringsNodes, HasNodes, SaysNodes, log_nodes}
 use Rattle.sc_calm_logs_law.proofs.Naming.{says_nodes}
-use Rattle.sc_calm_logs_law.proofs.Nodes.{log_nodes}
-
--- the child of an entry is one of its log's
-pub child_in : (group : Group) (front : List Command) (c : Command) (child : Base) → birth_of (state_after group front) c (applied (state_after group front) c).1 ≡ Some child → Among child (children_of group (front ++ c ∷ []))
-child_in group [] c child e = Among-left child (option_to_list (birth_of group c (applied group c).1)) [] (subst (λ o. Among child (option_to_list o)) (sym e) (inl refl))
-child_in group (d ∷ front) c child e =
-    Among-right child (option_to_list (birth_of group d (applied group d).1)) (children_of (applied group d).0 (front ++ c ∷ [])) (child_in (applied group d).0 front c child e)
+use Rattle.sc_calm_logs_law.proofs.Bearing.{first_nodes, OrdersNodes, lines_nodes, wishes_nodes, children_nodes}
+use Rattle.sc_calm_logs_law.proofs.ChildrenIn.{child_in}
 
 -- what policies queue at a tick
-ticks_nodes : (bases : List Base) (on : Bool) (drawer : Drawer) (rs : List ReplicaState) → MayTick bases (λ (base : Base). BringsNodes) on drawer rs
-ticks_nodes bases on drawer [] = tt
-ticks_nodes bases on drawer (r ∷ rs) =
-    (λ b a into here leads line wished taken. wishes_nodes on (waited_in r.group.core.lock r) line (next_name drawer) wished, ticks_nodes bases on (names_after_tick on drawer r) rs)
+ticks_nodes : (scenario : Scenario) (bases : List Base) (on : Bool) (drawer : Drawer) (rs : List ReplicaState) → MayTick bases (λ (base : Base). (BringsNodes (IsUpTo scenario.nodes))) on drawer rs
+ticks_nodes scenario bases on drawer [] = tt
+ticks_nodes scenario bases on drawer (r ∷ rs) =
+    (λ b a into here leads line wished taken. wishes_nodes scenario on (waited_in r.group.core.lock r) line (next_name drawer) wished, ticks_nodes scenario bases on (names_after_tick on drawer r) rs)
 
 module _ (sources : Sources) (ahead : Ahead) (words : ℕ → ℕ → ℕ × ℕ) (scenario : Scenario) (route : Route) (b : BeginsWell sources ahead scenario route) (journal : Rows) (orders : OrdersAreAllowed sources ahead scenario journal) (lawful : Lawful ahead words scenario journal)
     (bounded : IsBounded scenario) where
@@ -47,23 +40,23 @@ module _ (sources : Sources) (ahead : Ahead) (words : ℕ → ℕ → ℕ × ℕ
 
   -- what is queued brings nodes, and what is heard says nodes, whatever the rows
   abbrev made : Rows → Base → Command → Type 0
-  made rows base = BringsNodes
+  made rows base = (BringsNodes (IsUpTo scenario.nodes))
 
   abbrev heard : Rows → MailBody → Type 0
-  heard rows = SaysNodes
+  heard rows = (SaysNodes (IsUpTo scenario.nodes))
 
   -- what holds of the first rows: of their players and logs, and of the groups at their birth
   record NodesHold (rows : Rows) : Type 0 where
     kept : Kept ahead scenario scenario.groups (bases rows) route made heard rows
-    begins : (base : Base) → Among base (bases rows) → HasNodes base.core
+    begins : (base : Base) → Among base (bases rows) → (HasNodes (IsUpTo scenario.nodes)) base.core
 
   -- before any row
   none_hold : NodesHold []
   none_hold = record { kept = at_start ahead scenario scenario.groups route made heard b.apart; begins = first_nodes scenario bounded }
 
   -- each entry of a log was offered, so it brings nodes
-  entries_nodes : (rows : Rows) → NodesHold rows → (base : Base) → Among base (bases rows) → Each BringsNodes (decided_log ahead base rows)
-  entries_nodes rows h base a = each_got BringsNodes (decided_log ahead base rows) (λ place c at. (
+  entries_nodes : (rows : Rows) → NodesHold rows → (base : Base) → Among base (bases rows) → Each (BringsNodes (IsUpTo scenario.nodes)) (decided_log ahead base rows)
+  entries_nodes rows h base a = each_got (BringsNodes (IsUpTo scenario.nodes)) (decided_log ahead base rows) (λ place c at. (
       let part = h.kept.parts base a in
       let offer = entry_offered ahead base rows part.lawful place c at in
       part.requested offer.0 offer.1 c offer.2))
@@ -72,13 +65,13 @@ module _ (sources : Sources) (ahead : Ahead) (words : ℕ → ℕ → ℕ × ℕ
 
   -- a row that tells no order but of nodes
   abbrev TellsNodes : Row Mail OrderLine → Type 0
-  TellsNodes row = IsToldSo OrdersNodes row.who row.event
+  TellsNodes row = IsToldSo (OrdersNodes scenario) row.who row.event
 
   -- each order that is told is of nodes
   told_nodes : Each TellsNodes journal
   told_nodes =
-      told_induction OrdersNodes (system_of ahead words scenario) (Each TellsNodes) (λ before row p told step. Each-append TellsNodes before (row ∷ []) p (told, tt)) (schedule scenario) journal
-      (lines_nodes scenario.nodes bounded.nodes.1 scenario.clients scenario.lines (Each-from_All (IsBoundedLine scenario.nodes scenario.clients) scenario.lines bounded.lines)) tt lawful
+      told_induction (OrdersNodes scenario) (system_of ahead words scenario) (Each TellsNodes) (λ before row p told step. Each-append TellsNodes before (row ∷ []) p (told, tt)) (schedule scenario) journal
+      (lines_nodes scenario scenario.clients scenario.lines (Each-from_All (IsBoundedLine scenario.nodes scenario.clients) scenario.lines bounded.lines)) tt lawful
 
   -- ---- one row more
 
@@ -123,9 +116,9 @@ module _ (sources : Sources) (ahead : Ahead) (words : ℕ → ℕ → ℕ × ℕ
         record { among = there; alone = λ other o same. found.apart other child o there same; open_slots = b.seats.open_slots }
 
     -- what the row's order may queue, and what policies do
-    may_tell : (who : ℕ) (event : Event OrderLine) → IsToldSo OrdersNodes who event → MayTell ahead words scenario scenario.groups (bases rows) route made heard players rows who event
+    may_tell : (who : ℕ) (event : Event OrderLine) → IsToldSo (OrdersNodes scenario) who event → MayTell ahead words scenario scenario.groups (bases rows) route made heard players rows who event
     may_tell who (Told line) told = λ low high node is base a into r held taken. told (next_name node.draws)
-    may_tell who Tick told = λ low high node is. ticks_nodes (bases rows) node.policy node.draws node.replicas
+    may_tell who Tick told = λ low high node is. ticks_nodes scenario (bases rows) node.policy node.draws node.replicas
     may_tell who _ told = tt
 
     -- what may be queued and heard stays so
@@ -136,7 +129,7 @@ module _ (sources : Sources) (ahead : Ahead) (words : ℕ → ℕ → ℕ × ℕ
     moves : Moved ahead scenario scenario.groups (bases rows) route made heard rows row
     moves =
         moved ahead words scenario scenario.groups (bases rows) route made heard players rows h.kept (λ body t tx coord hint. tt)
-        (λ base a. says_nodes ahead base (h.begins base a) (h_of rows base)) offspring (λ r steps. later r) row
+        (λ base a. says_nodes (IsUpTo scenario.nodes) ahead base (h.begins base a) (h_of rows base)) offspring (λ r steps. later r) row
         (may_tell row.who row.event (Each-among TellsNodes (rows ++ row ∷ more) row (subst (Each TellsNodes) e told_nodes) (Among-right row rows (row ∷ more) (inl refl)))) step
 
     -- a newborn has a new name
@@ -148,16 +141,16 @@ module _ (sources : Sources) (ahead : Ahead) (words : ℕ → ℕ → ℕ × ℕ
     old_or_new base a = elim (groups_are_old_or_new sources ahead scenario.groups b.place rows before.turn row decides base a) [ inl was ↦ inl was | inr n ↦ inr (is_new base n, (n.parent, n.stands)) ]
 
     -- they begin with nodes
-    begin_next : (base : Base) → Among base (bases next) → HasNodes base.core
+    begin_next : (base : Base) → Among base (bases next) → (HasNodes (IsUpTo scenario.nodes)) base.core
     begin_next base a = elim (groups_are_old_or_new sources ahead scenario.groups b.place rows before.turn row decides base a) [
       | inl was ↦ h.begins base was
       | inr n ↦ (
           let parent = n.parent in
           let stepped = (moves.parts parent n.stands).stepped in
           let all = decided_made ahead scenario scenario.groups (bases rows) route made heard parent rows row stepped in
-          children_nodes (decided_state ahead parent rows) (added_by ahead rows row parent)
-          (log_nodes (group_of parent) (decided_log ahead parent rows) (h.begins parent n.stands) (entries_nodes rows h parent n.stands))
-          (Each-drop BringsNodes (length (decided_log ahead parent rows)) (decided_log ahead parent next) all) base n.named)
+          children_nodes scenario (decided_state ahead parent rows) (added_by ahead rows row parent)
+          (log_nodes (IsUpTo scenario.nodes) (group_of parent) (decided_log ahead parent rows) (h.begins parent n.stands) (entries_nodes rows h parent n.stands))
+          (Each-drop (BringsNodes (IsUpTo scenario.nodes)) (length (decided_log ahead parent rows)) (decided_log ahead parent next) all) base n.named)
     ]
 
     -- and all holds with it
@@ -188,9 +181,9 @@ module _ (sources : Sources) (ahead : Ahead) (words : ℕ → ℕ → ℕ × ℕ
 
   module _ (base : Base) (stands : Among base (bases journal)) where
     -- a group begins with nodes
-    pub begins_nodes : HasNodes base.core
+    pub begins_nodes : (HasNodes (IsUpTo scenario.nodes)) base.core
     begins_nodes = all_hold.begins base stands
 
     -- and each entry of its log brings nodes
-    pub brings_nodes : Each BringsNodes (decided_log ahead base journal)
+    pub brings_nodes : Each (BringsNodes (IsUpTo scenario.nodes)) (decided_log ahead base journal)
     brings_nodes = entries_nodes journal all_hold base stands

@@ -7,7 +7,7 @@ use Rattle.sc_machine_table.specs.Definitions.{Group}
 use Rattle.sc_actor.specs.Definitions.{mails, numbered}
 use Rattle.sc_paxos_law.specs.Definitions.{needed, IsLog, IsLawfulHistory}
 use Rattle.sc_paxos_law.proofs.Lemmas.{earlier}
-use Rattle.sc_scenario.specs.Definitions.{ValidScenariosAreBounded}
+use Rattle.sc_scenario.specs.Definitions.{ValidScenariosAreBounded, IsUpTo}
 use Rattle.sc_scenario.specs.declared.scenarios.Scenario.{Scenario}
 use Rattle.sc_node_table.specs.Definitions.{entered, NodeState, ReplicaState, next, slots_ahead, with_slot}
 use Rattle.sc_sound.specs.Definitions.{decided_log, Ahead, Player, route_of}
@@ -25,6 +25,9 @@ use Rattle.sc_calm_logs_law.proofs.Bringing.{begins_nodes, brings_nodes}
 use Rattle.sc_calm_logs_law.proofs.Counting.{counted_learnt, each_with_slot}
 use Rattle.sc_calm_logs_law.proofs.Journals.{part, roster, fronts, sent_in, along, opens, many, flying}
 use Rattle.sc_calm_logs_law.proofs.Nodes.{slots_have_nodes}
+use Rattle.sc_calm_logs_law.proofs.Nodes as so
+use Rattle.sc_paxos_words.proofs.Lemmas.{Each-weaker}
+use Rattle.sc_calm_logs_law.proofs.UpToNodes.{up_to_node, brings, has}
 
 -- what the laws under this one say of valid scenarios
 module _ (bounded : ValidScenariosAreBounded) (begin : ValidScenariosBeginWell) (allowed : TakenOrdersAreAllowed) (wishes : TakenWishesAreAllowed) (positions : WishesAreAtPositions) (free : OtherNamesAreFree) where
@@ -68,12 +71,18 @@ module _ (bounded : ValidScenariosAreBounded) (begin : ValidScenariosBeginWell) 
     -- ---- nodes
 
     -- the group begins with nodes
+    begins_up : so.HasNodes (IsUpTo scenario.nodes) base.core
+    begins_up = begins_nodes sources ahead words scenario route well journal orders group.lawful (bounded scenario group.valid) base group.stands
+
     begins : HasNodes base.core
-    begins = begins_nodes sources ahead words scenario route well journal orders group.lawful (bounded scenario group.valid) base group.stands
+    begins = has scenario.nodes (bounded scenario group.valid).nodes.1 base.core begins_up
 
     -- and each entry of its log brings nodes
+    entries_up : Each (so.BringsNodes (IsUpTo scenario.nodes)) all
+    entries_up = brings_nodes sources ahead words scenario route well journal orders group.lawful (bounded scenario group.valid) base group.stands
+
     entries_are : Each BringsNodes all
-    entries_are = brings_nodes sources ahead words scenario route well journal orders group.lawful (bounded scenario group.valid) base group.stands
+    entries_are = Each-weaker (so.BringsNodes (IsUpTo scenario.nodes)) BringsNodes (λ command k. brings scenario.nodes (bounded scenario group.valid).nodes.1 command k) all entries_up
 
     -- ---- mail
 
@@ -168,4 +177,4 @@ module _ (bounded : ValidScenariosAreBounded) (begin : ValidScenariosBeginWell) 
   entries_bring_nodes = record { begins = begins; entries = entries_are }
 
   pub members_are_nodes : MembersAreNodes
-  members_are_nodes ahead words scenario journal base group = slots_have_nodes ahead base journal (begins ahead words scenario journal base group) (entries_are ahead words scenario journal base group)
+  members_are_nodes ahead words scenario journal base group = λ slot node m. up_to_node scenario.nodes node (bounded scenario group.valid).nodes.1 (slots_have_nodes (IsUpTo scenario.nodes) ahead base journal (begins_up ahead words scenario journal base group) (entries_up ahead words scenario journal base group) slot node m)

@@ -1,5 +1,7 @@
 pub mod Along
 pub mod Bearing
+pub mod ChildrenIn
+pub mod UpToNodes
 pub mod Bringing
 pub mod Counting
 pub mod Journals

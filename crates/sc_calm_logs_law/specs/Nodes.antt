@@ -3,7 +3,6 @@ use Rattle.std.specs.Prelude.{◌≡◌, ℕ, true, List}
 use Rattle.sc_base.specs.Definitions.{Each, is_member}
 use Rattle.sc_node_table.specs.Values.{Command, Noop, Call, Join, Leave, Split, Begin, Prepared, RecordVote, GiveUp, Finish, Watched, RecordWatch, Core, Lock, Free, Coordinating, Promised, Watching, Heard, Outcome, Abort, Merged, Moved, Migrated, Divided, Vote, Yes, MailBody, TxVote, TxOutcome, Base, Draw}
 use Rattle.sc_cmd.specs.declared.votes.Vote.TheVariants.{No}
-use Rattle.sc_machine_table.specs.Definitions.{Group, applied}
 use Rattle.sc_node_table.specs.Definitions.{is_node}
 use Rattle.sc_sound.specs.Definitions.{decided_log, Ahead}
 use Rattle.sc_log_law.specs.Definitions.{Rows}
@@ -59,19 +58,11 @@ LockNodes (Watching tx watch) = Unit {0}
 abbrev pub HasNodes : Core → Type 0
 HasNodes core = AreNodes core.members × LockNodes core.lock × Each (λ (decision : Draw × Outcome). MovesNode decision.1) core.decided
 
--- a command that brings nodes leaves it so
-abbrev pub NodesStayNodes : Type 0
-NodesStayNodes = (group : Group) (command : Command) → BringsNodes command → HasNodes group.core → HasNodes (applied group command).0.core
-
 -- what a mail of a transaction says of nodes is so
 abbrev pub SaysNodes : MailBody → Type 0
 SaysNodes (TxVote tx coord part vote) = HandsNodes vote
 SaysNodes (TxOutcome tx part outcome) = MovesNode outcome
 SaysNodes _ = Unit {0}
-
--- So the members of each slot by a group's log are nodes, if it begins with nodes and each entry brings nodes.
-abbrev pub SlotsHaveNodes : Type 0
-SlotsHaveNodes = (ahead : Ahead) (base : Base) (journal : Rows) → HasNodes base.core → Each BringsNodes (decided_log ahead base journal) → (slot node : ℕ) → is_member (logged_sets ahead base journal slot) node ≡ true → is_node node ≡ true
 
 -- Each group of a lawful journal of a valid scenario begins with nodes, and each entry of its log brings nodes ..
 pub record EntriesBringNodes : Type 0 where

@@ -1,7 +1,7 @@
 -- A client keeps its number, and sends requests of its own alone.
 use Rattle.std.proofs.Common.{◌≡◌, ℕ, ◌+◌, nat_le, cond, [], ◌∷◌, ◌++◌, length, Option, Some, None, ap}
 use Rattle.sc_base.specs.Definitions.{Each}
-use Rattle.sc_node_table.specs.Values.{Draw, Op, OrderLine, Input, Got, AnswerBody, Mail, MailBody, Request, Answer, Prepare, Promise, Accept, Accepted, Nack, Learn, Ask, Install, TxPrepare, TxVote, TxOutcome, TxElsewhere, TxWatch, TxWatched, Told as ToldMail}
+use Rattle.sc_node_table.specs.Values.{Draw, Op, OrderLine, Input, Got, AnswerBody, Mail, MailBody, Answer}
 use Rattle.sc_actor.specs.declared.rows.Input.TheVariants.{Tick, Go, Told}
 use Rattle.sc_lookup.specs.Definitions.{target_in, preferring, passed_on, told_not_mine, told_gone}
 use Rattle.sc_mail.specs.declared.bodies.AnswerBody.TheVariants as Says

@@ -1,7 +1,7 @@
 -- Slots and rounds are few after any rows that come in time.
 use Rattle.std.proofs.Common.{ℕ, ◌+◌, ◌≤◌, List, refl, sym, subst, inl, inr, arith}
 use Rattle.sc_base.specs.Definitions.{Each}
-use Rattle.sc_node_table.specs.Values.{Command, Mail, MailBody, Request, Answer, Prepare, Promise, Accept, Accepted, Nack, Learn, Ask, Install, TxPrepare, TxVote, TxOutcome, TxElsewhere, TxWatch, TxWatched, Told, Seat, Flight, Report}
+use Rattle.sc_node_table.specs.Values.{Command, Mail, MailBody, Prepare, Promise, Accept, Accepted, Nack, Learn, Ask, Install, Seat, Flight, Report}
 use Rattle.sc_paxos_words.proofs.Lemmas.{Each-weaker}
 use Rattle.sc_sound.specs.Definitions.{Player, births, as_nodes}
 use Rattle.sc_calm_mail_law.specs.Definitions.{most_after, IsFewReport, SaysFew, JournalsHaveFew, SlotsAreLeft, JournalsKeepIdle}

@@ -3,7 +3,7 @@ use Rattle.std.proofs.Common.{◌≡◌, ℕ, ◌||◌, not, nat_lt, eqb, true�
 use Rattle.std.specs.Option.{option_map}
 use Rattle.std.proofs.lemmas.Bool.{cases_Bool, eqb-true, eq-eqb}
 use Rattle.sc_base.specs.Definitions.{same_draw, Drawer}
-use Rattle.sc_node_table.specs.Values.{Draw, OrderLine, Mail, MailBody, Install, Node, Client, Seat, Event, Deliver, Tick as TickEvent, Go as GoEvent, Crash, Drop, Again, Input, Got, Row}
+use Rattle.sc_node_table.specs.Values.{Draw, OrderLine, Mail, MailBody, Install, Node, Client, Seat, Event, Deliver, Go as GoEvent, Input, Got, Row}
 use Rattle.sc_base.proofs.Lemmas.{draw_is, same_name}
 use Rattle.sc_actor.specs.declared.rows.Event.TheVariants.{Told as ToldEvent}
 use Rattle.sc_actor.specs.declared.rows.Input.TheVariants.{Tick, Go as GoInput, Told as ToldInput}

@@ -2,7 +2,7 @@
 use Rattle.std.proofs.Common.{length, ◌≡◌, ℕ, zero, suc, ◌+◌, ◌≤◌, nat_le, eqb, true, false, List, [], ◌∷◌, map, refl, sym, ◌∙◌, ap, subst, inl, inr, arith, rules, tests}
 use Rattle.std.proofs.lemmas.Bool.{le-leb}
 use Rattle.sc_base.specs.Definitions.{Each, most_nodes}
-use Rattle.sc_node_table.specs.Values.{Base, Mail, MailBody, Request, Answer, Prepare, Promise, Accept, Accepted, Nack, Learn, Ask, Install, TxPrepare, TxVote, TxOutcome, TxElsewhere, TxWatch, TxWatched, Told, Node, Client, Seat, Row}
+use Rattle.sc_node_table.specs.Values.{Base, Mail, MailBody, Request, Node, Client, Seat, Row}
 use Rattle.sc_actor.specs.Definitions.{mails, row_of, value}
 use Rattle.sc_orderly_law.proofs.Lemmas.{last_in_time, in_time_before}
 use Rattle.sc_paxos_words.proofs.Lemmas.{Each-among, Each-append, Each-weaker, find_found, find_nothing}

@@ -1,6 +1,6 @@
 -- A command of a transaction is the work of an order.
 use Rattle.std.proofs.Common.{refl}
-use Rattle.sc_node_table.specs.Values.{Noop, Call, Join, Leave, Split, Begin, Prepared, RecordVote, GiveUp, Finish, Watched, RecordWatch}
+use Rattle.sc_node_table.specs.Values.{Prepared, RecordVote, GiveUp, Finish, Watched, RecordWatch}
 use Rattle.sc_calm_mail_law.specs.Definitions.{FiledIsWork}
 
 -- A command of a transaction is the work of an order.

@@ -1,7 +1,7 @@
 -- A replica that does not run stays where it is by mail that is no part of the agreement, and sends nothing of its group.
 use Rattle.std.proofs.Common.{◌≡◌, ℕ, suc, ◌&&◌, nat_le, Bool, true, false, cond, List, [], ◌∷◌, ◌++◌, Option, Some, None, refl, sym, ap, subst, arith}
 use Rattle.sc_base.specs.Definitions.{Drawer, next_name, client_actor}
-use Rattle.sc_node_table.specs.Values.{Ballot, Draw, Op, Offer, Watch, Command, Call, Prepared as PreparedAct, RecordVote, Finish, Watched, RecordWatch, OrderLine, OrderRefusal, Refused, Outcome, Past, Vote, AnswerBody, Mail, MailBody, Request, Answer, Prepare, Promise, Accept, Accepted, Nack, Learn, Ask, Install, TxPrepare, TxVote, TxOutcome, TxElsewhere, TxWatch, TxWatched, Told}
+use Rattle.sc_node_table.specs.Values.{Ballot, Draw, Op, Offer, Watch, Command, Call, Prepared as PreparedAct, RecordVote, Finish, Watched, RecordWatch, OrderLine, OrderRefusal, Refused, Outcome, Past, Vote, AnswerBody, Mail, MailBody, Request, Answer, Nack, TxPrepare, TxVote, TxOutcome, TxElsewhere, TxWatch, TxWatched, Told}
 use Rattle.sc_cmd.specs.declared.votes.Past.TheVariants as Cast
 use Rattle.sc_cmd.specs.declared.votes.Vote.TheVariants as Vows
 use Rattle.sc_paxos_words.specs.Definitions.{below}

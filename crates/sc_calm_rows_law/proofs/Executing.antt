@@ -2,7 +2,7 @@
 use Rattle.std.proofs.Common.{◌≡◌, ℕ, ◌+◌, ◌-◌, ◌^◌, ◌&&◌, nat_le, eqb, Bool, true, cond, List, [], ◌∷◌, ◌++◌, Option, Some, None, refl, ◌∙◌}
 use Rattle.std.specs.Prelude.{is_some}
 use Rattle.std.specs.List.{list_any}
-use Rattle.sc_node_table.specs.Values.{Ballot, Draw, Command, Noop, Call, Join, Leave, Split, Begin, Prepared, RecordVote, GiveUp, Finish, Watched, RecordWatch, Effect, Route, ToldResult, AnswerBody, Answer, Prepare, Accept, Learn, Install, Must, Gap}
+use Rattle.sc_node_table.specs.Values.{Ballot, Draw, Command, Noop, Call, Effect, Route, ToldResult, AnswerBody, Answer, Prepare, Accept, Learn, Install, Must, Gap}
 use Rattle.sc_base.specs.Definitions.{client_actor, is_member, least_of}
 use Rattle.sc_mail.specs.declared.bodies.AnswerBody.TheVariants as Says
 use Rattle.sc_machine_table.specs.Definitions.{base_of, applied}

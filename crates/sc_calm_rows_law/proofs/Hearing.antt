@@ -3,7 +3,7 @@ use Rattle.std.proofs.Common.{◌≡◌, ℕ, ◌+◌, nat_le, eqb, cond, List, 
 use Rattle.std.specs.List.{filter}
 use Rattle.std.proofs.lemmas.Bool.{cond_both}
 use Rattle.sc_base.specs.Definitions.{Each}
-use Rattle.sc_node_table.specs.Values.{Draw, Op, OrderLine, AnswerBody, Mail, MailBody, Request, Answer, Prepare, Promise, Accept, Accepted, Nack, Learn, Ask, Install, TxPrepare, TxVote, TxOutcome, TxElsewhere, TxWatch, TxWatched, Told as ToldMail, Input, Got}
+use Rattle.sc_node_table.specs.Values.{Draw, Op, OrderLine, AnswerBody, Mail, MailBody, Request, Answer, Prepare, Accept, Learn, TxPrepare, TxWatch, Input, Got}
 use Rattle.sc_mail.specs.declared.bodies.AnswerBody.TheVariants as Says
 use Rattle.sc_actor.specs.declared.rows.Input.TheVariants.{Tick, Go, Told}
 use Rattle.sc_client_table.specs.Definitions.{Client, waiting_request, ClientStep, asked_of, sent_to, sent_where, chosen_for, request_sent, started, client_ticked, waits_for, was_asked, redirected, answer_taken, got, table}

@@ -3,7 +3,7 @@ use Rattle.std.proofs.Common.{◌≡◌, ℕ, ◌+◌, ◌-◌, ◌^◌, ◌≤�
 use Rattle.std.specs.Prelude.{is_some}
 use Rattle.std.specs.List.{list_any}
 use Rattle.std.proofs.lemmas.Bool.{cond-true, cond-false, eq-eqb, le-ltb}
-use Rattle.sc_node_table.specs.Values.{Command, Noop, Call, Join, Leave, Split, Begin, Prepared, RecordVote, GiveUp, Finish, Watched, RecordWatch, Effect, Route, ToldResult, AnswerBody, Ask, Learn, Must, Gap}
+use Rattle.sc_node_table.specs.Values.{Command, Noop, Effect, Route, ToldResult, AnswerBody, Ask, Learn, Must, Gap}
 use Rattle.sc_mail.specs.declared.bodies.AnswerBody.TheVariants as Says
 use Rattle.sc_base.specs.Definitions.{is_member, least_of}
 use Rattle.sc_machine_table.specs.Definitions.{applied}

@@ -1,7 +1,7 @@
 -- Each row that comes in time takes the first mark of its receiver, if it takes any, and puts marks behind.
 use Rattle.std.proofs.Common.{◌≡◌, ℕ, ◌&&◌, cond, List, [], ◌∷◌, ◌++◌, drop, refl, sym, ◌∙◌, ap, subst, append_assoc}
 use Rattle.std.proofs.lemmas.Bool.{ne_eqb, eq-eqb}
-use Rattle.sc_node_table.specs.Values.{Draw, Base, OrderLine, Mail, Seat, Event, Deliver, Tick, Go, Crash, Drop, Again, Row}
+use Rattle.sc_node_table.specs.Values.{Draw, Base, OrderLine, Mail, Seat, Event, Deliver, Tick, Go, Row}
 use Rattle.sc_actor.specs.declared.rows.Event.TheVariants.{Told}
 use Rattle.sc_actor.specs.Definitions.{mails, is_delivery, System, row_of}
 use Rattle.sc_orderly_law.specs.Definitions.{IsTidy, IsCalmRow, IsCalmEvent, rest, mail_for, taken}

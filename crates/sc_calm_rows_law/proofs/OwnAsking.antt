@@ -2,7 +2,7 @@
 use Rattle.std.proofs.Common.{◌≡◌, ℕ, ◌+◌, ◌-◌, eqb, true, false, refl, true≢false, List, [], ◌∷◌, ◌++◌, map, find, Option, Some, None, sym, ◌∙◌, subst}
 use Rattle.std.proofs.lemmas.Bool.{eqb-true}
 use Rattle.sc_base.specs.Definitions.{Each, is_member}
-use Rattle.sc_node_table.specs.Values.{Draw, Base, Command, OrderLine, Mail, MailBody, Request, Answer, Prepare, Promise, Accept, Accepted, Nack, Learn, Ask, Install, TxPrepare, TxVote, TxOutcome, TxElsewhere, TxWatch, TxWatched, Told, Node, Client, Seat, Event, Row, Input, Got}
+use Rattle.sc_node_table.specs.Values.{Draw, Base, Command, OrderLine, Mail, MailBody, Prepare, Accept, Node, Client, Seat, Event, Row, Input, Got}
 use Rattle.sc_node_table.specs.Definitions.{entered, jumped, forgotten, ReplicaState, installed_replica, born_replica, slots_ahead, numbers_from, node_table, born_replicas}
 use Rattle.sc_paxos_words.specs.Definitions.{LeaderState, promise_counted, counted}
 use Rattle.sc_law_lemmas.specs.Definitions.{IsKept}

@@ -3,7 +3,7 @@ use Rattle.std.proofs.Common.{◌≡◌, ℕ, ◌+◌, nat_le, cond, List, [], �
 use Rattle.std.specs.Option.{option_map}
 use Rattle.std.proofs.lemmas.Bool.{cond-true, cond-false}
 use Rattle.sc_base.specs.Definitions.{Each}
-use Rattle.sc_node_table.specs.Values.{Draw, Op, OrderLine, Refused, AnswerBody, Mail, MailBody, Request, Answer, Prepare, Promise, Accept, Accepted, Nack, Learn, Ask, Install, TxPrepare, TxVote, TxOutcome, TxElsewhere, TxWatch, TxWatched, Told as ToldMail, Node as ANode, Client as AClient, Seat, Event, Deliver, Go as Goes, Input, Got}
+use Rattle.sc_node_table.specs.Values.{Draw, Op, OrderLine, Refused, AnswerBody, Mail, MailBody, Request, Answer, Prepare, Accept, Learn, TxPrepare, TxVote, TxOutcome, TxElsewhere, TxWatch, TxWatched, Node as ANode, Client as AClient, Seat, Event, Deliver, Go as Goes, Input, Got}
 use Rattle.sc_cmd.specs.declared.orders.OrderRefusal.TheVariants.{NotLeader}
 use Rattle.sc_mail.specs.declared.bodies.AnswerBody.TheVariants as Says
 use Rattle.sc_actor.specs.declared.rows.Event.TheVariants.{Told as Orders}

@@ -2,7 +2,7 @@
 use Rattle.std.proofs.Common.{◌≡◌, ℕ, ◌+◌, ◌≤◌, eqb, ltb, true, false, true≢false, List, [], ◌∷◌, Option, Some, None, inl, inr, refl, sym, ◌∙◌, ap, subst, arith}
 use Rattle.std.specs.FinMap.{get}
 use Rattle.std.proofs.lemmas.Bool.{cond_both}
-use Rattle.sc_node_table.specs.Values.{Noted, Op, Command, Noop, Call, Join, Leave, Split, Begin, Prepared, RecordVote, GiveUp, Finish, Watched, RecordWatch, Core, Lock, Free, Coordinating, Promised, Watching, Effect, Route}
+use Rattle.sc_node_table.specs.Values.{Noted, Op, Command, Noop, Call, Core, Lock, Free, Coordinating, Promised, Watching, Effect, Route}
 use Rattle.sc_ideal.specs.Definitions.{key_of, holds_key}
 use Rattle.sc_machine_table.specs.Definitions.{Group, served_by_note, served, called, applied}
 use Rattle.sc_base.specs.Definitions.{is_member}

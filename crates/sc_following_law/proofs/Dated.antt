@@ -7,7 +7,7 @@ use Rattle.sc_base.specs.Definitions.{Each}
 use Rattle.sc_node_table.specs.Values.{Draw, Mail}
 use Rattle.sc_node_table.specs.Definitions.{listed}
 use Rattle.sc_paxos_words.proofs.Lemmas.{Each-split}
-use Rattle.sc_following_law.specs.Definitions.{Dated, from_slot_of, dated_of, marks_in, IsLow, AreLow, IsNoPrepare, IsAskedLow, IsDatedRow, AsksFromNext, SlotsAreKept, PreparesAreKnown, Mark, Asks, Votes, Tells, Installs, Prepares, Promises, mark_of, marks_of, next_by, reached, Progress, Sets, IsFollowing, IsCount, Leads}
+use Rattle.sc_following_law.specs.Definitions.{Dated, from_slot_of, dated_of, marks_in, IsLow, AreLow, IsNoPrepare, IsAskedLow, IsDatedRow, AsksFromNext, SlotsAreKept, PreparesAreKnown, Mark, Votes, Prepares, Promises, mark_of, marks_of, next_by, reached, Progress, Sets, IsFollowing, IsCount, Leads}
 use Rattle.sc_following_law.proofs.Elects.{last_next}
 use Rattle.sc_following_law.proofs.Keeps.{counts_of}
 

@@ -5,7 +5,7 @@ use Rattle.std.specs.List.{list_any}
 use Rattle.std.specs.Option.{option_map}
 use Rattle.std.proofs.lemmas.Bool.{cases_lt, cases_eq, cond_both, eq-eqb, ne_eqb, or_left}
 use Rattle.sc_base.specs.Definitions.{Among, Each, client_actor, is_member}
-use Rattle.sc_node_table.specs.Values.{Ballot, Draw, Command, Noop, Call, Join, Leave, Split, Begin, Prepared, RecordVote, GiveUp, Finish, Watched, RecordWatch, Core, AnswerBody, Mail, Accept, Answer, Must, Gap, Flight}
+use Rattle.sc_node_table.specs.Values.{Ballot, Draw, Command, Noop, Call, Core, AnswerBody, Mail, Accept, Answer, Must, Gap, Flight}
 use Rattle.sc_paxos_words.specs.declared.answers.Must.TheVariants.{Value, Free as Open}
 use Rattle.sc_paxos_words.specs.Definitions.{must, flight_at}
 use Rattle.sc_paxos_words.proofs.Lemmas.{Each-append, Each-weaker}

@@ -6,7 +6,7 @@ use Rattle.std.specs.Option.{option_map}
 use Rattle.std.proofs.lemmas.Bool.{and_parts, cases_Bool, cases_eq, cases_lt, eqb-true, eq-eqb, ltb-true, or_cases, or_left, or_right}
 use Rattle.std.proofs.lemmas.List.Folds.{list_any-append}
 use Rattle.std.proofs.lemmas.List.Sums.{sum_by-cons}
-use Rattle.sc_node_table.specs.Values.{Command, Noop, Call, Join, Leave, Split, Begin, Prepared, RecordVote, GiveUp, Finish, Watched, RecordWatch, Core, AnswerBody, Mail, Accept, Flight, Report}
+use Rattle.sc_node_table.specs.Values.{Command, Noop, Call, Core, AnswerBody, Mail, Accept, Flight, Report}
 use Rattle.sc_base.specs.Definitions.{votes_of, is_majority, is_member}
 use Rattle.sc_paxos_words.specs.Definitions.{below, chosen_value, names_above, must_without, flight_at, without_flight, with_voters}
 use Rattle.sc_node_table.specs.Definitions.{answered, sent_all, Found, is_act, waits, turned_down, next_call, from_calls, from_acts, from_queues, found_by, found_for, offered, pumped_from, pumped, ReplicaState, Place, listed, name_of, next, settled, may_offer, either, taken_at, flying, taken_from, under_way, is_idle, first_set, last_slot, at_slot, with_slot, numbers_from}

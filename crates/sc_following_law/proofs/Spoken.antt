@@ -1,6 +1,6 @@
 -- What a leader says of an entry to clients, the desk and other groups is nothing to its own group.
 use Rattle.std.proofs.Common.{◌≡◌, ℕ, Bool, true, false, cond, List, [], ◌∷◌, ◌++◌, Option, Some, None, refl, ◌∙◌}
-use Rattle.sc_node_table.specs.Values.{Draw, Body, Offer, Watch, Command, Noop, Call, Join, Leave, Split, Begin, Prepared, RecordVote, GiveUp, Finish, Watched, RecordWatch, Core, Lock, Free, Coordinating, Promised, Watching, Effect, Link, Heard, Outcome, Past, Vote, ToldResult, AnswerBody, Mail, MailBody, Answer, TxPrepare, TxOutcome, Told}
+use Rattle.sc_node_table.specs.Values.{Draw, Body, Offer, Watch, Command, Call, Split, Begin, Prepared, RecordVote, GiveUp, Watched, RecordWatch, Core, Lock, Free, Coordinating, Promised, Watching, Effect, Link, Heard, Outcome, Past, Vote, ToldResult, AnswerBody, Mail, MailBody, Answer, TxPrepare, TxOutcome, Told}
 use Rattle.sc_base.specs.Definitions.{client_actor, least_of}
 use Rattle.sc_cmd.specs.declared.bodies.Body.TheVariants as At
 use Rattle.sc_cmd.specs.declared.votes.Outcome.TheVariants as Is

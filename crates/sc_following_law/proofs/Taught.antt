@@ -5,7 +5,7 @@ use Rattle.sc_base.specs.Definitions.{Among, Each, IsRoster, is_member}
 use Rattle.sc_node_table.specs.Values.{Ballot}
 use Rattle.sc_node_table.specs.Definitions.{listed}
 use Rattle.sc_paxos_words.proofs.Lemmas.{Each-append, Each-weaker}
-use Rattle.sc_following_law.specs.Definitions.{Mark, Asks, Votes, Tells, Installs, Prepares, Promises, next_by, promise_by, reached, pledged, AreFit, Course, Progress, Sets, members_at, IsFollowing, Tellers, LeavesLast, IsRow, IsIdle, IsCount, Takes, told_of, told_from, Leads, Elects, begun, IsForMember, IsMemberBy, AreTaught, TaughtIsKept, QuietMembersKnow}
+use Rattle.sc_following_law.specs.Definitions.{Mark, Votes, Tells, Installs, Prepares, Promises, next_by, promise_by, reached, pledged, AreFit, Course, Progress, Sets, members_at, IsFollowing, Tellers, LeavesLast, IsRow, IsIdle, IsCount, Takes, told_of, told_from, Leads, Elects, begun, IsForMember, IsMemberBy, AreTaught, TaughtIsKept, QuietMembersKnow}
 use Rattle.sc_following_law.proofs.Elects.{elects-keeps}
 use Rattle.sc_following_law.proofs.Keeps.{counts_of, each-row, reached_left}
 use Rattle.sc_following_law.proofs.Leads.{leads-keeps}

@@ -5,7 +5,7 @@ use Rattle.std.specs.Prelude.{is_some, nat_lt, ◌||◌, not}
 use Rattle.std.specs.Option.{option_map}
 use Rattle.std.proofs.lemmas.Bool.{cases_Bool, cond-true, cond-false, cond_both, eqb-true, eqb-false, eq-eqb, leb-true, le-leb, and_from, and_parts, cases_lt}
 use Rattle.sc_base.specs.Definitions.{Among, Drawer}
-use Rattle.sc_node_table.specs.Values.{Draw, Base, OrderLine, Mail, MailBody, Install, Seat, Row, Event, Deliver, Drop, Again, Go, Tick, Crash, Got, Node as ANode}
+use Rattle.sc_node_table.specs.Values.{Draw, Base, OrderLine, Mail, MailBody, Install, Seat, Row, Event, Deliver, Tick, Got, Node as ANode}
 use Rattle.sc_actor.specs.declared.rows.Event.TheVariants.{Told}
 use Rattle.sc_actor.specs.Definitions.{mails, numbered, value, acted, input_of}
 use Rattle.sc_actor.proofs.Lemmas.{value-snoc}

@@ -1,7 +1,7 @@
 -- The names that logs name: each was drawn for its group.
 use Rattle.std.proofs.Common.{◌≡◌, ◌++◌, Some, inl, inr, sym, ◌∙◌, subst, arith}
 use Rattle.std.proofs.lemmas.Option.{same_Some}
-use Rattle.sc_node_table.specs.Values.{Draw, Command, Noop, Call, Join, Leave, Split, Begin, Prepared, RecordVote, GiveUp, Finish, Watched, RecordWatch}
+use Rattle.sc_node_table.specs.Values.{Draw, Command, Noop, Join, Leave, Split, Begin, GiveUp}
 use Rattle.sc_paxos_words.proofs.Lemmas.{Each-among}
 use Rattle.sc_sound.specs.Definitions.{Ahead, decided_log}
 use Rattle.sc_ring_law.specs.Definitions.{draw_of}

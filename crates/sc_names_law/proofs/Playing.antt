@@ -4,7 +4,7 @@ use Rattle.std.specs.Prelude.{is_some}
 use Rattle.std.specs.List.{fold}
 use Rattle.std.specs.Map.{set_value, remove_entry}
 use Rattle.sc_base.specs.Definitions.{Each, end_of, key_of, same_draw, pos_of, Drawer, next_name}
-use Rattle.sc_node_table.specs.Values.{Draw, Op, Input, Got, Base, OrderLine, AnswerBody, Mail, MailBody, Request, Answer, Prepare, Promise, Accept, Accepted, Nack, Learn, Ask, Install, TxPrepare, TxVote, TxOutcome, TxElsewhere, TxWatch, TxWatched, Told as ToldMail}
+use Rattle.sc_node_table.specs.Values.{Draw, Op, Input, Got, Base, OrderLine, AnswerBody, Mail, MailBody, Request, Answer, Prepare, Accept, Learn, Ask, Install, TxPrepare, TxElsewhere, TxWatch, Told as ToldMail}
 use Rattle.sc_actor.specs.declared.rows.Input.TheVariants.{Tick, Go, Told}
 use Rattle.sc_client_table.specs.Definitions.{Client as ClientState, waiting_request, ClientStep, asked_of, sent_to, sent_where, chosen_for, request_sent, started, turned_on, client_ticked, waits_for, was_asked, redirected, answer_taken, got, table}
 use Rattle.sc_cmd.specs.declared.orders.OrderRefusal.TheVariants as Why

@@ -2,7 +2,7 @@
 use Rattle.std.proofs.Common.{◌≡◌, ℕ, List, [], ◌∷◌, ◌++◌, Bool, true, false, cond, refl, sym, ◌∙◌, ap, subst, append_assoc, append-nil, ◌⊎◌, inl, inr}
 use Rattle.sc_actor.specs.declared.rows.Row.{Row}
 use Rattle.sc_actor.specs.declared.rows.Event.{Event}
-use Rattle.sc_actor.specs.declared.rows.Event.TheVariants.{Deliver, Tick, Go, Told, Crash, Drop, Again}
+use Rattle.sc_actor.specs.declared.rows.Event.TheVariants.{Go, Told}
 use Rattle.sc_actor.specs.Definitions.{is_delivery, System, is_quiet}
 use Rattle.sc_orderly_law.specs.Definitions.{IsCalmRow, IsTidy, is_told, IsClear, ComesInTime, AreInTime}
 use Rattle.sc_orderly_law.proofs.Ordering.{Each-append}

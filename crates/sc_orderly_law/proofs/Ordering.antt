@@ -7,7 +7,7 @@ use Rattle.sc_base.specs.Definitions.{Each}
 use Rattle.sc_base.proofs.Lemmas.{and_then-some, map-some}
 use Rattle.sc_actor.specs.declared.rows.Row.{Row}
 use Rattle.sc_actor.specs.declared.rows.Event.{Event}
-use Rattle.sc_actor.specs.declared.rows.Event.TheVariants.{Deliver, Tick, Go, Told, Crash, Drop, Again}
+use Rattle.sc_actor.specs.declared.rows.Event.TheVariants.{Deliver, Go, Told}
 use Rattle.sc_actor.specs.declared.schedules.Line.{Line}
 use Rattle.sc_actor.specs.declared.schedules.Line.TheVariants.{Go as GoLine, Deliver as DeliverLine, Drop as DropLine, Again as AgainLine, Tick as TickLine, Crash as CrashLine, Told as ToldLine, Settle, Free, Storm}
 use Rattle.sc_actor.specs.Definitions.{mails, numbered, has_crashed, System, acts, row_of, waiting, kth, has_gone, Task, Once, Settles, Frees, Storms, WalkPlace, Allows, MayAdd, IsLawful, onward, is_over, after_row, place_after, rest_of_all, tasks_of, delivery}

@@ -8,7 +8,7 @@ use Rattle.sc_base.specs.Definitions.{Each}
 use Rattle.sc_actor.specs.declared.actors.Seat.{Seat}
 use Rattle.sc_actor.specs.declared.rows.Row.{Row}
 use Rattle.sc_actor.specs.declared.rows.Event.{Event}
-use Rattle.sc_actor.specs.declared.rows.Event.TheVariants.{Deliver, Tick, Go, Told, Crash, Drop, Again}
+use Rattle.sc_actor.specs.declared.rows.Event.TheVariants.{Deliver, Go, Told}
 use Rattle.sc_actor.specs.declared.schedules.Line.{Line}
 use Rattle.sc_actor.specs.Definitions.{mails, copies, counts_at, numbers, numbered, may_get, is_for, is_crash, is_delivery, System, numbers_of, row_of, waiting, kth, IsLawful, is_quiet}
 use Rattle.sc_actor.proofs.Lemmas.{counted, length-counts_at, first_is, wide_none, mails-snoc, copies-snoc, lawful-prefix}

@@ -10,7 +10,7 @@ use Rattle.sc_actor.specs.declared.rows.Row.{Row}
 use Rattle.sc_actor.specs.declared.rows.Event.{Event}
 use Rattle.sc_actor.specs.declared.rows.Event.TheVariants.{Deliver}
 use Rattle.sc_actor.specs.declared.schedules.Line.{Line}
-use Rattle.sc_actor.specs.declared.schedules.Line.TheVariants.{Go as GoLine, Deliver as DeliverLine, Drop as DropLine, Again as AgainLine, Tick as TickLine, Crash as CrashLine, Told as ToldLine, Settle, Free, Storm}
+use Rattle.sc_actor.specs.declared.schedules.Line.TheVariants.{Go as GoLine, Settle, Free}
 use Rattle.sc_actor.specs.Definitions.{mails, numbered, is_delivery, System, acts, row_of, waiting, kth, are_apart, Task, Once, Settles, Frees, Storms, WalkPlace, Allows, MayAdd, IsLawful, onward, is_over, is_quiet, cuts, skips, after_row, place_after, rest_of_all, tasks_of, delivery, unsettled}
 use Rattle.sc_actor.proofs.Lemmas.{find-who, waiting_any, lawful-last, place_after-rows}
 use Rattle.sc_orderly_law.specs.Definitions.{IsPlainLine, is_born, deliveries, Owing, Lowers, HasRoom, owed, owed_at_birth}

@@ -2,7 +2,7 @@
 use Rattle.std.proofs.Common.{◌≡◌, ◌<◌, ℕ, ◌+◌, ◌-◌, ◌≤◌, ◌^◌, ◌⊎◌, ◌||◌, not, nat_lt, eqb, Bool, true, false, List, [], ◌∷◌, ◌++◌, length, map, Option, Some, None, refl, sym, ap, ◌∙◌, subst, inl, inr, arith, true≢false}
 use Rattle.std.proofs.lemmas.Bool.{cond_both}
 use Rattle.sc_base.specs.Definitions.{Among, Each, is_member, least_of}
-use Rattle.sc_node_table.specs.Values.{Ballot, Draw, Input, Op, Command, Noop, Call, Join, Leave, Split, Begin, Prepared, RecordVote, GiveUp, Finish, Watched, RecordWatch, Base, Route, OrderLine, AnswerBody, Mail, MailBody, Prepare}
+use Rattle.sc_node_table.specs.Values.{Ballot, Draw, Input, Op, Command, Call, Base, Route, OrderLine, AnswerBody, Mail, MailBody, Prepare}
 use Rattle.sc_mail.specs.declared.bodies.AnswerBody.TheVariants as Says
 use Rattle.sc_paxos_words.proofs.Lemmas.{Each-weaker}
 use Rattle.sc_machine_table.specs.Definitions.{Group, state_after, applied}

@@ -1,7 +1,7 @@
 -- A replica that stops answers all calls that it keeps, each with its cause; one that is elected has waited for nothing yet.
 use Rattle.std.proofs.Common.{◌≡◌, ℕ, ◌+◌, ◌-◌, ◌^◌, refl, arith, ◌&&◌, eqb, Bool, true, false, cond, List, [], ◌∷◌, Option, Some}
 use Rattle.sc_base.specs.Definitions.{client_actor}
-use Rattle.sc_node_table.specs.Values.{Ballot, Draw, Op, Command, Noop, Call, Join, Leave, Split, Begin, Prepared, RecordVote, GiveUp, Finish, Watched, RecordWatch, AnswerBody, Mail, Answer, Prepare, Install}
+use Rattle.sc_node_table.specs.Values.{Ballot, Draw, Op, Command, Call, Join, Leave, Split, Begin, AnswerBody, Mail, Answer, Prepare, Install}
 use Rattle.sc_cmd.specs.declared.orders.OrderRefusal.TheVariants as Why
 use Rattle.sc_cmd.specs.declared.orders.ToldResult.TheVariants as Tells
 use Rattle.sc_mail.specs.declared.bodies.AnswerBody.TheVariants as Says

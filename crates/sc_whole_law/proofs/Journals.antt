@@ -3,7 +3,7 @@ use Rattle.std.proofs.Common.{◌≡◌, ℕ, ◌+◌, ◌≤◌, ◌||◌, not,
 use Rattle.std.specs.Prelude.{is_some, slice_get}
 use Rattle.std.proofs.lemmas.Bool.{cond-false}
 use Rattle.sc_base.specs.Definitions.{Among, Drawer, next_name, is_member}
-use Rattle.sc_node_table.specs.Values.{Draw, Op, Reply, Call, Base, Route, Order, OrderLine, Mail, Event, Deliver, Tick, Go, Crash, Drop, Again, Row, Node as ANode}
+use Rattle.sc_node_table.specs.Values.{Draw, Op, Reply, Call, Base, Route, Order, OrderLine, Mail, Event, Tick, Row, Node as ANode}
 use Rattle.sc_cmd.specs.declared.orders.Order.TheVariants as An
 use Rattle.sc_actor.specs.declared.rows.Event.TheVariants.{Told}
 use Rattle.sc_actor.specs.Definitions.{IsStep, value, place_after}

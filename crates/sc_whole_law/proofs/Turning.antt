@@ -2,7 +2,7 @@
 use Rattle.std.proofs.Common.{◌≡◌, ℕ, ◌+◌, List, [], ◌∷◌, ◌++◌, length, drop, Some, inl, inr, refl, sym, ◌∙◌, ap, subst, option_to_list}
 use Rattle.std.specs.Prelude.{slice_get}
 use Rattle.sc_base.specs.Definitions.{Among, Each}
-use Rattle.sc_node_table.specs.Values.{Draw, Op, Reply, Command, Noop, Call, Join, Leave, Split, Begin, Prepared, RecordVote, GiveUp, Finish, Watched, RecordWatch, Base, Route, OrderLine, Mail, MailBody, TxPrepare, TxVote, TxOutcome, TxWatch, TxWatched, Row}
+use Rattle.sc_node_table.specs.Values.{Draw, Op, Reply, Command, Noop, Call, Prepared, RecordVote, Finish, Watched, RecordWatch, Base, Route, OrderLine, Mail, MailBody, TxPrepare, TxVote, TxOutcome, TxWatch, TxWatched, Row}
 use Rattle.sc_actor.specs.Definitions.{IsStep}
 use Rattle.sc_machine_table.specs.Definitions.{Group, group_of, state_after, applied}
 use Rattle.sc_log_entries.specs.Definitions.{birth_of, StoreWorld, named_group}
