@@ -90,7 +90,6 @@ pub mod KnownLinked
 pub mod KnownMembers
 pub mod KnownReaching
 pub mod KnownTurns
-pub mod Late
 mod LawfulLines
 pub mod Leader
 pub mod Leaders

@@ -20,7 +20,7 @@ use Rattle.sc_calm_rows_law.proofs.Lemmas.{view_is, view_others, view_was, none_
 use Rattle.sc_calm_scenes_law.specs.Definitions.{Expects, IsAsking, IsWaiting, Aborted, BesideFinds, AtAnother, AtLeader, Changed, Decided, Ended, FindsFlight, FindsOrder, FindsReplica, Heard, Late, LeaderFinds, Leaves, Opened, Voted, ComesTo, ComesToLeader, IsBeside, Led, Unled, scene_at, IsTaking, Bears, LeadsAlone, LeavesOrMakes}
 use Rattle.sc_calm_scenes_law.proofs.Lemmas.{unknown_apart, row_of_comes, takes_one, answers_reach, errand_among, now_is, was_is, calm_is, tell}
 use Rattle.sc_calm_answers_law.specs.Definitions.{HasStepped, Rested, Executed}
-use Rattle.sc_calm_answers_law.proofs.Late.{untouched, asks_leave, votes_late, learnt_late, sent_late}
+use Rattle.sc_calm_scenes_law.proofs.Asked.{untouched, asks_leave, votes_late, learnt_late, sent_late}
 
 some_or_none : (xs : List Work) → (xs ≡ []) ⊎ (xs ≡ [] → ⊥)
 some_or_none [] = inl refl

@@ -10,7 +10,7 @@ use Rattle.sc_calm_orders_law.specs.Definitions.{bond_of, errand_by, is_yes, is_
 use Rattle.sc_calm_orders_law.proofs.Lemmas.{votes-count-alone, tables-file, tables-ask-on, cases-draw, tables-rest, promises-keep, entries-run-alone}
 use Rattle.sc_calm_scenes_law.specs.Definitions.{Expects, IsAsking, IsWaiting, Aborted, Changed, Decided, Ended, FindsFlight, Heard, Late, LeaderFinds, Leaves, Opened, Voted, ComesToLeader, scene_at, IsEntry}
 use Rattle.sc_calm_scenes_law.proofs.Lemmas.{row_of_comes, answers_reach, errand_among, tell}
-use Rattle.sc_calm_answers_law.proofs.Late.{untouched, asks_leave, votes_late, learnt_late, sent_late}
+use Rattle.sc_calm_scenes_law.proofs.Asked.{untouched, asks_leave, votes_late, learnt_late, sent_late}
 use Rattle.sc_paxos_words.proofs.Lemmas.{Each-among}
 use Rattle.std.specs.Prelude.{cond}
 

@@ -20,7 +20,7 @@ module _ (r : ReplicaState) where
   abbrev Leaves : Executed → Type 0
   Leaves done = Untouched done.0
 
-  untouched : (place : Place) → Untouched place → Works (works r) [] r place
+  pub untouched : (place : Place) → Untouched place → Works (works r) [] r place
   untouched place u = record {
     group = ap (λ (q : ReplicaState). q.group) u.0;
     me = ap (λ (q : ReplicaState). q.me) u.0;
@@ -53,7 +53,7 @@ module _ (r : ReplicaState) where
   answered from slot None = state_sent from
   answered from slot (Some command) = (refl, taught_none most_taught from slot [] (λ name. refl))
 
-  asks_leave : (from : ℕ) (group : Draw) (slot : ℕ) → Leaves (mailed from (Ask group slot) (r, []))
+  pub asks_leave : (from : ℕ) (group : Draw) (slot : ℕ) → Leaves (mailed from (Ask group slot) (r, []))
   unfolding mailed ask_row
   asks_leave from group slot = either_way Untouched (nat_lt slot (next r)) (ask_answered (entry_at slot r.log) from slot (r, [])) (r, []) (answered from slot (entry_at slot r.log)) itself
 
@@ -70,7 +70,7 @@ module _ (r : ReplicaState) where
       same = either_way (λ (c : Counted Command × LeaderState Command). c ≡ (NotYet 0, r.leader)) (same_ballot ballot r.leader.ballot) (vote_at from slot set (flight_at slot r.leader.flights) r.leader) (NotYet 0, r.leader)
           (ap (λ o. vote_at from slot set o r.leader) none) refl
 
-  votes_late : (from : ℕ) (group : Draw) (ballot : Ballot) (slot : ℕ) → flight_at slot r.leader.flights ≡ None → Leaves (mailed from (Accepted group ballot slot) (r, []))
+  pub votes_late : (from : ℕ) (group : Draw) (ballot : Ballot) (slot : ℕ) → flight_at slot r.leader.flights ≡ None → Leaves (mailed from (Accepted group ballot slot) (r, []))
   unfolding mailed accepted_row
   votes_late from group ballot slot none = either_way Leaves (leads ballot r) (voted from ballot slot (set_at slot r) (r, [])) (childless (r, [])) (late_by from ballot slot none (set_at slot r)) itself
 
@@ -88,7 +88,7 @@ module _ (r : ReplicaState) where
 
   -- ---- what the replica has
 
-  learnt_late : (from : ℕ) (group : Draw) (slot : ℕ) (command : Command) → slot < next r → Leaves (mailed from (Learn group slot command) (r, []))
+  pub learnt_late : (from : ℕ) (group : Draw) (slot : ℕ) (command : Command) → slot < next r → Leaves (mailed from (Learn group slot command) (r, []))
   unfolding mailed learn_row
   learnt_late from group slot command low = by (nat_lt last_slot slot) (eqb slot (next r)) refl (nat_lt (next r) slot) (le-ltb (next r) slot (omega (arith, low)))
     where
@@ -99,7 +99,7 @@ module _ (r : ReplicaState) where
       by false false e true f = absurd cc
       by false false e false f = itself
 
-  sent_late : (from : ℕ) (group : Draw) (slot : ℕ) (base : Base) (sets : List (List ℕ)) → slot < next r → Leaves (mailed from (Install group slot base sets) (r, []))
+  pub sent_late : (from : ℕ) (group : Draw) (slot : ℕ) (base : Base) (sets : List (List ℕ)) → slot < next r → Leaves (mailed from (Install group slot base sets) (r, []))
   unfolding mailed install_row
   sent_late from group slot base sets low = by (not (eqb (length sets) (length r.sets))) (nat_lt last_slot slot) (nat_lt slot (next r)) (lt-ltb slot (next r) low)
     where
