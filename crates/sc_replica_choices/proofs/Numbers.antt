@@ -30,3 +30,8 @@ pub nodes-passed : (f : ℕ → Bool) (end node : ℕ) (so_far whole : List ℕ)
 nodes-passed f end node so_far whole less e is =
     let step : filter f (numbers_to end node) ≡ filter f (numbers_to end (node + 1)) = ap (filter f) (numbers-step end node less) ∙ filtered_by f node (numbers_to end (node + 1)) false e in
     ap (λ ys. so_far ++ ys) (sym step) ∙ is
+
+-- where one was found, there is one
+pub taken-some : (so_far rest : List ℕ) (node : ℕ) → (so_far ++ node ∷ []) ++ rest ≡ [] → ⊥
+taken-some [] rest node e = cc
+taken-some (x ∷ so_far) rest node e = cc

@@ -1,5 +1,5 @@
 //! Lists of nodes.
-ghost use Rattle.std.specs.Prelude.{◌≡◌, ◌≤◌, filter, not, true, All, IfOk, IsOk};
+ghost use Rattle.std.specs.Prelude.{◌≡◌, ◌≤◌, [], filter, not, true, All, IfOk, IsOk};
 ghost use Rattle.sc_base.specs.Limits.{most_nodes};
 ghost use Rattle.sc_base.specs.Roster.{is_member};
 ghost use Rattle.sc_paxos_words.specs.Votes.{has_counted};
@@ -51,7 +51,8 @@ pub fn uncounted<V>(
 #[tactic(auto, unfolding(sc_node_table::specs::Election::nodes_to))]
 pub fn nodes_to(alloc: Global, most: u16, sets: &Sets) -> Result<Vec<u16>, OutOfMemory>
     requires { most ≤ most_nodes }
-    ensures { IfOk result (λ nodes. nodes.items ≡ nodes_to most sets.now) }
+    ensures nodes { IfOk result (λ nodes. nodes.items ≡ nodes_to most sets.now) }
+    ensures none { nodes_to most sets.now ≡ [] → IsOk result }
 {
     let mut nodes = Vec::new(alloc);
     for node in 1..most + 1 {

@@ -1,3 +1,4 @@
+pub mod Silence
 mod Calls
 mod Places
 mod SlotMaps

@@ -133,8 +133,7 @@ fn dismiss(
     out: &mut Sequence<Mail>,
 ) -> Result<(), OutOfMemory>
     ensures mails { OnOk result (out.new ≡ dismissed me group hint body.now command.now out.old) }
-    ensures untold { is_call command.now ≡ false → order_number command.now ≡ 0 →
-        IsOk result }
+    ensures none { dismissed me group hint body.now command.now [] ≡ [] → IsOk result }
 {
     match command {
         Command::Call { client, seq, .. } => {
@@ -160,7 +159,8 @@ pub fn dismiss_all(
 ) -> Result<(), OutOfMemory>
     ensures mails { OnOk result
         (out.new ≡ dismissed_all me group hint body.now commands.now.items out.old) }
-    ensures none { commands.now.items ≡ [] → IsOk result }
+    ensures none { dismissed_all me group hint body.now commands.now.items [] ≡ [] →
+        IsOk result }
 {
     for i in 0..commands.len() {
         dismiss(alloc, me, group, hint, body, &commands[i], out)?;

@@ -1,6 +1,5 @@
 //! What a coordinator tells of its decision.
-ghost use Rattle.std.specs.Prelude.{◌≡◌, false, OnOk, IsOk, Option, Some};
-ghost use Rattle.sc_cmd.specs.declared.votes.No.{No};
+ghost use Rattle.std.specs.Prelude.{◌≡◌, [], OnOk, IsOk};
 ghost use Rattle.sc_cmd.specs.declared.votes.Outcome.TheVariants.{Abort};
 ghost use Rattle.sc_cmd.specs.Effects.{decided_in};
 ghost use Rattle.sc_mail.specs.declared.bodies.MailBody.TheVariants.{TxOutcome};
@@ -24,7 +23,9 @@ fn send_aborts(
     part: Draw,
     out: &mut Sequence<Mail>,
 ) -> Result<(), OutOfMemory>
-    ensures { OnOk result (out.new ≡ sent_all me nodes.now (TxOutcome tx part Abort) out.old) }
+    ensures mails { OnOk result
+        (out.new ≡ sent_all me nodes.now (TxOutcome tx part Abort) out.old) }
+    ensures none { nodes.now ≡ [] → IsOk result }
 {
     for node in nodes {
         let outcome = Outcome::Abort;
@@ -40,7 +41,8 @@ fn send_aborts(
 
 /// Each member of a party is told so.
 fn abort_to(me: u16, tx: Draw, link: &Link, out: &mut Sequence<Mail>) -> Result<(), OutOfMemory>
-    ensures { OnOk result (out.new ≡ aborted_to me tx link.now out.old) }
+    ensures mails { OnOk result (out.new ≡ aborted_to me tx link.now out.old) }
+    ensures none { aborted_to me tx link.now [] ≡ [] → IsOk result }
 {
     send_aborts(me, link.members.as_slice(), tx, link.group, out)
 }
@@ -52,7 +54,7 @@ fn abort_watcher(
     out: &mut Sequence<Mail>,
 ) -> Result<(), OutOfMemory>
     ensures mails { OnOk result (out.new ≡ aborted_watcher me tx heard.now out.old) }
-    ensures none { heard.now ≡ None → IsOk result }
+    ensures none { aborted_watcher me tx heard.now [] ≡ [] → IsOk result }
 {
     match heard {
         None => Ok(()),
@@ -71,7 +73,7 @@ pub(crate) fn give_up(
 ) -> Result<(), OutOfMemory>
     ensures mails { OnOk result
         (out.new ≡ given_up_by (decided_in effect.now) me before.now tx out.old) }
-    ensures undecided { decided_in effect.now ≡ None → IsOk result }
+    ensures none { given_up_by (decided_in effect.now) me before.now tx [] ≡ [] → IsOk result }
 {
     if !effect.has_outcome() {
         return Ok(());
@@ -93,8 +95,8 @@ pub(crate) fn answer_vote(
 ) -> Result<(), OutOfMemory>
     ensures mails { OnOk result
         (out.new ≡ vote_answered (decided_in effect.now) vote.now me before.now tx by out.old) }
-    ensures undecided { decided_in effect.now ≡ None → IsOk result }
-    ensures no { (why : No) → vote.now ≡ Vote.No why → IsOk result }
+    ensures none { vote_answered (decided_in effect.now) vote.now me before.now tx by [] ≡ [] →
+        IsOk result }
 {
     let Some(outcome) = effect.outcome() else {
         return Ok(());
@@ -142,9 +144,8 @@ pub(crate) fn answer_watch(
 ) -> Result<(), OutOfMemory>
     ensures mails { OnOk result
         (out.new ≡ watch_answered_by (decided_in effect.now) vote.now me before.now tx by out.old) }
-    ensures undecided { decided_in effect.now ≡ None → IsOk result }
-    ensures ended { vote.now ≡ Past.Ended → IsOk result }
-    ensures no { (why : No) → vote.now ≡ Past.No why → before.now.merges ≡ false → IsOk result }
+    ensures none { watch_answered_by (decided_in effect.now) vote.now me before.now tx by [] ≡ [] →
+        IsOk result }
 {
     let Some(outcome) = effect.outcome() else {
         return Ok(());

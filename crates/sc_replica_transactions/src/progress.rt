@@ -1,5 +1,5 @@
 //! How a transaction goes on when an entry of it was executed.
-ghost use Rattle.std.specs.Prelude.{◌≡◌, OnOk};
+ghost use Rattle.std.specs.Prelude.{◌≡◌, [], OnOk, IsOk};
 ghost use Rattle.sc_node_table.specs.Spoken.{heard_from, is_merge, before_in, before_of, asked_on, begun_asks, vote_sent, watch_sent, went_on, spoken_mails};
 
 use crate::endings::{answer_vote, answer_watch, give_up};
@@ -68,7 +68,8 @@ fn ask_by(
     core: &Core,
     out: &mut Sequence<Mail>,
 ) -> Result<(), OutOfMemory>
-    ensures { OnOk result (out.new ≡ asked_on effect.now me core.now out.old) }
+    ensures mails { OnOk result (out.new ≡ asked_on effect.now me core.now out.old) }
+    ensures none { asked_on effect.now me core.now [] ≡ [] → IsOk result }
 {
     if effect.is_changed() {
         ask_first(alloc, me, core, out)
@@ -87,7 +88,9 @@ fn ask_begun(
     body: &Body,
     out: &mut Sequence<Mail>,
 ) -> Result<(), OutOfMemory>
-    ensures { OnOk result (out.new ≡ begun_asks effect.now me core.now tx body.now out.old) }
+    ensures mails { OnOk result
+        (out.new ≡ begun_asks effect.now me core.now tx body.now out.old) }
+    ensures none { begun_asks effect.now me core.now tx body.now [] ≡ [] → IsOk result }
 {
     if effect.is_changed() {
         ask_successor(alloc, me, core, tx, body, out)
@@ -106,7 +109,8 @@ fn send_vote(
     offer: &Offer,
     out: &mut Sequence<Mail>,
 ) -> Result<(), OutOfMemory>
-    ensures { OnOk result (out.new ≡ vote_sent vote me machine.now tx offer.now out.old) }
+    ensures mails { OnOk result (out.new ≡ vote_sent vote me machine.now tx offer.now out.old) }
+    ensures none { vote_sent vote me machine.now tx offer.now [] ≡ [] → IsOk result }
 {
     match vote {
         None => Ok(()),
@@ -121,7 +125,8 @@ fn send_watch(
     watch: &Watch,
     out: &mut Sequence<Mail>,
 ) -> Result<(), OutOfMemory>
-    ensures { OnOk result (out.new ≡ watch_sent vote me tx watch.now out.old) }
+    ensures mails { OnOk result (out.new ≡ watch_sent vote me tx watch.now out.old) }
+    ensures none { watch_sent vote me tx watch.now [] ≡ [] → IsOk result }
 {
     match vote {
         None => Ok(()),
@@ -140,8 +145,10 @@ fn go_on(
     command: &Command,
     out: &mut Sequence<Mail>,
 ) -> Result<(), OutOfMemory>
-    ensures { OnOk result
+    ensures mails { OnOk result
         (out.new ≡ went_on me machine.now before.now effect.now command.now out.old) }
+    ensures none { went_on me machine.now before.now effect.now command.now [] ≡ [] →
+        IsOk result }
 {
     match command {
         Command::Split { .. } => ask_by(alloc, effect, me, machine.core(), out),
@@ -181,9 +188,11 @@ pub fn speak(
     command: &Command,
     out: &mut Sequence<Mail>,
 ) -> Result<(), OutOfMemory>
-    ensures { OnOk result
+    ensures mails { OnOk result
         (out.new
         ≡ spoken_mails counted me machine.now before.now effect.now command.now out.old) }
+    ensures none { spoken_mails counted me machine.now before.now effect.now command.now [] ≡ [] →
+        IsOk result }
 {
     tell_begun(me, before, effect, command, out)?;
     if !counted {

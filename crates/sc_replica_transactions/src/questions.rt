@@ -1,5 +1,5 @@
 //! What a coordinator asks, and whom.
-ghost use Rattle.std.specs.Prelude.{◌≡◌, false, IfOk, OnOk, IsOk};
+ghost use Rattle.std.specs.Prelude.{◌≡◌, [], false, IfOk, OnOk, IsOk};
 ghost use Rattle.sc_mail.specs.declared.bodies.MailBody.TheVariants.{TxPrepare};
 ghost use Rattle.sc_base.specs.Roster.{least_of};
 ghost use Rattle.sc_machine_table.specs.Plans.{can_split};
@@ -226,8 +226,9 @@ fn ask_nodes(
     nodes: &[u16],
     out: &mut Sequence<Mail>,
 ) -> Result<(), OutOfMemory>
-    ensures { OnOk result
+    ensures mails { OnOk result
         (out.new ≡ sent_all me nodes.now (question me core.now tx body.now heard.now) out.old) }
+    ensures none { nodes.now ≡ [] → IsOk result }
 {
     for node in nodes {
         ask_node(alloc, me, core, tx, body, heard, *node, out)?;
@@ -245,7 +246,9 @@ pub(crate) fn ask_all(
     heard: &Option<Heard>,
     out: &mut Sequence<Mail>,
 ) -> Result<(), OutOfMemory>
-    ensures { OnOk result (out.new ≡ asked_all me core.now tx body.now heard.now out.old) }
+    ensures mails { OnOk result
+        (out.new ≡ asked_all me core.now tx body.now heard.now out.old) }
+    ensures none { asked_all me core.now tx body.now heard.now [] ≡ [] → IsOk result }
 {
     let link = asked_link(core, body, heard);
     ask_nodes(

@@ -1,5 +1,5 @@
 //! What one that is bound in a transaction says at a tick.
-ghost use Rattle.std.specs.Prelude.{◌≡◌, OnOk, nat_le};
+ghost use Rattle.std.specs.Prelude.{◌≡◌, [], OnOk, IsOk, nat_le};
 ghost use Rattle.sc_node_table.specs.Reminders.{one_tick_more, patience, reminders};
 
 use crate::questions::ask_all;
@@ -38,7 +38,9 @@ pub fn remind(
     me: u16,
     out: &mut Sequence<Mail>,
 ) -> Result<(), OutOfMemory>
-    ensures { OnOk result (out.new ≡ reminders machine.now.core.lock me machine.now out.old) }
+    ensures mails { OnOk result
+        (out.new ≡ reminders machine.now.core.lock me machine.now out.old) }
+    ensures none { reminders machine.now.core.lock me machine.now [] ≡ [] → IsOk result }
 {
     let core = machine.core();
     match &core.lock {

@@ -1,5 +1,5 @@
 //! What the desk is told of splits and transactions, and mails of one line.
-ghost use Rattle.std.specs.Prelude.{◌≡◌, OnOk, IsOk};
+ghost use Rattle.std.specs.Prelude.{◌≡◌, [], OnOk, IsOk};
 ghost use Rattle.sc_mail.specs.declared.bodies.MailBody.TheVariants.{TxElsewhere};
 ghost use Rattle.sc_node_table.specs.Mails.{sent};
 ghost use Rattle.sc_node_table.specs.Transactions.{told_outcome};
@@ -81,8 +81,7 @@ fn tell_result(
     out: &mut Sequence<Mail>,
 ) -> Result<(), OutOfMemory>
     ensures mails { OnOk result (out.new ≡ told_result me told number out.old) }
-    ensures none { told ≡ None → IsOk result }
-    ensures untold { number ≡ 0 → IsOk result }
+    ensures none { told_result me told number [] ≡ [] → IsOk result }
 {
     match told {
         None => Ok(()),
@@ -101,8 +100,7 @@ pub(crate) fn tell_begun(
 ) -> Result<(), OutOfMemory>
     ensures mails { OnOk result
         (out.new ≡ told_begun me before.now effect.now command.now out.old) }
-    ensures none { begun_result before.now.alone effect.now command.now ≡ None → IsOk result }
-    ensures untold { spoken_number before.now.order command.now ≡ 0 → IsOk result }
+    ensures none { told_begun me before.now effect.now command.now [] ≡ [] → IsOk result }
 {
     let told = begun_result(before.alone, effect, command);
     tell_result(me, told, spoken_number(before.order, command), out)

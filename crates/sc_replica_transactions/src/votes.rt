@@ -1,5 +1,5 @@
 //! Votes, as mails carry them.
-ghost use Rattle.std.specs.Prelude.{◌≡◌, OnOk};
+ghost use Rattle.std.specs.Prelude.{◌≡◌, [], OnOk, IsOk};
 ghost use Rattle.sc_cmd.specs.declared.votes.Past.TheVariants.{Yes};
 ghost use Rattle.sc_cmd.specs.declared.votes.Vote.TheVariants as Says;
 ghost use Rattle.sc_mail.specs.declared.bodies.MailBody.TheVariants.{TxVote, TxWatched};
@@ -69,7 +69,9 @@ pub fn tell_vote(
     vote: Past,
     out: &mut Sequence<Mail>,
 ) -> Result<(), OutOfMemory>
-    ensures { OnOk result (out.new ≡ voted_to me machine.now node tx offer.now vote out.old) }
+    ensures mails { OnOk result
+        (out.new ≡ voted_to me machine.now node tx offer.now vote out.old) }
+    ensures none { voted_to me machine.now node tx offer.now vote [] ≡ [] → IsOk result }
 {
     match vote {
         Past::Yes => send_yes(alloc, machine, me, node, tx, offer, out),
@@ -111,7 +113,8 @@ pub fn tell_watch(
     vote: Past,
     out: &mut Sequence<Mail>,
 ) -> Result<(), OutOfMemory>
-    ensures { OnOk result (out.new ≡ watched_to me node tx watch.now vote out.old) }
+    ensures mails { OnOk result (out.new ≡ watched_to me node tx watch.now vote out.old) }
+    ensures none { watched_to me node tx watch.now vote [] ≡ [] → IsOk result }
 {
     match vote {
         Past::Yes => send_watched(me, node, tx, watch, Past::Yes, out),
@@ -131,10 +134,11 @@ pub(crate) fn send_yes_to_all(
     offer: &Offer,
     out: &mut Sequence<Mail>,
 ) -> Result<(), OutOfMemory>
-    ensures { OnOk result
+    ensures mails { OnOk result
         (out.new
         ≡ sent_all me nodes.now
         (TxVote tx offer.now.coord offer.now.part (Says.Yes (frozen_of machine.now))) out.old) }
+    ensures none { nodes.now ≡ [] → IsOk result }
 {
     for node in nodes {
         send_yes(alloc, machine, me, *node, tx, offer, out)?;
@@ -151,9 +155,10 @@ pub(crate) fn send_watched_to_all(
     watch: &Watch,
     out: &mut Sequence<Mail>,
 ) -> Result<(), OutOfMemory>
-    ensures { OnOk result
+    ensures mails { OnOk result
         (out.new
         ≡ sent_all me nodes.now (TxWatched tx watch.now.coord watch.now.part Yes) out.old) }
+    ensures none { nodes.now ≡ [] → IsOk result }
 {
     for node in nodes {
         send_watched(me, *node, tx, watch, Past::Yes, out)?;
