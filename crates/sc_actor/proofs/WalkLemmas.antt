@@ -99,7 +99,7 @@ module _ {A M O : Type 0} (s : System A M O) (lines : List (Line O)) where
   lawful-snoc journal row lawful next =
       IsWalk-snoc s (start s lines) journal row lawful (subst (λ xs. MayAdd s xs (place_after s lines journal).tasks row) (sym (place_after-rows journal)) next)
 
-  -- a first part of a lawful journal is lawful
+  -- a prefix of a lawful journal is lawful
   pub lawful-prefix : (xs ys : List (Row M O)) → IsLawful s lines (xs ++ ys) → IsLawful s lines xs
   lawful-prefix xs ys lawful = IsWalk-first s (start s lines) xs ys lawful
 

@@ -5,11 +5,11 @@ use Rattle.sc_actor.specs.declared.rows.Row.{Row}
 use Rattle.sc_actor.specs.declared.rows.Event.{Event}
 use Rattle.sc_actor.specs.declared.rows.Event.TheVariants.{Deliver, Tick, Go, Told, Crash, Drop, Again}
 
--- all that was sent, in order
+-- all mail that was sent, in order
 abbrev pub mails : {M O : Type 0} → List (Row M O) → List M
 mails rows = flat_map (λ row. row.sent) rows
 
--- mail is numbered from 1, by its place in all that was sent
+-- the mail with this number: mail is numbered from 1, by its place in all mail that was sent
 abbrev pub numbered : {M : Type 0} → List M → ℕ → Option M
 numbered sent zero = None
 numbered sent (suc place) = slice_get sent place
@@ -38,7 +38,7 @@ is_delivery (Again mail) = false
 abbrev pub has_crashed : {M O : Type 0} → List (Row M O) → ℕ → Bool
 has_crashed rows who = list_any (λ row. row.who == who && is_crash row.event) rows
 
--- the counts with one less, or one more, at a mail's number
+-- the counts with one less at this mail's number
 abbrev pub one_less : List ℕ → ℕ → List ℕ
 one_less counts zero = counts
 one_less counts (suc place) = slice_set counts place (slice_index counts place - 1)
@@ -48,7 +48,7 @@ abbrev pub one_more : List ℕ → ℕ → List ℕ
 one_more counts zero = counts
 one_more counts (suc place) = slice_set counts place (slice_index counts place + 1)
 
--- a delivery or a drop takes a copy away, if there is one, and a repeat adds one
+-- the counts of copies after an event: a delivery or a drop takes one copy away, if there is one, and a repeat adds one
 abbrev pub counts_at : {O : Type 0} → List ℕ → Event O → List ℕ
 counts_at counts (Deliver mail) = one_less counts mail
 counts_at counts (Drop mail) = one_less counts mail
@@ -58,30 +58,30 @@ counts_at counts Go = counts
 counts_at counts (Told order) = counts
 counts_at counts Crash = counts
 
--- what a row sends has one copy each
+-- the counts of copies after a row: after its event, each mail that the row sends has one copy
 abbrev pub counts_after : {M O : Type 0} → List ℕ → Row M O → List ℕ
 counts_after counts row = counts_at counts row.event ++ replicate (length row.sent) 1
 
--- of each mail, in order of number, how many copies are under way
+-- for each mail, in the order of numbers, how many copies are under way
 abbrev pub copies : {M O : Type 0} → List (Row M O) → List ℕ
 copies rows = fold counts_after [] rows
 
--- the numbers from `number` on, each as often as it has copies, of the mail that passes the test
+-- the numbers of the mail that passes the test, from `number` on, each as often as it has copies
 abbrev pub numbers : {M : Type 0} → (M → Bool) → ℕ → List M → List ℕ → List ℕ
 numbers test number [] counts = []
 numbers test number (mail ∷ sent) [] = []
 numbers test number (mail ∷ sent) (count ∷ counts) =
     (if test mail then replicate count number else []) ++ numbers test (suc number) sent counts
 
--- Mail to whom is no actor, as the desk, and to a crashed actor is never pending.
+-- whether mail to this receiver may be pending: it is one of the actors, so not the desk, and it has not crashed
 abbrev pub may_get : {M O : Type 0} → List ℕ → List (Row M O) → ℕ → Bool
 may_get actors rows who = list_any (λ actor. actor == who) actors && not (has_crashed rows who)
 
--- whether mail is for one actor, or for any, that may get it
+-- whether a mail is to one actor, or to any actor for None, that may get it
 abbrev pub is_for : {M O : Type 0} → (M → ℕ) → List ℕ → List (Row M O) → Option ℕ → M → Bool
 is_for receiver actors rows None mail = may_get actors rows (receiver mail)
 is_for receiver actors rows (Some who) mail = receiver mail == who && may_get actors rows who
 
--- the pending mail of one actor, or of all, in ascending order of number
+-- the numbers of the pending mail of one actor, or of all actors for None, ascending
 abbrev pub pending : {M O : Type 0} → (M → ℕ) → List ℕ → List (Row M O) → Option ℕ → List ℕ
 pending receiver actors rows whose = numbers (is_for receiver actors rows whose) 1 (mails rows) (copies rows)

@@ -1,4 +1,4 @@
-//! The conditions of a schedule and its rows, as tests.
+//! Tests of the conditions that the actors and the rows of a run meet.
 ghost use Rattle.std.specs.Prelude.{◌≡◌, ◌↔◌, ◌==◌, ◌<◌, ◌^◌, IsTrue, true, length};
 ghost use Rattle.sc_actor.specs.Mail.{mails};
 ghost use Rattle.std.specs.List.{list_any};
@@ -13,7 +13,7 @@ fn has_number<A>(seats: &[Seat<A>], who: u32) -> bool
     seats.iter().any(|seat| seat.who == who)
 }
 
-/// Whether no two actors have one number.
+/// Returns whether no two actors have the same number.
 pub fn are_apart<A>(seats: &[Seat<A>]) -> bool
     ensures { result ≡ are_apart seats.now }
 {
@@ -25,7 +25,7 @@ pub fn are_apart<A>(seats: &[Seat<A>]) -> bool
     true
 }
 
-/// Whether there are fewer than 2^31 rows and mails.
+/// Returns whether there are fewer than 2^31 rows, and fewer than 2^31 mails sent in them.
 pub fn are_few<M, O>(rows: &[Row<M, O>]) -> bool
     ensures { IsTrue result ↔ (length rows.now < 2 ^ 31) × (length (mails rows.now) < 2 ^ 31) }
 {

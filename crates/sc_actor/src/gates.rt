@@ -1,8 +1,8 @@
-//! A place between what an actor is given and what it makes of it.
+//! A hook between the input that an actor gets and the row that records what it made of it.
 
-/// What each actor passes between the look at its mail and the row of it.
+/// A hook that each actor passes between reading its mail and writing the row for it.
 pub trait Gate: Sync {
-    /// Called once between each fetch of a mail and the post of its row, with the actor's number.
-    /// It returns.
+    /// Runs once between each fetch of a mail and the post of its row, with the actor's number. It
+    /// returns in every case.
     fn pass(&self, who: u32);
 }

@@ -12,7 +12,8 @@ ghost use Rattle.sc_actor.specs.Steps.{IsStep, IsUnderWay};
 
 use crate::actors::Actor;
 
-/// What one more row makes of the mail, the copies under way and each actor.
+/// States what one more row adds to the mail sent, to the copies under way, and to the state of
+/// each actor.
 pub fn journals_grow<A: Actor>()
     ensures mails { (rows : List (Row A.Mail A.Order)) (row : Row A.Mail A.Order) →
         mails (rows ++ row ∷ []) ≡ mails rows ++ row.sent }
@@ -24,8 +25,8 @@ pub fn journals_grow<A: Actor>()
         value A.table seat (rows ++ row ∷ []) ≡ value_after A.table seat rows row }
 {}
 
-/// A lawful journal goes on by each row that may come next and by no other, and each first part of
-/// it is lawful.
+/// States that a lawful journal stays lawful with each row that may come next and with no other
+/// row, and that each prefix of a lawful journal is lawful.
 pub fn lawful_journals_grow<A: Actor>()
     ensures next { (words : ℕ → ℕ → ℕ × ℕ) (births : List (Seat A)) (lines : List (Line A.Order))
         (rows : List (Row A.Mail A.Order)) (row : Row A.Mail A.Order) →
@@ -42,8 +43,8 @@ pub fn lawful_journals_grow<A: Actor>()
         IsLawful (system A.table A.Mail.receiver words births) lines rows }
 {}
 
-/// Each row that may come next is a step of an actor or of the network, and what is pending was
-/// sent and is under way.
+/// States that each row that may come next is a step of an actor or of the network, and that each
+/// pending mail was sent and has a copy under way.
 pub fn next_rows_are_steps<A: Actor>()
     ensures step { (words : ℕ → ℕ → ℕ × ℕ) (births : List (Seat A)) (lines : List (Line A.Order))
         (rows : List (Row A.Mail A.Order)) (row : Row A.Mail A.Order) →
@@ -62,8 +63,8 @@ pub fn next_rows_are_steps<A: Actor>()
         × (A.Mail.receiver mail ≡ who) }
 {}
 
-/// How large a journal is by its counted bytes: no mail has more copies than there are rows, a row
-/// counts at least 64 and a mail 256.
+/// States how large a journal is in counted bytes: no mail has more copies than there are rows, a
+/// row counts at least 64 and a mail at least 256.
 pub fn journals_are_counted<A: Actor>()
     ensures copies { (rows : List (Row A.Mail A.Order)) →
         All (λ count. count ≤ length rows) (copies rows) }

@@ -1,32 +1,40 @@
-//! What an actor is given, and the rows of a journal.
+//! The inputs of an actor, and the rows of a journal.
 use sc_base::{Same, Sequence};
 
-/// What an actor is given.
+/// An input of an actor.
 #[derive(Drop)]
 pub enum Input<M, O> {
-    /// A mail that was sent to it.
+    /// A mail that was sent to the actor.
     Got(M),
-    /// A tick: it may repeat what was not answered.
+    /// A tick of the actor's clock: it may send again what was not answered.
     Tick,
-    /// A client may begin.
+    /// The start of a client, which then sends its first request.
     Go,
-    /// An order.
+    /// An order from the outside.
     Told(O),
 }
 
-/// One event of the system. Mail is named by its number, from 1, by its place in all that was sent.
+/// An event of the system. A mail is named by its number: its place, from 1, in all mail that was
+/// sent.
 #[derive(Drop)]
 pub enum Event<O> {
+    /// An actor gets the mail with this number.
     Deliver(u32),
+    /// An actor's clock ticks.
     Tick,
+    /// A client starts.
     Go,
+    /// A node gets an order.
     Told(O),
+    /// A node stops for good.
     Crash,
+    /// The network loses a copy of the mail with this number.
     Drop(u32),
+    /// The network repeats the mail with this number: one more copy is under way.
     Again(u32),
 }
 
-/// A row of the journal: who acted, at what event, and what it sent.
+/// A row of the journal: who acted, on which event, and what was sent.
 ///
 /// `who` is the number of an actor, or 0 for the network, whose rows are `Drop` and `Again` with
 /// nothing sent.
@@ -37,7 +45,7 @@ pub struct Row<M, O> {
     pub sent: Sequence<M>,
 }
 
-/// All rows, in the order of their events.
+/// A journal: all rows, in the order of their events.
 pub type Journal<M, O> = Sequence<Row<M, O>>;
 
 impl<O: Same> Same for Event<O> {
