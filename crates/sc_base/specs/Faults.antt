@@ -1,17 +1,17 @@
--- Why a node is not put into a set, or not taken out.
+-- Why a node is not added to a set, or not removed from it.
 use Rattle.std.specs.Prelude.{ℕ, ◌==◌, not, List, length, Option, Some, None, if◌then◌else◌}
 use Rattle.sc_base.specs.Roster.{is_member}
 use Rattle.sc_base.specs.declared.sets.MemberFault.{MemberFault}
 use Rattle.sc_base.specs.declared.sets.MemberFault.TheVariants.{Present, Full, Absent, Last}
 
--- a node that is there is not added, nor is a tenth
+-- why a node is not added, if so: it is a member already, or there are nine members
 abbrev pub add_fault : List ℕ → ℕ → Option MemberFault
 add_fault members node =
     if is_member members node then Some Present
     else if length members == 9 then Some Full
     else None
 
--- a node that is not there is not removed, nor is the only one
+-- why a node is not removed, if so: it is no member, or it is the only one
 abbrev pub remove_fault : List ℕ → ℕ → Option MemberFault
 remove_fault members node =
     if not (is_member members node) then Some Absent

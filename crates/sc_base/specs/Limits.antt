@@ -1,7 +1,7 @@
 -- The limits of a scenario, and the numbers of actors.
 use Rattle.std.specs.Prelude.{ℕ, ◌+◌}
 
--- the most bytes of a key, and of a value
+-- the most bytes of a key
 abbrev pub longest_key : ℕ
 longest_key = 64
 
@@ -13,7 +13,7 @@ longest_value = 256
 abbrev pub most_nodes : ℕ
 most_nodes = 32
 
--- the greatest number of a client, and the most requests of one
+-- the greatest number of a client
 abbrev pub most_clients : ℕ
 most_clients = 64
 
@@ -21,6 +21,6 @@ most_clients = 64
 abbrev pub most_requests : ℕ
 most_requests = 1000
 
--- the number of a client as an actor: nodes come before
+-- the actor's number of a client: the numbers of nodes come before
 abbrev pub client_actor : ℕ → ℕ
 client_actor client = most_nodes + client

@@ -3,13 +3,13 @@ use Rattle.std.specs.Prelude.{◌≡◌, ℕ, ◌-◌, ◌≤◌, List, ◌++◌
 use Rattle.std.proofs.Common.{arith, ap, sym, ◌∙◌}
 use Rattle.std.proofs.lemmas.List.{length-take-le}
 
--- the first `count` places are taken, and the others hold 0
+-- of nine places the first `count` are taken, and the others hold 0
 pub record IsFilled (places : List ℕ) (count : ℕ) : Type 0 where
   pub most : count ≤ 9
   pub nine : length places ≡ 9
   pub padded : places ≡ take count places ++ replicate (9 - count) 0
 
--- the list of the taken places gives the fields back
+-- the two fields can be computed from the list of the taken places alone
 pub inverse_of : {A : Type 0} (places : List ℕ) (count : ℕ) → IsFilled places count → (make : List ℕ → ℕ → A) → make (take count places ++ replicate (9 - length (take count places)) 0) (length (take count places)) ≡ make places count
 inverse_of places count is make =
     let same : length (take count places) ≡ count = length-take-le count places (omega arith) in

@@ -7,7 +7,7 @@ use Rattle.std.specs.List.Sorted.{IsStrictlyIncreasing}
 abbrev pub is_member : List ℕ → ℕ → Bool
 is_member members node = list_any (λ member. member == node) members
 
--- one to nine nodes, ascending
+-- the list is a set: one to nine nodes, strictly ascending
 pub record IsRoster (members : List ℕ) : Type 0 where
   pub some : 1 ≤ length members
   pub most : length members ≤ 9
@@ -17,11 +17,11 @@ pub record IsRoster (members : List ℕ) : Type 0 where
 abbrev pub with_member : List ℕ → ℕ → List ℕ
 with_member members node = filter (λ member. nat_lt member node) members ++ node ∷ filter (λ member. nat_lt node member) members
 
--- the members but a node
+-- the members without a node
 abbrev pub without_member : List ℕ → ℕ → List ℕ
 without_member members node = filter (λ member. not (member == node)) members
 
--- the least member, which stands first
+-- the least member, which is the first one of an ascending list
 abbrev pub least_of : List ℕ → ℕ
 least_of members = slice_index members 0
 

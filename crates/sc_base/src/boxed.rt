@@ -1,4 +1,4 @@
-//! A value in a block of its own, which contracts see as the value.
+//! A value on the heap, which contracts see as the value itself.
 ghost use Rattle.std.specs.Prelude.{◌≡◌, IfOk};
 
 use crate::dups::{Dup, OutOfMemory};
@@ -6,8 +6,8 @@ use crate::sames::Same;
 use std::alloc::{AllocError, Global};
 use std::marker::Model;
 
-/// A value in a block of its own: what holds it is no larger for it than a pointer. For the rare
-/// large part of what is mostly small; contracts see it as the value.
+/// A value in a heap block of its own, so that it takes the room of a pointer where it stands. It
+/// is for the rare large part of a type that is mostly small. Contracts see it as the value.
 #[derive(Drop)]
 pub struct Boxed<T> {
     kept: Box<T>,
@@ -20,7 +20,7 @@ impl<T> Model for Boxed<T> {
 }
 
 impl<T> Boxed<T> {
-    /// The value, to be read.
+    /// Returns a reference to the value.
     pub fn get(&self) -> &T
         ensures { result.now ≡ self.now }
     {
@@ -29,7 +29,8 @@ impl<T> Boxed<T> {
 }
 
 impl<T: Drop> Boxed<T> {
-    /// The value in a block of its own. After want of memory it is dropped.
+    /// Moves the value into a heap block of its own. After `Err(OutOfMemory)` the value is
+    /// dropped.
     pub fn new(alloc: Global, value: T) -> Result<Boxed<T>, OutOfMemory>
         ensures { IfOk result (λ a. a ≡ value) }
     {

@@ -1,5 +1,5 @@
-//! Keys, values, arcs, ballots, draws and operations, the lists of them, and how they are copied
-//! and compared; sets of one to nine nodes, and what a majority of one is.
+//! Keys, values, arcs, ballots, names and operations, lists of them, and how they are copied and
+//! compared; sets of one to nine nodes, and their majorities.
 #![tactic(auto)]
 
 mod arcs;

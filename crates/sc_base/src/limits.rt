@@ -6,7 +6,8 @@ pub(crate) const LONGEST_KEY: usize = 64;
 /// The most bytes of a value.
 pub(crate) const LONGEST_VALUE: usize = 256;
 
-/// The most nodes, and the greatest number of a node. As an actor client C is 32 + C.
+/// The most nodes, which is the greatest number of a node. The actor of client C has the number 32
+/// + C.
 pub const MOST_NODES: u32 = 32;
 
 /// The greatest number of a client.

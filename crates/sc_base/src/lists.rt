@@ -7,7 +7,8 @@ use crate::sames::{Same, are_same};
 use std::alloc::{AllocError, Global};
 use std::marker::Model;
 
-/// A list. The one list type of all elements; contracts see it as the list.
+/// A growable list, the list type of all elements that are not kept in the order of a key.
+/// Contracts see it as the list.
 #[derive(Drop)]
 pub struct Sequence<T> {
     items: Vec<T>,
@@ -22,7 +23,7 @@ impl<T> Model for Sequence<T> {
 }
 
 impl<T> Sequence<T> {
-    /// The empty list, which takes no memory yet.
+    /// Returns the empty list, which takes no memory yet.
     pub fn new(alloc: Global) -> Self
         ensures { result ≡ [] }
     {
@@ -31,14 +32,14 @@ impl<T> Sequence<T> {
         }
     }
 
-    /// How many items there are.
+    /// Returns the number of items.
     pub fn len(&self) -> usize
         ensures { result ≡ length self.now }
     {
         self.items.len()
     }
 
-    /// The item at that place, counted from 0 and below the length.
+    /// Returns the item at place `i`, counted from 0, which is below the length.
     pub fn at(&self, i: usize) -> &T
         requires { i < length self.now }
         ensures { slice_get self.now i ≡ Some result.now }
@@ -46,21 +47,21 @@ impl<T> Sequence<T> {
         &self.items[i]
     }
 
-    /// The items, to be read.
+    /// Returns the items as a slice.
     pub fn as_slice(&self) -> &[T]
         ensures { result.now ≡ self.now }
     {
         self.items.as_slice()
     }
 
-    /// The list with these items, which takes no memory.
+    /// Makes a list of these items, without allocation.
     pub fn from_vec(items: Vec<T>) -> Self
         ensures { result ≡ items.items }
     {
         Sequence { items }
     }
 
-    /// The items, which takes no memory.
+    /// Returns the items as a `Vec`, without allocation.
     pub fn into_vec(self) -> Vec<T>
         ensures { result.items ≡ self }
     {
@@ -69,8 +70,7 @@ impl<T> Sequence<T> {
 }
 
 impl<T: Drop> Sequence<T> {
-    /// Adds an item at the end. After want of memory the list is unchanged, and the item is
-    /// dropped.
+    /// Appends an item. After `Err(OutOfMemory)` the list is unchanged, and the item is dropped.
     pub fn push(&mut self, item: T) -> Result<(), OutOfMemory>
         ensures ok { OnOk result (self.new ≡ self.old ++ item ∷ []) }
         ensures err { OnErr result (self.new ≡ self.old) }

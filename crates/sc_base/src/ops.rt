@@ -1,4 +1,4 @@
-//! What a client asks of the store, and what it is told.
+//! The operations that a client asks of the store, and their replies.
 ghost use Rattle.std.specs.Prelude.{◌≡◌};
 ghost use Rattle.sc_base.specs.Operation.{key_of};
 
@@ -8,10 +8,9 @@ use crate::sames::Same;
 use crate::texts::{Key, Value};
 use std::alloc::Global;
 
-/// One operation on one key. Each answers the key's old value or none: `Get` changes nothing, `Put`
-/// sets the key, `Del` takes it out, `Add` sets it where it had no value, and `Cas` sets it where
-/// its
-/// value was `expect`.
+/// An operation on one key. Each one answers the key's old value, or none. `Get` changes nothing,
+/// `Put` sets the key, `Del` removes it, `Add` sets it where it had no value, and `Cas` sets it
+/// where its value was `expect`.
 #[derive(Clone, PartialEq, Eq, Drop)]
 pub enum Op {
     Get {
@@ -36,7 +35,7 @@ pub enum Op {
 }
 
 impl Op {
-    /// The key that the operation is on.
+    /// Returns the key that the operation is on.
     pub fn key(&self) -> &Key
         ensures { result.now ≡ key_of self.now }
     {
@@ -50,7 +49,7 @@ impl Op {
     }
 }
 
-/// What an operation answers: the value that the key had before, or none.
+/// The reply to an operation: the value that the key had before, or none.
 #[derive(Clone, PartialEq, Eq, Drop)]
 pub struct Reply {
     pub old: Option<Value>,
@@ -71,14 +70,14 @@ impl Dup for Reply {
 /// Keys and their values, in the order of the keys.
 pub type Pairs = Ordered<Key, Value>;
 
-/// The number of a client's last request, and its reply.
+/// The number of a client's last request, and the reply to it.
 #[derive(Clone, PartialEq, Eq, Drop)]
 pub struct Noted {
     pub seq: u32,
     pub reply: Reply,
 }
 
-/// The last requests of clients, in the order of the clients.
+/// The last request of each client, in the order of the clients.
 pub type SeenList = Ordered<u16, Noted>;
 
 impl Dup for Noted {

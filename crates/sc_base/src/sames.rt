@@ -1,9 +1,9 @@
-//! What can be compared exactly.
+//! Exact comparison.
 ghost use Rattle.std.specs.Prelude.{◌≡◌, ◌↔◌, IsTrue};
 
-/// What can be compared: two values are told apart exactly where they differ.
+/// A type whose values can be compared exactly.
 pub trait Same {
-    /// Whether the two are one and the same.
+    /// Returns whether the two values are equal as contracts see them.
     fn is_same(&self, other: &Self) -> bool
         ensures { IsTrue result ↔ (self.now ≡ other.now) };
 }
@@ -48,7 +48,7 @@ impl<A: Same, B: Same> Same for (A, B) {
     }
 }
 
-/// Whether two lists are one and the same.
+/// Returns whether two lists are equal.
 pub fn are_same<T: Same>(one: &[T], other: &[T]) -> bool
     ensures { IsTrue result ↔ (one.now ≡ other.now) }
 {

@@ -12,7 +12,7 @@ use crate::sames::Same;
 use std::alloc::Global;
 use std::marker::Model;
 
-/// Why a set is not changed.
+/// The reason why a set is not changed.
 #[derive(Clone, Copy, Debug, PartialEq, Eq)]
 pub enum MemberFault {
     /// The node is in the set.
@@ -25,7 +25,7 @@ pub enum MemberFault {
     Last,
 }
 
-/// One to nine nodes. Contracts see them as their list, ascending.
+/// A set of one to nine nodes. Contracts see it as the ascending list of its members.
 #[derive(Clone, Copy, Debug)]
 pub struct Members {
     nodes: Nodes,
@@ -45,7 +45,7 @@ impl Model for Members {
 }
 
 impl Members {
-    /// The set of one node.
+    /// Returns the set of one node.
     pub fn one(node: u16) -> Members
         ensures { result ≡ node ∷ [] }
     {
@@ -54,7 +54,7 @@ impl Members {
         Members { nodes }
     }
 
-    /// Puts a node into the set. Refused with `Present` or `Full`, and then nothing changes.
+    /// Adds a node to the set. Refuses with `Present` or `Full`, and then the set is unchanged.
     pub fn add(&mut self, node: u16) -> Result<(), MemberFault>
         ensures { MatchResult result
             (λ _. (add_fault self.old node ≡ None) × (self.new ≡ with_member self.old node))
@@ -70,7 +70,8 @@ impl Members {
         Ok(())
     }
 
-    /// Takes a node out of the set. Refused with `Absent` or `Last`, and then nothing changes.
+    /// Removes a node from the set. Refuses with `Absent` or `Last`, and then the set is
+    /// unchanged.
     pub fn remove(&mut self, node: u16) -> Result<(), MemberFault>
         ensures { MatchResult result
             (λ _. (remove_fault self.old node ≡ None) × (self.new ≡ without_member self.old node))
@@ -86,7 +87,7 @@ impl Members {
         Ok(())
     }
 
-    /// The members, ascending.
+    /// Returns the members, ascending.
     pub fn as_slice(&self) -> &[u16]
         ensures same { result.now ≡ self.now }
         ensures set { IsRoster self.now }
@@ -95,7 +96,7 @@ impl Members {
         self.nodes.as_slice()
     }
 
-    /// How many members there are: 1 to 9.
+    /// Returns the number of members, 1 to 9.
     pub fn len(&self) -> u8
         ensures same { result ≡ length self.now }
         ensures some { 1 ≤ length self.now }
@@ -104,21 +105,21 @@ impl Members {
         self.as_slice().len() as u8
     }
 
-    /// Whether the node is a member.
+    /// Returns whether the node is a member.
     pub fn has(&self, node: u16) -> bool
         ensures { result ≡ is_member self.now node }
     {
         occurs(self.as_slice(), node)
     }
 
-    /// The least member.
+    /// Returns the least member.
     pub fn least(&self) -> u16
         ensures { result ≡ least_of self.now }
     {
         self.as_slice()[0]
     }
 
-    /// The least member greater than the node, or the least of all where none is greater.
+    /// Returns the least member greater than the node, or the least of all where none is greater.
     pub fn after(&self, node: u16) -> u16
         ensures { result ≡ next_after self.now node }
     {
@@ -128,8 +129,8 @@ impl Members {
         }
     }
 
-    /// Whether more than half of the members occur among the voters. Voters that are no members,
-    /// and voters that come twice, count for nothing.
+    /// Returns whether more than half of the members occur among the voters. Voters that are no
+    /// members, and voters that occur twice, add nothing. Paxos Made Simple, section 2.2.
     pub fn is_majority(&self, voters: &[u16]) -> bool
         ensures { result ≡ is_majority self.now voters.now }
     {
@@ -189,7 +190,7 @@ fn count_votes(members: &[u16], voters: &[u16]) -> usize
         .count()
 }
 
-/// The members with the node in its place.
+/// Returns the members with the node added in its place.
 fn placed(members: &[u16], node: u16) -> Nodes
     requires { length members.now < 9 }
     ensures { result ≡ with_member members.now node }
@@ -209,7 +210,7 @@ fn placed(members: &[u16], node: u16) -> Nodes
     nodes
 }
 
-/// The members but the node.
+/// Returns the members without the node.
 fn left_by(members: &[u16], node: u16) -> Nodes
     requires { length members.now ≤ 9 }
     ensures { result ≡ without_member members.now node }

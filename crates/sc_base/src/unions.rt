@@ -1,4 +1,4 @@
-//! The union of two sets.
+//! The union of two sets of nodes.
 ghost use Rattle.std.specs.Prelude.{◌≡◌, ◌≤◌, not, filter, length};
 ghost use Rattle.sc_base.specs.Roster.{IsRoster, is_member};
 ghost use Rattle.sc_base.specs.Union.{with_any, united};
@@ -6,15 +6,15 @@ ghost use Rattle.sc_base.specs.Union.{with_any, united};
 use crate::sets::Members;
 
 impl Members {
-    /// How many nodes are in this set or the other: 1 to 18.
+    /// Returns how many nodes are in this set or the other, 1 to 18.
     pub fn count_with(&self, other: &Members) -> u8
         ensures { result ≡ length (united self.now other.now) }
     {
         self.len() + self.count_strangers(other.as_slice())
     }
 
-    /// The nodes that are in this set or the other. `count_with` tells how many there are: nine at
-    /// most.
+    /// Returns the nodes that are in this set or the other. They are at most nine, which the
+    /// caller has found by `count_with`.
     pub fn union(&self, other: &Members) -> Members
         requires { length (united self.now other.now) ≤ 9 }
         ensures { result ≡ united self.now other.now }
@@ -35,7 +35,7 @@ impl Members {
         count as u8
     }
 
-    // Puts a node into the set, which may be there already.
+    // Adds a node to the set, if it is not there already.
     fn put(&mut self, node: u16)
         requires { length (with_any self.old node) ≤ 9 }
         ensures { self.new ≡ with_any self.old node }
