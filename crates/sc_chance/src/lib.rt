@@ -1,4 +1,4 @@
-//! Words that a number seeds, two at a time.
+//! Random words that a number seeds, two for each step.
 #![tactic(auto)]
 
 mod words;

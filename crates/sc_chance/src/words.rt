@@ -1,4 +1,4 @@
-//! What draws the words.
+//! The generator of random words.
 ghost use Rattle.std.specs.Prelude.{◌≡◌, ◌+◌, ◌%◌, ◌^◌, ◌++◌, replicate};
 ghost use Rattle.std.specs.Int.{w64, to_le_bytes};
 ghost use Rattle.rand_chacha.specs.ChaCha.{word_at, next_word};
@@ -9,7 +9,8 @@ use rand_core::SeedableRng;
 use rand_core::utils::NextWord;
 use std::marker::Model;
 
-/// What draws the two words of each step. Contracts see its number and which step comes next.
+/// A generator that draws two words for each step. Contracts see its number and the step that
+/// comes next.
 ///
 /// The words are those of `ChaCha8Rng`, keyed with the 8 bytes of the number, the lowest first,
 /// and 24 zero bytes, in stream 0 from place 0 on. A number always draws the same words.
@@ -33,7 +34,7 @@ impl Model for Chance {
 }
 
 impl Chance {
-    /// The words of that number, at the first step.
+    /// Returns the generator with this number, at step 0.
     pub fn start(number: u64) -> Chance
         ensures { result ≡ record { number = number; step = 0 } }
     {
@@ -43,7 +44,7 @@ impl Chance {
         }
     }
 
-    /// The two words of the next step.
+    /// Draws the two words of the next step.
     pub fn draw(&mut self) -> (u32, u32)
         ensures words { result ≡ two_words self.old.number self.old.step }
         ensures next { self.new ≡ after_step self.old }
