@@ -1,13 +1,13 @@
--- What some calls made of a source and of a sink.
+-- What a number of calls changed in a source and in a sink.
 use Rattle.std.specs.Prelude.{ℕ, List, Option}
 
--- the bytes that a source had left, where it tells them, and its count of faults before and after
+-- the use of a source: the bytes that were left before, where they are known, and its count of read errors before and after
 pub record SourceUse : Type 0 where
   pub left : Option (List ℕ)
   pub faults_before : ℕ
   pub faults_after : ℕ
 
--- the bytes that a sink held and the pieces that its calls had brought, where it tells them, and its counts of faults and of calls, each before and after
+-- the use of a sink, each before and after: the bytes held and the pieces given, where these are known, and the counts of write errors and of calls
 pub record SinkUse : Type 0 where
   pub held_before : Option (List ℕ)
   pub held_after : Option (List ℕ)

@@ -1,4 +1,4 @@
-//! Where bytes come from and go to, with a count of faults that never falls.
+//! Sources and sinks of bytes, which count their I/O errors. The count never falls.
 #![tactic(auto)]
 
 mod memory;

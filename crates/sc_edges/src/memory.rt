@@ -10,8 +10,8 @@ use sc_base::OutOfMemory;
 use std::alloc::Global;
 use std::marker::Model;
 
-/// A source of given bytes. A call fails, and takes nothing, exactly where its number, from 1, is
-/// listed.
+/// A source of given bytes. A call fails, and takes nothing, exactly where its number, counted
+/// from 1, is listed.
 #[derive(Drop)]
 pub struct MemSource {
     bytes: Vec<u8>,
@@ -39,7 +39,8 @@ impl Model for MemSource {
 }
 
 impl MemSource {
-    /// A source of these bytes, before its first call.
+    /// Returns a source of these bytes, before its first call. `failing` lists the numbers of the
+    /// calls that fail.
     pub fn new(alloc: Global, bytes: &[u8], failing: &[u64]) -> Result<MemSource, OutOfMemory>
         ensures { IfOk result
             (λ s. s ≡ record { left = bytes.now; failing = failing.now; calls = 0; faults = 0 }) }
@@ -85,8 +86,9 @@ impl Source for MemSource {
     }
 }
 
-/// A sink with room for so many bytes. A call fails, and appends nothing, exactly where its number,
-/// from 1, is listed or the piece does not fit into the room that is left.
+/// A sink with room for a fixed number of bytes. A call fails, and appends nothing, exactly where
+/// its number, counted from 1, is listed, or where the piece does not fit into the room that is
+/// left.
 #[derive(Drop)]
 pub struct MemSink {
     held: Vec<u8>,
@@ -117,8 +119,8 @@ impl Model for MemSink {
 }
 
 impl MemSink {
-    /// A sink with room for so many bytes, before its first call. It takes memory here and none
-    /// later.
+    /// Returns a sink with room for `room` bytes, before its first call. `failing` lists the
+    /// numbers of the calls that fail. Memory is allocated here and in no later call.
     pub fn new(alloc: Global, room: usize, failing: &[u64]) -> Result<MemSink, OutOfMemory>
         ensures { IfOk result
             (λ s.
@@ -142,7 +144,7 @@ impl MemSink {
         })
     }
 
-    /// The bytes that were put.
+    /// Returns the bytes that the sink holds.
     pub fn held(&self) -> &[u8]
         ensures { result.now ≡ self.now.held }
     {

@@ -1,5 +1,5 @@
-//! Sources and sinks over the readers and writers of std. Over the real input and output they tell
-//! no bytes.
+//! Sources and sinks over the readers and writers of std. Over the real input and output contracts
+//! do not know the bytes.
 ghost use Rattle.std.specs.Prelude.{◌≡◌, ◌≤◌, ◌+◌, min, IfOk, OnOk, OnErr};
 ghost use Rattle.std.specs.Io.KnownBytes.{Appends};
 ghost use Rattle.sc_edges.specs.Bytes.{Gives, AppendsPart};
@@ -8,7 +8,7 @@ ghost use Rattle.sc_edges.specs.Causes.{HasCause};
 use crate::traits::{Failed, Sink, Source};
 use std::io::{Read, Write};
 
-/// A source over a reader, with a count of its calls and of its errors.
+/// A source over a reader, with a count of its calls and of its read errors.
 #[derive(Drop)]
 pub struct StdSource<R> {
     reader: R,
@@ -17,7 +17,7 @@ pub struct StdSource<R> {
 }
 
 impl<R> StdSource<R> {
-    /// The source over a reader, before its first call. It takes no memory.
+    /// Returns the source over a reader, before its first call. It takes no memory.
     pub fn new(reader: R) -> StdSource<R>
         ensures { result ≡ record { reader = reader; calls = 0; faults = 0 } }
     {
@@ -56,7 +56,7 @@ impl<R: Read> Source for StdSource<R> {
     }
 }
 
-/// A sink over a writer, with a count of its calls and of its errors.
+/// A sink over a writer, with a count of its calls and of its write errors.
 #[derive(Drop)]
 pub struct StdSink<W> {
     writer: W,
@@ -65,7 +65,7 @@ pub struct StdSink<W> {
 }
 
 impl<W> StdSink<W> {
-    /// The sink over a writer, before its first call. It takes no memory.
+    /// Returns the sink over a writer, before its first call. It takes no memory.
     pub fn new(writer: W) -> StdSink<W>
         ensures { result ≡ record { writer = writer; calls = 0; faults = 0 } }
     {

@@ -6,20 +6,20 @@ ghost use Rattle.sc_edges.specs.Bytes.{TakesUpTo};
 use crate::traits::{Failed, Source};
 use std::alloc::{AllocError, Global};
 
-/// Why nothing was read: the source failed, or there was no memory left.
+/// The reason why nothing was read: a read error, or out of memory.
 #[derive(Clone, Copy, Debug, PartialEq, Eq)]
 pub enum ReadFault {
     Failed,
     OutOfMemory,
 }
 
-// How many bytes one call asks for at most.
+// The most bytes that one call asks for.
 const PIECE: usize = 4096;
 
-/// Reads to the end of input, or until `most` + 1 bytes were taken, by at most `most` + 2 calls of
-/// `take`.
+/// Reads to the end of the input, or until `most` + 1 bytes were taken, by at most `most` + 2
+/// calls of `take`.
 ///
-/// `Failed` comes only where the source's count of faults rose in this call.
+/// Returns `Failed` only where the source's count of read errors rose in this call.
 pub fn read_all<S: Source>(alloc: Global, source: &mut S, most: u64) -> Result<Vec<u8>, ReadFault>
     ensures taken { IfOk result
         (λ bytes. TakesUpTo (S.left source.old) (S.left source.new) most bytes.items) }

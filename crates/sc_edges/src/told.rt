@@ -1,11 +1,11 @@
-//! Pieces that only clauses read.
+//! Pieces that exist in contracts only.
 ghost use Rattle.std.specs.Prelude.{◌≡◌, ℕ, List, [], ◌∷◌, ◌++◌};
 ghost use Rattle.std.specs.Borrow.{ftrue};
 
 use std::marker::{Model, PhantomData};
 
-/// The pieces that the calls of a sink brought, one a call. It takes no memory, and its methods do
-/// nothing at run time.
+/// The pieces that were given to the calls of a sink, one for each call. It takes no memory, and
+/// its methods do nothing at run time.
 #[derive(Drop)]
 pub struct Pieces {
     marker: PhantomData<u8>,
@@ -25,7 +25,7 @@ impl Pieces {
         }
     }
 
-    /// One more call brought this piece.
+    /// Records that one more call was given this piece.
     pub(crate) fn note(&mut self, _piece: &[u8])
         ensures { self.new.brought ≡ self.old.brought ++ _piece.now ∷ [] }
     {}
