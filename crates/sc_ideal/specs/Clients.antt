@@ -6,29 +6,29 @@ use Rattle.sc_base.specs.declared.ops.Noted.{Noted}
 use Rattle.sc_ideal.specs.declared.Seen.{Seen}
 use Rattle.sc_ideal.specs.declared.Seen.TheVariants.{New, Again, Stale}
 
--- from clients to what was noted of their last request
+-- a client table: from the numbers of clients to their last request and its reply
 abbrev pub ClientTable : Type 0
 ClientTable = FinMap nat_cmp Noted
 
--- how a number stands to what was noted of its client, if anything was
+-- how the number of a request compares with the client's last one in the table, if there is one
 abbrev pub seen_of : Option Noted → ℕ → Seen
 seen_of None seq = New
 seen_of (Some noted) seq = if nat_lt noted.seq seq then New else if noted.seq == seq then Again else Stale noted.seq
 
--- whether a number is above what was noted, if anything was
+-- whether a number is greater than that of the client's last request in the table, or there is none
 abbrev pub is_later : Option Noted → ℕ → Bool
 is_later None seq = true
 is_later (Some noted) seq = nat_lt noted.seq seq
 
--- the table with a client's entry, where its number is greater than the one noted
+-- the table with this request of a client, if its number is greater than the one in the table
 abbrev pub with_later : ClientTable → ℕ → Noted → ClientTable
 with_later table client noted = if is_later (get table client) noted.seq then insert table client noted else table
 
--- the table joined with entries, by the greater number of each client
+-- the table joined with entries of another: for each client the entry with the greater number stays
 abbrev pub joined_with : ClientTable → List (ℕ × Noted) → ClientTable
 joined_with = fold (λ table entry. with_later table entry.0 entry.1)
 
--- of two things noted of one client the one with the greater number, and the first where they are equal
+-- of two entries of one client the one with the greater number, and the first where they are equal
 abbrev pub later : Option Noted → Option Noted → Option Noted
 later first None = first
 later first (Some second) = if is_later first second.seq then Some second else first

@@ -8,7 +8,7 @@ use Rattle.std.specs.FinMap.{empty}
 use Rattle.sc_ideal.specs.declared.Entry.{Entry}
 use Rattle.sc_ideal.specs.IdealStore.{Contents, reply_of, after}
 
--- each entry has the reply of the map that the entries before it leave
+-- each entry has the reply that its operation gets from the map that the entries before it leave
 abbrev pub HasStoreReplies : Contents → List Entry → Type 0
 HasStoreReplies contents [] = Unit {0}
 HasStoreReplies contents (entry ∷ entries) = (entry.reply ≡ reply_of entry.op contents) × HasStoreReplies (after entry.op contents) entries
@@ -18,16 +18,16 @@ abbrev pub contents_after : Contents → List Entry → Contents
 contents_after contents [] = contents
 contents_after contents (entry ∷ entries) = contents_after (after entry.op contents) entries
 
--- two entries are not of one client and number
+-- two entries differ in client or in number
 abbrev pub AreApart : Entry → Entry → Type 0
 AreApart a b = a.client ≡ b.client → a.seq ≡ b.seq → ⊥
 
--- the replies are those of a replay from the empty map, and no client's number stands twice
+-- a history is legal: each reply is that of a replay from the empty map, and no two entries have the same client and number
 pub record Legal (entries : List Entry) : Type 0 where
   pub replay : HasStoreReplies empty entries
   pub once : AllPairs AreApart entries
 
--- some entry has this client, number and reply
+-- the history has an entry with this client, number and reply
 pub record HasEntry (entries : List Entry) (client seq : ℕ) (reply : Reply) : Type 0 where
   pub entry : Entry
   pub stands : Among entry entries
@@ -35,7 +35,7 @@ pub record HasEntry (entries : List Entry) (client seq : ℕ) (reply : Reply) : 
   pub seq_is : entry.seq ≡ seq
   pub reply_is : entry.reply ≡ reply
 
--- an example: put a x answers none, add a y answers x, cas a x z answers x, get a answers z
+-- an example of a history: put a x answers none, add a y answers x, cas a x z answers x, get a answers z
 abbrev pub example_entries : List Entry
 example_entries =
     (record { client = 1; seq = 1; op = Put (97 ∷ []) (120 ∷ []); reply = record { old = None } })

@@ -9,20 +9,20 @@ use Rattle.sc_base.specs.declared.ops.Op.{Op}
 use Rattle.sc_base.specs.declared.ops.Op.TheVariants.{Get, Put, Del, Add, Cas}
 use Rattle.sc_base.specs.declared.ops.Reply.{Reply}
 
--- what a store holds: keys and values by their bytes
+-- the contents of a store: a map from keys to values, both by their bytes
 abbrev pub Contents : Type 0
 Contents = FinMap (slice_cmp nat_cmp) (List ℕ)
 
--- each operation answers the value that its key had, or none
+-- the reply to an operation: the value that its key had before, or none
 abbrev pub reply_of : Op → Contents → Reply
 reply_of op contents = record { old = get contents (key_of op) }
 
--- whether there was a value, and it was this one
+-- whether there is a value, and it is the expected one
 abbrev pub was : List ℕ → Option (List ℕ) → Bool
 was expect None = false
 was expect (Some old) = pointwise nat_eq old expect
 
--- what the map is after an operation
+-- the map after an operation
 abbrev pub after : Op → Contents → Contents
 after (Get key) contents = contents
 after (Put key value) contents = insert contents key value
@@ -38,6 +38,6 @@ holds_key arc key = holds arc (pos_of key)
 abbrev pub part_of : Arc → Contents → Contents
 part_of arc contents = retain_keys contents (holds_key arc)
 
--- the map with these pairs too; at a key of both, with the pair's value
+-- the map with these pairs added; a pair replaces the value of its key
 abbrev pub with_pairs : Contents → List (List ℕ × List ℕ) → Contents
 with_pairs = fold (λ contents pair. insert contents pair.0 pair.1)

@@ -1,4 +1,5 @@
-//! What the store, its histories and its client tables are to be: definitions and laws, no logic.
+//! The specification of the store, of its histories and of its client tables: definitions and
+//! laws, no logic.
 #![tactic(auto)]
 
 ghost use Rattle.sc_ideal.specs.History.{Legal, example_entries};
@@ -7,8 +8,8 @@ ghost use Rattle.sc_ideal.specs.Laws.{ServesApart, MapPartsJoin, JoinedByNumber,
 use sc_base::{Dup, Op, OutOfMemory, Reply};
 use std::alloc::Global;
 
-/// One entry of a history: a client's request, and what it was told. The number is the client's
-/// own, counted from 1.
+/// An entry of a history: a client's request, and the reply to it. The number `seq` is the
+/// client's own, counted from 1.
 #[derive(Clone, PartialEq, Eq, Drop)]
 pub struct Entry {
     pub client: u16,
@@ -23,30 +24,31 @@ impl Dup for Entry {
     }
 }
 
-/// How a request stands to the last one that its client's table notes.
+/// How the number of a request compares with the last one in the client table.
 #[derive(Clone, Copy, Debug, PartialEq, Eq)]
 pub enum Seen {
-    /// Nothing is noted, or a lower number.
+    /// The table has no request of the client, or one with a lower number.
     New,
-    /// This very number is noted.
+    /// The table has the request with this number.
     Again,
-    /// A greater number is noted: `last`.
+    /// The table has a request with a greater number, `last`.
     Stale { last: u32 },
 }
 
-/// A part of the map changes only by operations on its own keys, and the parts on two arcs that
-/// meet join to the part on the joined arc.
+/// States that a part of the map changes only by operations on its own keys, and that the parts on
+/// two arcs that meet join to the part on the joined arc.
 pub fn parts_are_apart()
     ensures apart { ServesApart }
     ensures join { MapPartsJoin }
 {}
 
-/// A history with replies of each kind is legal.
+/// States that a history with replies of each kind is legal.
 pub fn an_example_is_legal()
     ensures { Legal example_entries }
 {}
 
-/// Tables join client by client, by the greater number, in whatever order.
+/// States that joined client tables keep for each client the request with the greater number, and
+/// that the order of joining does not matter.
 pub fn tables_join_by_number()
     ensures by_number { JoinedByNumber }
     ensures any_order { JoinedInAnyOrder }
