@@ -11,7 +11,7 @@ seed_of number = to_le_bytes w64 number ++ replicate 24 0
 unfoldable pub word_of : ℕ → ℕ → ℕ
 word_of number place = word_at 4 (key_of (seed_of number)) 0 place
 
--- the two words of each step, from step 0 on
+-- the two words of a step; steps are counted from 0
 abbrev pub two_words : ℕ → ℕ → ℕ × ℕ
 two_words number step = (word_of number (2 * step), word_of number (2 * step + 1))
 
