@@ -22,7 +22,7 @@ is_changed (Voted vote) = false
 is_changed (Decided outcome) = false
 is_changed (Refused why) = false
 
--- why an order was refused when it was executed
+-- the result to report of an order that was refused when it was executed, or None
 abbrev pub refused_result : Effect → Option ToldResult
 refused_result (Refused why) = Some (Tells.Refused why)
 refused_result (Done reply) = None
@@ -36,7 +36,7 @@ refused_result Changed = None
 refused_result (Voted vote) = None
 refused_result (Decided outcome) = None
 
--- what an order came to that one entry carries out: a join, a leave, or the split of a group that is its own successor
+-- the result to report of an order that one entry carries out: a join, a leave, or the split of a group that is its own successor; None where the entry ends no order
 abbrev pub result_of : Effect → Option ToldResult
 result_of Changed = Some Tells.Done
 result_of (Refused why) = Some (Tells.Refused why)
@@ -50,7 +50,7 @@ result_of Idle = None
 result_of (Voted vote) = None
 result_of (Decided outcome) = None
 
--- the outcome that an entry decided
+-- the outcome that an entry decided, if it did
 abbrev pub decided_in : Effect → Option Outcome
 decided_in (Decided outcome) = Some outcome
 decided_in (Done reply) = None
@@ -64,7 +64,7 @@ decided_in Changed = None
 decided_in (Voted vote) = None
 decided_in (Refused why) = None
 
--- the vote that an entry cast
+-- the vote that an entry cast, if it did
 abbrev pub cast_in : Effect → Option Past
 cast_in (Voted vote) = Some vote
 cast_in (Done reply) = None
@@ -86,7 +86,7 @@ divides (Merged into) = false
 divides (Moved at gift) = false
 divides (Migrated node) = false
 
--- whether a split was decided
+-- whether an entry decided a split
 abbrev pub is_divided : Effect → Bool
 is_divided (Decided outcome) = divides outcome
 is_divided (Done reply) = false

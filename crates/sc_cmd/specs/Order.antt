@@ -15,7 +15,7 @@ code_of LastMember = 7
 code_of TxLimit = 8
 code_of IsMember = 9
 
--- its printed name
+-- the printed name of a refusal
 abbrev pub refusal_name : OrderRefusal → List ℕ
 refusal_name (NotLeader hint) = codes "not-leader"
 refusal_name (InTransaction tx) = codes "in-transaction"

@@ -19,11 +19,11 @@ use Rattle.sc_cmd.specs.declared.cores.Lock.{Lock}
 use Rattle.sc_cmd.specs.declared.cores.Lock.TheVariants.{Free, Coordinating, Promised, Watching}
 use Rattle.sc_cmd.specs.declared.cores.Base.{Base}
 
--- a weight as a 64-bit number tells it
+-- a weight as a 64-bit number: one above 2^64 - 1 becomes 2^64 - 1
 abbrev pub capped : ℕ → ℕ
 capped weight = min weight (2 ^ 64 - 1)
 
--- an operation: its key and each value
+-- the weight of an operation: the lengths of its key and of each value
 abbrev pub op_weight : Op → ℕ
 op_weight (Get key) = length key
 op_weight (Put key value) = length key + length value
@@ -31,46 +31,46 @@ op_weight (Del key) = length key
 op_weight (Add key value) = length key + length value
 op_weight (Cas key expect value) = length key + length expect + length value
 
--- a value, if there is one
+-- the weight of a value: its length, or 0 for None
 abbrev pub value_weight : Option (List ℕ) → ℕ
 value_weight None = 0
 value_weight (Some value) = length value
 
--- the value of a reply
+-- the weight of a reply: the length of its value
 abbrev pub reply_weight : Reply → ℕ
 reply_weight reply = value_weight reply.old
 
--- a pair: 32, its key and its value
+-- the weight of a pair: 32, and the lengths of its key and value
 abbrev pub pair_weight : List ℕ × List ℕ → ℕ
 pair_weight pair = 32 + length pair.0 + length pair.1
 
--- all pairs
+-- the weight of a list of pairs
 abbrev pub pairs_weight : List (List ℕ × List ℕ) → ℕ
 pairs_weight pairs = sum_by pair_weight pairs
 
--- an entry of a client table: 32 and its reply
+-- the weight of an entry of a client table: 32 and that of its reply
 abbrev pub seen_weight : ℕ × Noted → ℕ
 seen_weight seen = 32 + reply_weight seen.1.reply
 
--- all entries of a client table
+-- the weight of a client table
 abbrev pub clients_weight : List (ℕ × Noted) → ℕ
 clients_weight clients = sum_by seen_weight clients
 
--- a participant's record: its pairs and its client table
+-- the weight of a participant's record: that of its pairs and its client table
 abbrev pub frozen_weight : Frozen → ℕ
 frozen_weight frozen = pairs_weight frozen.pairs + clients_weight frozen.clients
 
--- a Yes: its record
+-- the weight of a vote: that of the record in a Yes, and 0 for a No
 abbrev pub vote_weight : Vote → ℕ
 vote_weight (Yes frozen) = frozen_weight frozen
 vote_weight (No why) = 0
 
--- a gift: its pairs and its client table
+-- the weight of a gift: that of its pairs and its client table, or 0 for None
 abbrev pub gift_weight : Option Gift → ℕ
 gift_weight None = 0
 gift_weight (Some gift) = pairs_weight gift.pairs + clients_weight gift.clients
 
--- a moved boundary: its gift
+-- the weight of an outcome: that of the gift of a moved boundary, and 0 for the others
 abbrev pub outcome_weight : Outcome → ℕ
 outcome_weight Abort = 0
 outcome_weight (Merged into) = 0
@@ -78,7 +78,7 @@ outcome_weight (Moved at gift) = gift_weight gift
 outcome_weight (Migrated node) = 0
 outcome_weight Divided = 0
 
--- the operation, vote or outcome in a command
+-- the weight of a command: that of the operation, vote or outcome in it
 abbrev pub command_weight : Command → ℕ
 command_weight Noop = 0
 command_weight (Call client seq op) = op_weight op
@@ -93,22 +93,22 @@ command_weight (Finish tx outcome) = outcome_weight outcome
 command_weight (Watched tx watch) = 0
 command_weight (RecordWatch tx vote by) = 0
 
--- the record that was heard
+-- the weight of a recorded Yes, or 0 for None
 abbrev pub heard_weight : Option Heard → ℕ
 heard_weight None = 0
 heard_weight (Some heard) = frozen_weight heard.frozen
 
--- what a lock has heard
+-- the weight of a lock: that of the Yes that it has recorded
 abbrev pub lock_weight : Lock → ℕ
 lock_weight Free = 0
 lock_weight (Coordinating tx body order heard) = heard_weight heard
 lock_weight (Promised tx offer) = 0
 lock_weight (Watching tx watch) = 0
 
--- an outcome that a group has decided
+-- the weight of an outcome that a group has decided
 abbrev pub decision_weight : Draw × Outcome → ℕ
 decision_weight decision = outcome_weight decision.1
 
--- a group: its pairs and client table, the gifts that it has decided, and what its lock has heard
+-- the weight of a group: that of its pairs and client table, of the gifts that it has decided, and of the Yes that its lock has recorded
 abbrev pub base_weight : Base → ℕ
 base_weight base = pairs_weight base.pairs + clients_weight base.clients + sum_by decision_weight base.core.decided + lock_weight base.core.lock

@@ -1,24 +1,26 @@
-//! What a transaction between groups is to do, and what it asks of its parties.
+//! What a transaction between groups does, and what its coordinator asks of its parties. Scatter,
+//! SOSP 2011, multi-group operations.
 ghost use Rattle.std.specs.Prelude.{◌≡◌};
 
 use crate::links::Link;
 use sc_base::{Draw, Dup, Members, OutOfMemory, RingArc, Same};
 use std::alloc::Global;
 
-/// What a transaction does.
+/// What a transaction changes.
 #[derive(Clone, Copy, PartialEq, Eq)]
 pub enum Body {
-    /// The coordinator takes over its successor.
+    /// The coordinator takes over the arc and the members of its successor, which is gone then.
     Merge,
-    /// The boundary between the two groups moves to `at`.
+    /// The boundary between the coordinator and its successor moves to `at`.
     Repart { at: u32 },
     /// `node` leaves the coordinator and joins its successor.
     Migrate { node: u16 },
-    /// The coordinator's part from `at` on becomes the group `child`.
+    /// The coordinator's part from `at` on becomes the new group `child`.
     Split { at: u32, child: Draw },
 }
 
-/// What a coordinator asks of its participant. `by` is the node that asks.
+/// The coordinator's request to a participant to vote: its own name `coord`, arc and members, the
+/// participant's name `part`, and the change `body`. `by` is the node that asks.
 #[derive(Clone, Copy, PartialEq, Eq)]
 pub struct Offer {
     pub coord: Draw,
@@ -29,8 +31,9 @@ pub struct Offer {
     pub by: u16,
 }
 
-/// What a coordinator asks of its watcher: that its predecessor `old` be replaced by `next`.
-/// `by` is the node that asks, one of the coordinator's `members`.
+/// The coordinator's request to a watcher, the group whose predecessor is replaced: that its
+/// predecessor `old` be replaced by `next`. `by` is the node that asks, one of the coordinator's
+/// `members`.
 #[derive(Clone, Copy, PartialEq, Eq)]
 pub struct Watch {
     pub coord: Draw,

@@ -4,32 +4,33 @@ use crate::votes::{Outcome, Past, Vote};
 use sc_base::{Boxed, Draw, Dup, Op, OutOfMemory, Same};
 use std::alloc::Global;
 
-/// An entry of a log. An `order` of 0 means that a policy made the order.
+/// An entry of a group's log. An `order` of 0 means that a policy, and not an operator, ordered
+/// it.
 #[derive(Clone, PartialEq, Eq, Drop)]
 pub enum Command {
-    /// Fills a gap.
+    /// Nothing: it fills a gap in the log. Paxos Made Simple, section 3.
     Noop,
     /// A client's request.
     Call { client: u16, seq: u32, op: Op },
     /// The node becomes a member.
     Join { node: u16, order: u32 },
-    /// The node is a member no more.
+    /// The node stops being a member.
     Leave { node: u16, order: u32 },
-    /// The part from `at` on becomes the group `child`.
+    /// The part from `at` on becomes the new group `child`, decided by this group alone.
     Split { at: u32, child: Draw, order: u32 },
-    /// The group coordinates a transaction with its successor.
+    /// The group begins, as the coordinator, a transaction with its successor.
     Begin { tx: Draw, body: Body, order: u32 },
-    /// The group votes on another group's offer.
+    /// The group votes, as a participant, on another group's offer.
     Prepared { tx: Draw, offer: Boxed<Offer> },
-    /// The coordinator notes the participant's vote.
+    /// The coordinator records the participant's vote.
     RecordVote { tx: Draw, vote: Vote, by: u16 },
-    /// The coordinator gives up what is not decided.
+    /// The coordinator gives up a transaction that is not decided.
     GiveUp { tx: Draw },
-    /// A party takes over what the coordinator decided.
+    /// A participant or a watcher executes what the coordinator decided.
     Finish { tx: Draw, outcome: Outcome },
-    /// The group votes on becoming a watcher.
+    /// The group votes on another group's request to be a watcher.
     Watched { tx: Draw, watch: Boxed<Watch> },
-    /// The coordinator notes the watcher's vote.
+    /// The coordinator records the watcher's vote.
     RecordWatch { tx: Draw, vote: Past, by: u16 },
 }
 

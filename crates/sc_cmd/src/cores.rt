@@ -10,55 +10,56 @@ use sc_base::{
 };
 use std::alloc::Global;
 
-/// What a group is bound to. Only a group that is free, or a watcher, serves its keys.
+/// The transaction that binds a group, if any. A group serves its keys only while it is free or a
+/// watcher.
 #[derive(Clone, PartialEq, Eq, Drop)]
 pub enum Lock {
     Free,
-    /// It has begun a transaction; `heard` is the participant's vote where it waits for a
-    /// watcher's.
+    /// The group has begun the transaction `tx`. `heard` is the participant's Yes, where it is
+    /// recorded and the watcher's vote is still missing.
     Coordinating {
         tx: Draw,
         body: Body,
         order: u32,
         heard: Option<Heard>,
     },
-    /// It has voted Yes as a participant.
+    /// The group has voted Yes as a participant.
     Promised {
         tx: Draw,
         offer: Offer,
     },
-    /// It has voted Yes as a watcher.
+    /// The group has voted Yes as a watcher.
     Watching {
         tx: Draw,
         watch: Watch,
     },
 }
 
-/// A group but for its pairs and its client table.
+/// The state of a group without its pairs and its client table.
 #[derive(Clone, PartialEq, Eq, Drop)]
 pub struct Core {
     /// The group's name.
     pub id: Draw,
-    /// The node that leads from birth: the least member then.
+    /// The node that leads the group from its creation: its least member at that time.
     pub first: u16,
     pub arc: RingArc,
     pub members: Members,
-    /// The group that serves the positions from this arc's end on.
+    /// The group that serves the positions from the end of this arc on.
     pub succ: Link,
-    /// The group that serves the positions up to this arc's start.
+    /// The group that serves the positions up to the start of this arc.
     pub pred: Link,
     pub lock: Lock,
-    /// How many transactions it has begun.
+    /// How many transactions the group has begun.
     pub begun: u32,
     pub decided: DecidedList,
     pub voted: VotedList,
-    /// The children that it has split off at once.
+    /// The groups that this group has split off on its own, without a transaction.
     pub born: Sequence<Draw>,
-    /// Where it went, where it was merged into another group.
+    /// The group into which this one was merged, if it was.
     pub gone: Option<Route>,
 }
 
-/// A whole group: what a replica starts from.
+/// The whole state of a group, from which a replica starts.
 #[derive(Clone, PartialEq, Eq, Drop)]
 pub struct Base {
     pub core: Core,
@@ -67,7 +68,7 @@ pub struct Base {
 }
 
 impl Core {
-    /// Whether the group is its own successor.
+    /// Returns whether the group is its own successor.
     pub fn is_alone(&self) -> bool
         ensures { result ≡ is_alone self.now }
     {

@@ -1,4 +1,4 @@
-//! What a group answers when its log executes an entry.
+//! The effect of an entry that a group's log executes.
 ghost use Rattle.std.specs.Prelude.{◌≡◌, Some, None, MatchBool};
 ghost use Rattle.std.specs.Option.{option_copied};
 ghost use Rattle.sc_cmd.specs.declared.votes.Outcome.{Outcome};
@@ -10,49 +10,50 @@ use crate::votes::{Outcome, Past};
 use sc_base::{Draw, Dup, OutOfMemory, Reply, RingArc};
 use std::alloc::Global;
 
-/// The answer of one executed entry.
+/// The effect of an executed entry.
 #[derive(Clone, Drop)]
 pub enum Effect {
     /// The operation was applied.
     Done(Reply),
-    /// It was applied before, with this reply.
+    /// The request was applied before, with this reply.
     Again(Reply),
     /// The client's later request `last` was applied before.
     Stale { last: u32 },
-    /// The key is of another group.
+    /// The key belongs to another group.
     NotMine { arc: RingArc, succ: Link },
     /// The group was merged into another.
     Gone { into: Route },
-    /// Nothing changes, by this transaction or child.
+    /// Nothing changed, by an entry that names this transaction or new group.
     NoEffect { tx: Draw },
-    /// Nothing changes: a gap was filled.
+    /// Nothing changed: the entry fills a gap.
     Idle,
     /// An order was carried out or begun.
     Changed,
     /// The group has voted.
     Voted(Past),
-    /// The coordinator has decided, or a party has taken the decision over.
+    /// The coordinator has decided, or a party has executed the decision.
     Decided(Outcome),
     /// An order is refused.
     Refused(OrderRefusal),
 }
 
 impl Effect {
-    /// Whether an order was carried out or begun.
+    /// Returns whether an order was carried out or begun.
     pub fn is_changed(&self) -> bool
         ensures { result ≡ is_changed self.now }
     {
         matches!(self, Effect::Changed)
     }
 
-    /// Whether a split was decided.
+    /// Returns whether a split was decided.
     pub fn is_divided(&self) -> bool
         ensures { result ≡ is_divided self.now }
     {
         matches!(self, Effect::Decided(Outcome::Divided))
     }
 
-    /// What is told of an order that was refused when it was executed.
+    /// Returns the result to report of an order that was refused when it was executed, or `None`
+    /// where it was not refused.
     pub fn refused(&self) -> Option<ToldResult>
         ensures { result ≡ refused_result self.now }
     {
@@ -62,7 +63,8 @@ impl Effect {
         }
     }
 
-    /// What is told of an order that one entry carries out; nothing where the order goes on.
+    /// Returns the result to report of an order that one entry carries out, or `None` where the
+    /// entry ends no order.
     pub fn told(&self) -> Option<ToldResult>
         ensures { result ≡ result_of self.now }
     {
@@ -73,8 +75,8 @@ impl Effect {
         }
     }
 
-    /// Whether the entry decided an outcome. One without effect decided none, whatever it was to
-    /// decide.
+    /// Returns whether the entry decided an outcome. An entry without effect decided none,
+    /// whatever command it has.
     pub fn has_outcome(&self) -> bool
         ensures { MatchBool result ((outcome : Outcome) × (decided_in self.now ≡ Some outcome))
             (decided_in self.now ≡ None) }
@@ -82,7 +84,7 @@ impl Effect {
         matches!(self, Effect::Decided(_))
     }
 
-    /// The outcome that the entry decided.
+    /// Returns the outcome that the entry decided, if it did.
     pub fn outcome(&self) -> Option<&Outcome>
         ensures { option_copied result ≡ decided_in self.now }
     {
@@ -92,7 +94,7 @@ impl Effect {
         }
     }
 
-    /// The vote that the entry cast.
+    /// Returns the vote that the entry cast, if it did.
     pub fn vote(&self) -> Option<Past>
         ensures { result ≡ cast_in self.now }
     {

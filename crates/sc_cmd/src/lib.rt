@@ -1,4 +1,4 @@
-//! What stands in the logs of groups: commands, the records they carry, the state of a group, and
+//! The contents of groups' logs: commands, the records that they carry, the state of a group, and
 //! orders.
 #![tactic(auto)]
 

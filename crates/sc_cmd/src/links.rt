@@ -19,7 +19,7 @@ pub struct Route {
     pub members: Members,
 }
 
-/// Member sets, one a slot.
+/// Member sets, one for each slot.
 pub type MemberSets = Sequence<Members>;
 
 impl Dup for Link {

@@ -1,11 +1,11 @@
-//! Orders of the operator, and what is told of them.
+//! Orders of the operator, and their results.
 ghost use Rattle.std.specs.Prelude.{◌≡◌};
 ghost use Rattle.sc_cmd.specs.Order.{code_of, refusal_name};
 
 use sc_base::{Draw, Dup, OutOfMemory, Same};
 use std::alloc::Global;
 
-/// An order to a group.
+/// An order to change a group. Orders are described in docs/SCENARIOS.md.
 #[derive(Clone, Copy, PartialEq, Eq)]
 pub enum Order {
     Join { node: u16, group: Draw },
@@ -16,25 +16,25 @@ pub enum Order {
     Migrate { group: Draw, node: u16 },
 }
 
-/// An order with its number, from 1 over the whole scenario.
+/// An order with its number, counted from 1 over the whole scenario.
 #[derive(Clone, Copy, PartialEq, Eq)]
 pub struct OrderLine {
     pub number: u32,
     pub order: Order,
 }
 
-/// Why an order is refused.
+/// The reason why an order is refused.
 #[derive(Clone, Copy, PartialEq, Eq)]
 pub enum OrderRefusal {
     /// The node does not lead the group; it takes `hint` for the leader.
     NotLeader { hint: Option<u16> },
-    /// The group is locked in a transaction.
+    /// The group is locked in the transaction `tx`.
     InTransaction { tx: Draw },
     /// The group is its own successor.
     NoNeighbour,
-    /// No place for a boundary.
+    /// The position cannot be a boundary.
     BadBoundary,
-    /// The group would have `n` members.
+    /// The group would have `n` members, which are too many.
     TooManyMembers { n: u8 },
     /// The node is no member.
     NotMember,
@@ -42,11 +42,11 @@ pub enum OrderRefusal {
     LastMember,
     /// The group has begun as many transactions as it may.
     TxLimit,
-    /// The node is a member.
+    /// The node is a member already.
     IsMember,
 }
 
-/// What is told of an order.
+/// The result of an order that is reported to the desk.
 #[derive(Clone, Copy, PartialEq, Eq)]
 pub enum ToldResult {
     Done,
@@ -56,7 +56,7 @@ pub enum ToldResult {
 }
 
 impl OrderRefusal {
-    /// Its number in the order in which refusals are tested, from 1 to 9.
+    /// Returns the refusal's number in the order in which refusals are tested, 1 to 9.
     pub fn code(&self) -> u8
         ensures { result ≡ code_of self.now }
     {
@@ -73,7 +73,7 @@ impl OrderRefusal {
         }
     }
 
-    /// Its printed name.
+    /// Returns the refusal's printed name.
     pub fn name(&self) -> &'static [u8]
         ensures { result.now ≡ refusal_name self.now }
     {

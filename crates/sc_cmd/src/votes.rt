@@ -1,11 +1,11 @@
-//! What the parties of a transaction answer, and what was decided.
+//! Votes of the parties of a transaction, and its outcome.
 ghost use Rattle.std.specs.Prelude.{◌≡◌};
 
 use crate::links::{Link, Route};
 use sc_base::{Boxed, Draw, Dup, Members, OutOfMemory, Pairs, RingArc, Same, SeenList, Sequence};
 use std::alloc::Global;
 
-/// The record of a participant, which stays as it is from its Yes to the outcome.
+/// The record of a participant, which does not change from its Yes to the outcome.
 #[derive(Clone, PartialEq, Eq, Drop)]
 pub struct Frozen {
     pub arc: RingArc,
@@ -15,21 +15,21 @@ pub struct Frozen {
     pub clients: SeenList,
 }
 
-/// What a coordinator has heard from its participant, and from which node.
+/// A participant's Yes that its coordinator has recorded, and the node that sent it.
 #[derive(Clone, PartialEq, Eq, Drop)]
 pub struct Heard {
     pub frozen: Frozen,
     pub by: u16,
 }
 
-/// Why a party votes No.
+/// The reason why a party votes No.
 #[derive(Clone, Copy, PartialEq, Eq)]
 pub enum No {
-    /// It is locked in the transaction `tx`.
+    /// The party is locked in the transaction `tx`.
     Busy { tx: Draw },
-    /// It was merged into another group.
+    /// The party was merged into another group.
     Gone,
-    /// It is not the neighbour that the coordinator takes it for.
+    /// The party is not the neighbour that the coordinator takes it for.
     Apart,
     /// A group would have `n` members, which are too many.
     TooMany { n: u8 },
@@ -42,7 +42,7 @@ pub enum Vote {
     No(No),
 }
 
-/// What a group remembers of a vote of its own, or that the transaction has ended there.
+/// A vote that a group remembers having cast itself, or that the transaction has ended there.
 #[derive(Clone, Copy, PartialEq, Eq)]
 pub enum Past {
     Yes,
@@ -50,20 +50,20 @@ pub enum Past {
     Ended,
 }
 
-/// What a moved boundary brings to the group that gains the arc.
+/// The pairs and client table that go with a moved boundary to the group that gains the arc.
 #[derive(Clone, PartialEq, Eq, Drop)]
 pub struct Gift {
     pub pairs: Pairs,
     pub clients: SeenList,
 }
 
-/// What a coordinator has decided.
+/// The outcome that a coordinator has decided.
 #[derive(Clone, PartialEq, Eq, Drop)]
 pub enum Outcome {
     Abort,
-    /// The participant is gone into the coordinator, whose new route is this.
+    /// The participant is merged into the coordinator, whose new route is `into`.
     Merged { into: Route },
-    /// The boundary stands at `at`; a gift goes to the participant where it gains.
+    /// The boundary is now at `at`. The participant gets a gift where it gains the arc.
     Moved { at: u32, gift: Option<Boxed<Gift>> },
     Migrated { node: u16 },
     /// The coordinator has split.

@@ -1,5 +1,5 @@
-//! What commands and records count, told as 64-bit numbers: a greater weight is told as the
-//! greatest.
+//! The weights of commands and records in counted bytes, as 64-bit numbers: a greater weight is
+//! returned as 2^64 - 1.
 ghost use Rattle.std.specs.Prelude.{◌≡◌, ◌+◌, ◌≤◌, length, Some};
 ghost use Rattle.std.specs.List.{sum_by};
 ghost use Rattle.sc_base.specs.Limits.{longest_key, longest_value};
@@ -24,7 +24,7 @@ fn text_weight(value: &Value) -> u64
     value.bytes().len() as u64
 }
 
-/// The lengths of an operation's key and of each of its values.
+/// Returns the weight of an operation: the lengths of its key and of each of its values.
 pub fn op_weight(op: &Op) -> u64
     ensures { result ≡ op_weight op.now }
 {
@@ -37,7 +37,7 @@ pub fn op_weight(op: &Op) -> u64
     }
 }
 
-/// The length of the value that was there before.
+/// Returns the weight of a reply: the length of the value that was there before.
 pub fn reply_weight(reply: &Reply) -> u64
     ensures same { result ≡ reply_weight reply.now }
     ensures short { result ≤ longest_value }
@@ -86,7 +86,7 @@ fn frozen_weight(frozen: &Frozen) -> u64
     pairs_weight(&frozen.pairs).saturating_add(clients_weight(&frozen.clients))
 }
 
-/// A Yes counts what its frozen record holds.
+/// Returns the weight of a vote: that of the frozen record for a Yes, and 0 for a No.
 pub fn vote_weight(vote: &Vote) -> u64
     ensures { result ≡ capped (vote_weight vote.now) }
 {
@@ -111,7 +111,7 @@ fn gift_weight(gift: &Option<Boxed<Gift>>) -> u64
     }
 }
 
-/// A moved boundary counts its gift.
+/// Returns the weight of an outcome: that of its gift for a moved boundary, and 0 for the others.
 pub fn outcome_weight(outcome: &Outcome) -> u64
     ensures { result ≡ capped (outcome_weight outcome.now) }
 {
@@ -121,7 +121,7 @@ pub fn outcome_weight(outcome: &Outcome) -> u64
     }
 }
 
-/// What the operation, vote or outcome in a command counts.
+/// Returns the weight of a command: that of the operation, vote or outcome in it.
 pub fn command_weight(command: &Command) -> u64
     ensures { result ≡ capped (command_weight command.now) }
 {
@@ -169,7 +169,7 @@ fn decided_weight(decided: &DecidedList) -> u64
     total
 }
 
-/// What a whole group counts.
+/// Returns the weight of a whole group.
 pub fn base_weight(base: &Base) -> u64
     ensures { result ≡ capped (base_weight base.now) }
 {
