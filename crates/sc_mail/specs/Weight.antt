@@ -9,7 +9,7 @@ use Rattle.sc_mail.specs.declared.bodies.AnswerBody.TheVariants.{Value, NotLeade
 use Rattle.sc_mail.specs.declared.bodies.MailBody.{MailBody}
 use Rattle.sc_mail.specs.declared.bodies.MailBody.TheVariants.{Request, Answer, Prepare, Promise, Accept, Accepted, Nack, Learn, Ask, Install, TxPrepare, TxVote, TxOutcome, TxElsewhere, TxWatch, TxWatched, Told}
 
--- an answer: its reply's value
+-- the weight of an answer: that of its reply, or 0
 abbrev pub answer_weight : AnswerBody → ℕ
 answer_weight (Value reply) = reply_weight reply
 answer_weight (NotLeader hint) = 0
@@ -17,11 +17,11 @@ answer_weight (NotMine arc succ) = 0
 answer_weight (Gone into) = 0
 answer_weight (Stale last) = 0
 
--- a report: 32 and its command
+-- the weight of a report: 32 and that of its command
 abbrev pub report_weight : Report Command → ℕ
 report_weight report = 32 + command_weight report.value
 
--- the sum over what the mail carries
+-- the weight of a mail's body: that of the operation, answer, reports, command, state, vote or outcome that it carries
 abbrev pub body_weight : MailBody → ℕ
 body_weight (Request group client seq op) = op_weight op
 body_weight (Answer group seq answer) = answer_weight answer

@@ -1,4 +1,4 @@
-//! Mail between nodes, clients and the desk, what it counts in the journal's bytes, and the actors
+//! Mail between nodes, clients and the desk, its weight in the journal's bytes, and the actors
 //! that send it: nodes and clients.
 #![tactic(auto)]
 

@@ -8,8 +8,8 @@ use sc_base::{OutOfMemory, Sequence};
 use sc_cmd::OrderLine;
 use std::alloc::Global;
 
-/// A node or a client, whatever a node is and whatever a client is: two machines, or the values of
-/// their tables.
+/// A node or a client, generic in what each is: two state machines, or the values of their tables
+/// as contracts see them.
 #[derive(Drop)]
 pub enum Role<N, C> {
     Node(N),

@@ -1,4 +1,4 @@
-//! What a mail counts.
+//! The weight of a mail in counted bytes.
 ghost use Rattle.std.specs.Prelude.{◌≡◌};
 ghost use Rattle.std.specs.List.{sum_by};
 ghost use Rattle.sc_cmd.specs.Weight.{capped};
