@@ -1,11 +1,11 @@
--- How an acceptor answers an accept (Paxos Made Simple, section 2.2, phase 2).
+-- How an acceptor answers an accept (Paxos Made Simple, section 2.2, phase 2b).
 use Rattle.std.specs.Prelude.{if◌then◌else◌}
 use Rattle.sc_paxos_words.specs.declared.reports.Report.{Report}
 use Rattle.sc_paxos_words.specs.declared.answers.AcceptAnswer.{AcceptAnswer}
 use Rattle.sc_paxos_words.specs.declared.answers.AcceptAnswer.TheVariants.{Accepted, Ignored}
 use Rattle.sc_paxos_words.specs.Acceptors.{AcceptorState, may_accept, after_accept}
 
--- it accepts in a ballot not below its promise
+-- the answer and the state after an accept: the acceptor accepts in a ballot not below its promise, and ignores any other
 abbrev pub accepted : {V : Type 0} → Report V → AcceptorState V → AcceptAnswer × AcceptorState V
 accepted report state =
     if may_accept state report.ballot then (Accepted, after_accept report state)

@@ -1,11 +1,11 @@
--- How an acceptor answers a prepare (Paxos Made Simple, section 2.2, phase 1).
+-- How an acceptor answers a prepare (Paxos Made Simple, section 2.2, phase 1b).
 use Rattle.std.specs.Prelude.{ℕ, if◌then◌else◌}
 use Rattle.sc_base.specs.declared.names.Ballot.{Ballot}
 use Rattle.sc_paxos_words.specs.declared.answers.PrepareAnswer.{PrepareAnswer}
 use Rattle.sc_paxos_words.specs.declared.answers.PrepareAnswer.TheVariants.{Promise, Ignored}
 use Rattle.sc_paxos_words.specs.Acceptors.{AcceptorState, may_promise, after_promise, reports_from}
 
--- it promises a ballot above its promise, and reports each accepted slot not below `from`
+-- the answer and the state after a prepare: the acceptor promises a ballot above its promise, with its reports of the slots not below `from`, and ignores any other ballot
 abbrev pub prepared : {V : Type 0} → Ballot → ℕ → AcceptorState V → PrepareAnswer V × AcceptorState V
 prepared ballot from state =
     if may_promise state ballot then (Promise (reports_from from state.accepted), after_promise ballot state)

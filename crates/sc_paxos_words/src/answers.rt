@@ -1,53 +1,54 @@
-//! What acceptors, leaders and logs answer.
+//! The answers of acceptors, leaders and logs.
 use crate::reports::Report;
 use sc_base::{Ballot, Sequence};
 
-/// What an acceptor answers to a prepare.
+/// An acceptor's answer to a prepare: Paxos Made Simple, section 2.2, phase 1b.
 #[derive(Drop)]
 pub enum PrepareAnswer<V> {
-    /// It promises to accept in no lower ballot, and reports what it accepted at the slots asked
-    /// for, by rising slot.
+    /// The acceptor promises to accept in no lower ballot, and reports what it accepted last at
+    /// each slot that was asked for, ascending by slot.
     Promise { reports: Sequence<Report<V>> },
-    /// The ballot is not above its promise, which it tells.
+    /// The ballot is not above the acceptor's promise, which is `promised`.
     Ignored { promised: Ballot },
 }
 
-/// What an acceptor answers to an accept.
+/// An acceptor's answer to an accept: Paxos Made Simple, section 2.2, phase 2b.
 #[derive(Clone, Copy, Debug, PartialEq, Eq)]
 pub enum AcceptAnswer {
-    /// It has accepted.
+    /// The acceptor has accepted the value.
     Accepted,
-    /// The ballot is below its promise, which it tells.
+    /// The ballot is below the acceptor's promise, which is `promised`.
     Ignored { promised: Ballot },
 }
 
-/// What a leader has to propose at a slot.
+/// The value that a leader has to propose at a slot: Paxos Made Simple, section 2.2, phase 2a, and
+/// section 3.
 #[derive(Debug, PartialEq, Eq, Drop)]
 pub enum Must<V> {
     /// This value, which was reported.
     Value(V),
-    /// Something that changes nothing: no report names the slot, and one names a greater slot.
+    /// A command that changes nothing: no report names the slot, and one names a greater slot.
     Gap,
-    /// Whatever it likes.
+    /// Any value.
     Free,
 }
 
-/// What a leader answers to an accepted proposal.
+/// A leader's answer to an accepted proposal.
 #[derive(Debug, PartialEq, Eq, Drop)]
 pub enum Counted<V> {
     /// The value is chosen.
     Chosen(V),
-    /// So many voters are kept, and they are no majority.
+    /// The value is not chosen yet: `count` voters are kept, and they are no majority.
     NotYet { count: u8 },
 }
 
-/// What a log answers to a chosen value.
+/// A log's answer to a chosen value.
 #[derive(Clone, Copy, Debug, PartialEq, Eq)]
 pub enum Learnt {
-    /// It is the next entry now.
+    /// The value is now the next entry.
     Learnt,
     /// The slot has an entry already.
     Known,
-    /// The slot `next` is wanted first.
+    /// Entries are missing before this slot, the first of them at slot `next`.
     Ahead { next: u32 },
 }

@@ -1,11 +1,11 @@
 //! Proposals in flight.
 use sc_base::Members;
 
-/// A value that a leader has proposed at a slot, and the members that have accepted it, if any
-/// have.
+/// A proposal in flight: a value that a leader has proposed at a slot, and the members that have
+/// accepted it, if any have.
 #[derive(Drop)]
 pub struct Flight<V> {
-    /// The slot of the log, from 1 on.
+    /// The slot of the log, counted from 1.
     pub slot: u32,
     /// The value proposed.
     pub value: V,

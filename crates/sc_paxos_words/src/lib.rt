@@ -1,6 +1,6 @@
-//! The words of Paxos that acceptors, leaders, logs and the law of one value per slot share: the
-//! order of ballots, reports, the choice from reports, and what acceptors, leaders and logs hold
-//! and answer.
+//! The definitions of Paxos that acceptors, leaders, logs and the law of one value per slot share:
+//! the order of ballots, reports, the choice from reports, and the states and answers of
+//! acceptors, leaders and logs.
 #![tactic(auto)]
 
 mod answers;

@@ -4,15 +4,15 @@ ghost use Rattle.std.specs.Prelude.{◌≡◌, IfOk};
 use sc_base::{Ballot, Dup, OutOfMemory, Same};
 use std::alloc::Global;
 
-/// What an acceptor reports of a slot: the last value that it accepted there, and in which ballot
-/// (Paxos Made Simple, section 2.2).
+/// What an acceptor reports of a slot: the last value that it accepted there, and the ballot of it
+/// (Paxos Made Simple, section 2.2, phase 1b).
 #[derive(Debug, PartialEq, Eq, Drop)]
 pub struct Report<V> {
-    /// The slot of the log, from 1 on.
+    /// The slot of the log, counted from 1.
     pub slot: u32,
     /// The ballot in which the value was accepted.
     pub ballot: Ballot,
-    /// The value.
+    /// The value that was accepted.
     pub value: V,
 }
 
