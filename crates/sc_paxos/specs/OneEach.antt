@@ -3,7 +3,7 @@ use Rattle.std.specs.Prelude.{◌≢◌, List, [], ◌∷◌}
 use Rattle.sc_paxos_words.specs.declared.flights.Flight.{Flight}
 use Rattle.sc_base.specs.Definitions.{Each}
 
--- at most one flight a slot
+-- there is at most one proposal in flight for each slot
 abbrev pub IsOneEach : {V : Type 0} → List (Flight V) → Type 0
 IsOneEach [] = Unit {0}
 IsOneEach (flight ∷ flights) = Each (λ other. other.slot ≢ flight.slot) flights × IsOneEach flights

@@ -10,7 +10,7 @@ use sc_paxos_words::{AcceptAnswer, PrepareAnswer, Report};
 use std::alloc::Global;
 use std::marker::Model;
 
-/// One acceptor of one group's log. Contracts see what it holds, and for how many more slots it has
+/// An acceptor of one group's log. Contracts see its state, and for how many more slots it has
 /// room.
 #[derive(Drop)]
 pub struct Acceptor<V> {
@@ -40,8 +40,8 @@ impl<V> Model for Acceptor<V> {
 }
 
 impl<V> Acceptor<V> {
-    /// The acceptor at its group's birth: it has promised the first ballot and accepted nothing. It
-    /// has no room yet.
+    /// Returns the acceptor of a new group: it has promised the group's first ballot and accepted
+    /// nothing. It has no room yet.
     pub fn born(alloc: Global, first: Ballot) -> Acceptor<V>
         ensures { result.state ≡ born_acceptor first }
     {
@@ -53,14 +53,14 @@ impl<V> Acceptor<V> {
         }
     }
 
-    /// The ballot below which it accepts nothing.
+    /// Returns the acceptor's promise, the ballot below which it accepts nothing.
     pub fn promised(&self) -> Ballot
         ensures { result ≡ self.now.state.promised }
     {
         self.promised
     }
 
-    /// The slot up to which it has forgotten what it accepted; 0 at birth.
+    /// Returns the slot up to which the acceptor has forgotten what it accepted, 0 at first.
     pub fn floor(&self) -> u32
         ensures same { result ≡ self.now.state.floor }
         ensures whole { IsWholeAcceptor self.now.state }
@@ -68,7 +68,8 @@ impl<V> Acceptor<V> {
         self.floor
     }
 
-    /// Makes room for one more slot; all else is as before. Refused only for want of memory.
+    /// Makes room for one more slot. Fails only when out of memory. The state is unchanged in each
+    /// case, and the room is not less than before.
     pub fn reserve(&mut self) -> Result<(), OutOfMemory>
         ensures room { OnOk result (1 ≤ self.new.room) }
         ensures same { self.new.state ≡ self.old.state }
@@ -80,9 +81,9 @@ impl<V> Acceptor<V> {
 }
 
 impl<V: Drop> Acceptor<V> {
-    /// Accepts a value at a slot, unless the ballot is below its promise (Paxos Made Simple,
-    /// section 2.2, phase 2). The slot is above the floor, and there is room for one slot: it takes
-    /// no memory. Ignored, nothing changes but that the value is dropped.
+    /// Accepts a value at a slot, unless the ballot is below the promise (Paxos Made Simple,
+    /// section 2.2, phase 2b). The slot is above the floor, and there is room for one slot, so it
+    /// allocates nothing. After `Ignored` the acceptor is unchanged, and the value is dropped.
     pub fn on_accept(&mut self, ballot: Ballot, slot: u32, value: V) -> AcceptAnswer
         requires room { 1 ≤ self.old.room }
         requires above { self.old.state.floor < slot }
@@ -109,8 +110,8 @@ impl<V: Drop> Acceptor<V> {
         AcceptAnswer::Accepted
     }
 
-    /// Forgets the accepted slots not above `upto`, and raises the floor to it where it is lower.
-    /// It takes no memory.
+    /// Forgets the accepted slots not above `upto`, and raises the floor to `upto` where it is
+    /// lower. Allocates nothing.
     pub fn cut(&mut self, upto: u32)
         ensures state { self.new.state ≡ after_cut upto self.old.state }
         ensures room { self.old.room ≤ self.new.room }
@@ -121,10 +122,10 @@ impl<V: Drop> Acceptor<V> {
 }
 
 impl<V: Dup + Drop> Acceptor<V> {
-    /// Promises a ballot above its promise, and reports what it accepted at the slots not below
-    /// `from`, by rising slot (Paxos Made Simple, section 2.2, phase 1). Any other ballot is
-    /// ignored, and then nothing changes. `from` is above the floor, so nothing that it covers is
-    /// forgotten. After want of memory nothing has changed.
+    /// Promises a ballot above the promise, and reports what was accepted at the slots not below
+    /// `from`, ascending by slot (Paxos Made Simple, section 2.2, phase 1b). Ignores any other
+    /// ballot, and is then unchanged. `from` is above the floor, so nothing that the promise
+    /// covers is forgotten. After `Err(OutOfMemory)` the acceptor is unchanged.
     pub fn on_prepare(&mut self, ballot: Ballot, from: u32) -> Result<PrepareAnswer<V>, OutOfMemory>
         requires { self.old.state.floor < from }
         ensures answer { IfOk result
@@ -144,7 +145,7 @@ impl<V: Dup + Drop> Acceptor<V> {
     }
 }
 
-/// Copies of the reports of the slots not below `from`.
+/// Returns copies of the reports of the slots not below `from`.
 fn reports_from<V: Dup + Drop>(
     alloc: Global,
     accepted: &[Report<V>],
@@ -161,7 +162,7 @@ fn reports_from<V: Dup + Drop>(
     Ok(reports)
 }
 
-/// Puts a report in its place, over the one of its slot if there is one.
+/// Puts a report in its place, over that of its slot if there is one.
 fn put<V: Drop>(accepted: &mut Vec<Report<V>>, report: Report<V>)
     requires by_slot { IsBySlot accepted.old.items }
     requires room { vec_len accepted.old < vec_capacity accepted.old }
@@ -187,7 +188,7 @@ fn forget<V: Drop>(accepted: &mut Vec<Report<V>>, upto: u32)
     accepted.retain(|report| upto < report.slot);
 }
 
-/// How many reports are of lower slots.
+/// Returns how many reports are of lower slots.
 fn count_below<V>(accepted: &[Report<V>], slot: u32) -> usize
     ensures { result ≡ count_by (λ report. nat_lt report.slot slot) accepted.now }
 {

@@ -1,4 +1,4 @@
-//! The values in flight.
+//! The proposals in flight.
 ghost use Rattle.std.specs.Prelude.{◌≡◌, ◌<◌, Some, None, MatchOption, find, length, position, ◌==◌, slice_get, vec_len};
 ghost use Rattle.std.specs.Option.{option_copied};
 ghost use Rattle.sc_paxos_words.specs.Leaders.{flight_at, without_flight};
@@ -7,21 +7,21 @@ ghost use Rattle.sc_paxos_words.specs.Votes.{with_voters};
 use sc_base::Members;
 use sc_paxos_words::Flight;
 
-/// The place of what is in flight at a slot, if anything is.
+/// Returns the index of the proposal in flight at a slot, if there is one.
 pub(crate) fn place_of<V>(flights: &[Flight<V>], slot: u32) -> Option<usize>
     ensures { result ≡ position (λ flight. flight.slot == slot) flights.now }
 {
     flights.iter().position(|flight| flight.slot == slot)
 }
 
-/// What is in flight at a slot.
+/// Returns the proposal in flight at a slot, if there is one.
 pub(crate) fn flight_at<V>(flights: &[Flight<V>], slot: u32) -> Option<&Flight<V>>
     ensures { option_copied result ≡ flight_at slot flights.now }
 {
     flights.iter().find(|flight| flight.slot == slot)
 }
 
-/// Takes out what is in flight at a slot.
+/// Removes the proposal in flight at a slot, and returns it.
 pub(crate) fn take_out<V>(flights: &mut Vec<Flight<V>>, slot: u32) -> Option<Flight<V>>
     ensures value { result ≡ flight_at slot flights.old.items }
     ensures after { flights.new.items ≡ without_flight slot flights.old.items }
@@ -32,7 +32,7 @@ pub(crate) fn take_out<V>(flights: &mut Vec<Flight<V>>, slot: u32) -> Option<Fli
     }
 }
 
-/// Keeps other voters for what is in flight at a slot, if anything is.
+/// Replaces the voters of the proposal in flight at a slot, if there is one.
 pub(crate) fn set_voters<V>(flights: &mut Vec<Flight<V>>, slot: u32, voters: Option<Members>)
     ensures { flights.new.items ≡ with_voters slot voters flights.old.items }
 {

@@ -15,8 +15,8 @@ use std::alloc::Global;
 use std::marker::Model;
 
 /// A leader of one ballot of one group's log. Contracts see its ballot, whether it is the group's
-/// first, the next slot when it was elected, who promised it, their reports in the order in which
-/// they were counted, and what is in flight.
+/// first, the next slot when it was elected, the nodes that promised it, their reports in the
+/// order in which they were counted, and the proposals in flight.
 #[derive(Drop)]
 pub struct Leader<V> {
     ballot: Ballot,
@@ -48,7 +48,7 @@ impl<V> Model for Leader<V> {
 }
 
 impl<V> Leader<V> {
-    /// The leader of the group's first ballot, which needs no promises.
+    /// Returns the leader of the group's first ballot, which needs no promises.
     pub fn first(alloc: Global, ballot: Ballot) -> Leader<V>
         ensures { result ≡ first_leader ballot }
     {
@@ -63,8 +63,8 @@ impl<V> Leader<V> {
         }
     }
 
-    /// A leader of another ballot, elected when `from` was the next slot: no promise is counted and
-    /// nothing is in flight.
+    /// Returns a leader of another ballot, elected when `from` was the next slot. It has counted
+    /// no promise and has nothing in flight.
     pub fn elect(alloc: Global, ballot: Ballot, from: u32) -> Leader<V>
         ensures { result ≡ new_leader ballot from }
     {
@@ -79,22 +79,23 @@ impl<V> Leader<V> {
         }
     }
 
-    /// Its ballot.
+    /// Returns the leader's ballot.
     pub fn ballot(&self) -> Ballot
         ensures { result ≡ self.now.ballot }
     {
         self.ballot
     }
 
-    /// Whether its ballot is the group's first, which needs no promises.
+    /// Returns whether the leader's ballot is the group's first, which needs no promises.
     pub fn is_first(&self) -> bool
         ensures { result ≡ self.now.is_first }
     {
         self.is_first
     }
 
-    /// Whether it is settled: its ballot is not below the promise of its own acceptor, and it is
-    /// the first or a majority of the members of the next slot promised it.
+    /// Returns whether the leader is settled, that is, may propose: its ballot is not below the
+    /// promise of its own acceptor, and it is the group's first or a majority of the members of
+    /// the next slot promised it.
     pub fn settled(&self, promised: Ballot, members: &Members) -> bool
         ensures { result ≡ is_settled promised members.now self.now }
     {
@@ -104,7 +105,7 @@ impl<V> Leader<V> {
         self.is_first || members.is_majority(self.promisers.as_slice())
     }
 
-    /// The value in flight at a slot, if there is one.
+    /// Returns the value in flight at a slot, if there is one.
     pub fn flight(&self, slot: u32) -> Option<&V>
         ensures { option_copied result
             ≡ option_map (λ flight. flight.value) (flight_at slot self.now.flights) }
@@ -115,7 +116,7 @@ impl<V> Leader<V> {
         }
     }
 
-    /// Whether a node's vote was counted for what is in flight at a slot.
+    /// Returns whether a node's vote was counted for the proposal in flight at a slot.
     pub fn voted(&self, slot: u32, node: u16) -> bool
         ensures { result ≡ has_counted slot node self.now }
     {
@@ -128,7 +129,8 @@ impl<V> Leader<V> {
         }
     }
 
-    /// Takes out what is in flight at a slot; there is none exactly where nothing is.
+    /// Removes the proposal in flight at a slot, and returns its value, or `None` exactly where
+    /// none is in flight.
     pub fn land(&mut self, slot: u32) -> Option<V>
         ensures value { result
             ≡ option_map (λ flight. flight.value) (flight_at slot self.old.flights) }
@@ -143,8 +145,9 @@ impl<V> Leader<V> {
 }
 
 impl<V: Drop> Leader<V> {
-    /// Counts the promise of a node, with its reports. False exactly where the ballot is not this
-    /// leader's or the node was counted already, and then nothing changes and no memory is taken.
+    /// Counts the promise of a node, with its reports (Paxos Made Simple, section 2.2, phase 2a).
+    /// Returns `false` exactly where the ballot is not this leader's or the node was counted
+    /// already; the leader is then unchanged and nothing is allocated.
     pub fn on_promise(
         &mut self,
         from: u16,
@@ -165,9 +168,10 @@ impl<V: Drop> Leader<V> {
         Ok(true)
     }
 
-    /// Puts a value in flight at a slot, with no votes. Nothing is in flight there, and the value
-    /// is the one that it must propose, where there is one. After want of memory nothing has
-    /// changed, and the value is dropped.
+    /// Puts a proposal in flight at a slot, with no votes (Paxos Made Simple, section 2.2, phase
+    /// 2a). Nothing is in flight there, and the value is the one that the leader must propose,
+    /// where there is one. After `Err(OutOfMemory)` the leader is unchanged, and the value is
+    /// dropped.
     pub fn offer(&mut self, slot: u32, value: V) -> Result<(), OutOfMemory>
         requires free { flight_at slot self.old.flights ≡ None }
         requires obeys { Obeys (must slot self.old) value }
@@ -182,11 +186,11 @@ impl<V: Drop> Leader<V> {
         Ok(())
     }
 
-    /// Counts a vote for what is in flight at a slot. Only a vote in this leader's ballot counts;
-    /// that of a member is kept, once, and that of another node is not. The value is chosen, and
-    /// the flight taken out, exactly where the kept voters are now a majority of the members; else
-    /// their number is told, 0 where nothing is in flight there in that ballot. At most nine votes
-    /// are kept for a slot.
+    /// Counts a vote for the proposal in flight at a slot (Paxos Made Simple, section 2.2, phase
+    /// 2b). Only a vote in this leader's ballot counts; that of a member is kept, once, and that
+    /// of another node is not. Returns `Chosen`, and removes the proposal, exactly where the kept
+    /// voters are now a majority of the members. Returns `NotYet` with their number otherwise, 0
+    /// where nothing is in flight there in that ballot. At most nine votes are kept for a slot.
     pub fn on_accepted(
         &mut self,
         from: u16,
@@ -217,9 +221,10 @@ impl<V: Drop> Leader<V> {
 }
 
 impl<V: Dup + Drop> Leader<V> {
-    /// What it must propose at a slot: what `pick` chooses from the reports in the order in which
-    /// they were counted; a gap where no report names the slot and one names a greater slot; else
-    /// it is free. Memory is taken only for a value.
+    /// Returns what the leader must propose at a slot (Paxos Made Simple, section 2.2, phase 2a,
+    /// and section 3): what `pick` chooses from the reports in the order in which they were
+    /// counted; a gap where no report names the slot and one names a greater slot; any value
+    /// otherwise. Memory is allocated only for a value.
     pub fn must(&self, slot: u32) -> Result<Must<V>, OutOfMemory>
         ensures found { IfOk result (λ found. found ≡ must slot self.now) }
         ensures none { chosen_value slot self.now.reports ≡ None → IsOk result }
@@ -238,7 +243,7 @@ impl<V: Dup + Drop> Leader<V> {
     }
 }
 
-/// The votes kept for what is in flight at a slot, if anything is.
+/// Returns the votes kept for the proposal in flight at a slot, if there is one.
 fn kept_at<V>(flights: &[Flight<V>], slot: u32) -> Option<Option<Members>>
     ensures { result ≡ option_map (λ flight. flight.voters) (flight_at slot flights.now) }
 {
@@ -248,7 +253,7 @@ fn kept_at<V>(flights: &[Flight<V>], slot: u32) -> Option<Option<Members>>
     }
 }
 
-/// The value that was in flight.
+/// Returns the value of a proposal.
 fn value_of<V>(flight: Flight<V>) -> V
     ensures { result ≡ flight.value }
 {
@@ -260,14 +265,14 @@ fn value_of<V>(flight: Flight<V>) -> V
     value
 }
 
-/// Whether a report names a slot above this one.
+/// Returns whether a report names a slot above this one.
 fn names_above<V>(reports: &[Report<V>], slot: u32) -> bool
     ensures { result ≡ names_above slot reports.now }
 {
     reports.iter().any(|report| slot < report.slot)
 }
 
-/// Whether a node occurs among the nodes.
+/// Returns whether a node occurs among the nodes.
 fn occurs(nodes: &[u16], node: u16) -> bool
     ensures { result ≡ is_member nodes.now node }
 {

@@ -1,5 +1,5 @@
-//! The parts of one Paxos replica: the acceptor, the log as far as it was learnt, and the leader with
-//! the votes that it counts and the value that it must propose.
+//! The parts of one Paxos replica: the acceptor, the log as far as it was learnt, and the leader
+//! with the votes that it counts and the value that it must propose.
 #![tactic(auto)]
 
 mod acceptor;

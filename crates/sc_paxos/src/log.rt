@@ -29,7 +29,7 @@ impl<V> Model for Glog<V> {
 }
 
 impl<V> Glog<V> {
-    /// The log with no entry, whose first slot is 1.
+    /// Returns the log with no entry, whose first slot is 1.
     pub fn born(alloc: Global) -> Glog<V>
         ensures { result ≡ empty_log }
     {
@@ -39,7 +39,7 @@ impl<V> Glog<V> {
         }
     }
 
-    /// The slot after the last executed one: 1 at birth, and at most 2^32 - 1.
+    /// Returns the slot after the last executed one: 1 at first, and at most 2^32 - 1.
     pub fn next(&self) -> u32
         ensures same { result ≡ next_of self.now }
         ensures bound { next_of self.now < 2 ^ 32 }
@@ -47,7 +47,7 @@ impl<V> Glog<V> {
         self.base + self.entries.len() as u32 + 1
     }
 
-    /// The entry of a slot, if it is held.
+    /// Returns the entry of a slot, if the log holds it.
     pub fn entry(&self, slot: u32) -> Option<&V>
         ensures { option_copied result ≡ entry_at slot self.now }
     {
@@ -59,9 +59,9 @@ impl<V> Glog<V> {
 }
 
 impl<V: Drop> Glog<V> {
-    /// Takes a chosen value as the entry of its slot, where that is the next slot. Any other value
-    /// is dropped, nothing changes, and no memory is taken. The slot is below 2^32 - 1. Out of
-    /// memory, nothing has changed.
+    /// Appends a chosen value as the entry of its slot, where that is the next slot. Drops any
+    /// other value; the log is then unchanged and nothing is allocated. The slot is below 2^32 -
+    /// 1. After `Err(OutOfMemory)` the log is unchanged.
     pub fn learn(&mut self, slot: u32, value: V) -> Result<Learnt, OutOfMemory>
         requires { slot < 2 ^ 32 - 1 }
         ensures ok { IfOk result (λ answer. learnt slot value self.old ≡ (answer, self.new)) }
@@ -79,8 +79,8 @@ impl<V: Drop> Glog<V> {
         Ok(Learnt::Learnt)
     }
 
-    /// Starts the log after a slot, which is at least the next one and below 2^32 - 1. It holds no
-    /// entry then.
+    /// Starts the log after a slot, which is at least the next one and below 2^32 - 1. The log
+    /// then holds no entry.
     pub fn install(&mut self, slot: u32)
         requires least { next_of self.old ≤ slot }
         requires most { slot < 2 ^ 32 - 1 }
@@ -90,8 +90,8 @@ impl<V: Drop> Glog<V> {
         self.base = slot;
     }
 
-    /// Drops the entries at slots not above `upto`, which is below the next slot. It takes no
-    /// memory.
+    /// Drops the entries at slots not above `upto`, which is below the next slot. Allocates
+    /// nothing.
     pub fn cut(&mut self, upto: u32)
         requires { upto < next_of self.old }
         ensures { self.new ≡ log_cut upto self.old }
@@ -103,14 +103,14 @@ impl<V: Drop> Glog<V> {
     }
 }
 
-/// The element at a place, if there is one.
+/// Returns the element at an index, if there is one.
 fn held<V>(entries: &VecDeque<V>, at: usize) -> Option<&V>
     ensures { option_copied result ≡ slice_get entries.now.items at }
 {
     entries.get(at)
 }
 
-/// Drops so many elements from the front.
+/// Drops the first `count` elements.
 fn drop_front<V: Drop>(entries: &mut VecDeque<V>, count: usize)
     ensures { entries.new.items ≡ drop count entries.old.items }
 {

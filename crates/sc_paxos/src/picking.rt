@@ -7,9 +7,9 @@ use sc_base::{Dup, OutOfMemory};
 use sc_paxos_words::Report;
 use std::alloc::Global;
 
-/// The value of the highest ballot among the reports of a slot, and of several with that ballot the
-/// first in the list (Paxos Made Simple, section 2.2). There is none exactly where no report names
-/// the slot, and then no memory is taken.
+/// Returns the value of the highest ballot among the reports of a slot, and of several with that
+/// ballot the first in the list (Paxos Made Simple, section 2.2, phase 2a). Returns `None` exactly
+/// where no report names the slot, and then allocates nothing.
 pub fn pick<V: Dup>(
     alloc: Global,
     slot: u32,
@@ -24,7 +24,7 @@ pub fn pick<V: Dup>(
     }
 }
 
-/// The report that is chosen.
+/// Returns the report that is chosen.
 fn best_of<'a, V>(slot: u32, reports: &'a [Report<V>]) -> Option<&'a Report<V>>
     ensures { option_copied result ≡ choice slot reports.now }
 {
@@ -37,7 +37,8 @@ fn best_of<'a, V>(slot: u32, reports: &'a [Report<V>]) -> Option<&'a Report<V>>
     best
 }
 
-/// Whether a report names the slot and has a higher ballot than the best so far, if there is one.
+/// Returns whether a report names the slot and has a higher ballot than the best so far, if there
+/// is one.
 fn is_better<V>(slot: u32, best: Option<&Report<V>>, report: &Report<V>) -> bool
     ensures { result ≡ is_better slot (option_copied best.entry) report.now }
 {

@@ -1,11 +1,11 @@
-//! The kept votes of a flight.
+//! The kept votes of a proposal in flight.
 ghost use Rattle.std.specs.Prelude.{◌≡◌, Some, length};
 ghost use Rattle.sc_base.specs.Majority.{is_majority};
 ghost use Rattle.sc_paxos_words.specs.Votes.{kept_voters, add_voter, voters_after};
 
 use sc_base::Members;
 
-/// The kept votes after one of a node: that of a member is kept, once.
+/// Returns the kept votes after one of a node: that of a member is kept, once.
 pub(crate) fn voters_after(members: &Members, node: u16, voters: Option<Members>) -> Option<Members>
     ensures { result ≡ voters_after members.now node voters }
 {
@@ -18,7 +18,7 @@ pub(crate) fn voters_after(members: &Members, node: u16, voters: Option<Members>
     }
 }
 
-/// The kept voters with one more, if it is not there and there is room for it.
+/// Returns the kept voters with one more, if it is not there and there is room for it.
 fn with_voter(node: u16, mut kept: Members) -> Members
     ensures { Some result ≡ add_voter node (Some kept) }
 {
@@ -26,7 +26,7 @@ fn with_voter(node: u16, mut kept: Members) -> Members
     kept
 }
 
-/// Whether the kept voters are a majority of the members.
+/// Returns whether the kept voters are a majority of the members.
 pub(crate) fn are_majority(members: &Members, voters: &Option<Members>) -> bool
     ensures { result ≡ is_majority members.now (kept_voters voters.now) }
 {
@@ -36,7 +36,7 @@ pub(crate) fn are_majority(members: &Members, voters: &Option<Members>) -> bool
     }
 }
 
-/// How many voters are kept.
+/// Returns how many voters are kept.
 pub(crate) fn count_of(voters: &Option<Members>) -> u8
     ensures { result ≡ length (kept_voters voters.now) }
 {
