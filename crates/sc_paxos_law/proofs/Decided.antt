@@ -247,7 +247,7 @@ longer_longest rule first h l (suc more) log a enough =
 pub log_of-longest : {V : Type 0} (rule : Rule V) (first : Ballot) (h : List (Step V)) → IsLawfulHistory rule first h → IsLongest rule h (log_of rule h)
 log_of-longest rule first h l = longer_longest rule first h l (top_slot h) [] (λ k v e. cc) (omega arith)
 
--- each log is a front of the decided one
+-- each log is a prefix of the decided one
 pub front_of_log : {V : Type 0} (rule : Rule V) (first : Ballot) (h : List (Step V)) → IsLawfulHistory rule first h → (other : List V) → IsLog rule h other
     → (length other ≤ length (log_of rule h)) × (take (length other) (log_of rule h) ≡ other)
 front_of_log rule first h l other b =

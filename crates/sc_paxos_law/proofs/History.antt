@@ -53,7 +53,7 @@ promise_kept {V} rule first (s ∷ older) n b from rs l (inl e) =
 promise_kept rule first (s ∷ older) n b from rs l (inr a) =
     at_least_trans (promise_of first n (s ∷ older)) (promise_of first n older) b (step_keeps rule first n s older l.0) (promise_kept rule first older n b from rs l.1 a)
 
--- and so does what it has accepted
+-- what it has accepted stays too
 pub accepted_kept : {V : Type 0} (rule : Rule V) (first : Ballot) (h : List (Step V)) (n : ℕ) (b : Ballot) (slot : ℕ) (v : V) → IsLawfulHistory rule first h
     → Among (Accepted n b slot v) h → IsAtLeast (promise_of first n h) b
 accepted_kept rule first [] n b slot v l a = absurd a
