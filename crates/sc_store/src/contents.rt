@@ -1,4 +1,4 @@
-//! Pairs and client tables of groups that become one.
+//! Pairs and client tables of groups that are merged.
 ghost use Rattle.std.specs.Prelude.{◌≡◌, OnOk};
 ghost use Rattle.sc_ideal.specs.IdealStore.{with_pairs};
 ghost use Rattle.sc_ideal.specs.Clients.{joined_with};
@@ -6,10 +6,10 @@ ghost use Rattle.sc_ideal.specs.Clients.{joined_with};
 use crate::{ClientTable, Store};
 use sc_base::{OutOfMemory, Pairs, SeenList};
 
-/// A group takes over pairs and a client table: with the table, each request that the other group
-/// has served stays served once.
+/// Adds another group's pairs and client table to those of this group. With the table, a request
+/// that the other group has applied is not applied again.
 ///
-/// After want of memory both may only be dropped.
+/// After `Err(OutOfMemory)` the contract says nothing of the two, so they may only be dropped.
 pub fn take_over(
     store: &mut Store,
     clients: &mut ClientTable,

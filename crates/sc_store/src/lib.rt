@@ -1,5 +1,5 @@
-//! What a group keeps: its pairs, one ordered map from keys to values, and the table of its clients'
-//! last requests; and how it takes over both from another group.
+//! What a group stores: its pairs, one ordered map from keys to values, and the table of its
+//! clients' last requests; and how it takes over both from another group.
 #![tactic(auto)]
 
 mod contents;

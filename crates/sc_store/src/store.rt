@@ -1,4 +1,4 @@
-//! A map from keys to values, on which one operation after another is carried out.
+//! A map from keys to values, to which operations are applied.
 ghost use Rattle.std.specs.Prelude.{◌≡◌, ℕ, IfOk, OnOk, OnErr, take, is_some};
 ghost use Rattle.std.specs.List.{list_any};
 ghost use Rattle.std.specs.Option.{option_copied};
@@ -31,7 +31,7 @@ impl Model for Store {
 }
 
 impl Store {
-    /// The empty map, which takes no memory yet.
+    /// Returns the empty map, which takes no memory yet.
     pub fn new(alloc: Global) -> Self
         ensures { result ≡ map.empty }
     {
@@ -41,8 +41,8 @@ impl Store {
         }
     }
 
-    /// Carries out one operation of the ideal store, and answers the key's old value. After want of
-    /// memory the map is unchanged.
+    /// Applies one operation as the ideal store does, and returns the key's old value. After
+    /// `Err(OutOfMemory)` the map is unchanged.
     pub fn apply(&mut self, op: &Op) -> Result<Reply, OutOfMemory>
         ensures reply { IfOk result (λ reply. reply ≡ reply_of op.now self.old) }
         ensures ok { OnOk result (self.new ≡ after op.now self.old) }
@@ -57,7 +57,7 @@ impl Store {
         }
     }
 
-    /// All pairs, in the order of the keys.
+    /// Returns all pairs, in the order of the keys.
     pub fn list(&self) -> Result<Pairs, OutOfMemory>
         ensures { IfOk result (λ pairs. pairs ≡ map.entries self.now) }
     {
@@ -68,7 +68,7 @@ impl Store {
         Ok(pairs)
     }
 
-    /// The pairs whose positions the arc holds, in the order of the keys.
+    /// Returns the pairs whose positions the arc holds, in the order of the keys.
     pub fn part(&self, arc: &RingArc) -> Result<Pairs, OutOfMemory>
         ensures { IfOk result (λ pairs. pairs ≡ map.entries (part_of arc.now self.now)) }
     {
@@ -81,16 +81,15 @@ impl Store {
         Ok(pairs)
     }
 
-    /// Removes every pair that the arc does not hold. Takes no memory.
+    /// Removes every pair whose position the arc does not hold. Allocates nothing.
     pub fn keep(&mut self, arc: &RingArc)
         ensures { self.new ≡ part_of arc.now self.old }
     {
         self.pairs.retain(|key, _value| arc.holds(key.pos()));
     }
 
-    /// Adds pairs. A key that is there already takes the new value; the plans of a group bring
-    /// none.
-    /// After want of memory a prefix of the pairs was added.
+    /// Adds pairs. A key that is there already gets the new value; the plans of a group add no
+    /// such key. After `Err(OutOfMemory)` a prefix of the pairs was added.
     pub fn join(&mut self, more: &Pairs) -> Result<(), OutOfMemory>
         ensures ok { OnOk result (self.new ≡ with_pairs self.old more.now) }
         ensures err { OnErr result ((n : ℕ) × (self.new ≡ with_pairs self.old (take n more.now))) }
@@ -101,7 +100,7 @@ impl Store {
         Ok(())
     }
 
-    /// Whether one of these keys is there.
+    /// Returns whether one of these keys is there.
     pub fn has_any(&self, pairs: &Pairs) -> bool
         ensures { result ≡ list_any (λ pair. is_some (map.get self.now pair.0)) pairs.now }
     {

@@ -32,7 +32,7 @@ impl Model for ClientTable {
 }
 
 impl ClientTable {
-    /// The empty table, which takes no memory yet.
+    /// Returns the empty table, which takes no memory yet.
     pub fn new(alloc: Global) -> Self
         ensures { result ≡ map.empty }
     {
@@ -42,8 +42,9 @@ impl ClientTable {
         }
     }
 
-    /// How the number stands to the client's noted one: `New` where none or a lower one is noted,
-    /// `Again` where it is that one, `Stale` where a greater one is. Takes no memory.
+    /// Returns how a number compares with that of the client's last request: `New` where there is
+    /// none or a lower one, `Again` where it is equal, `Stale` where there is a greater one.
+    /// Allocates nothing.
     pub fn seen(&self, client: u16, seq: u32) -> Seen
         ensures { result ≡ seen_of (map.get self.now client) seq }
     {
@@ -61,7 +62,8 @@ impl ClientTable {
         }
     }
 
-    /// The reply to the client's last request; none exactly where the client is absent.
+    /// Returns the reply to the client's last request, or `None` exactly where the client is
+    /// absent.
     pub fn reply(&self, client: u16) -> Option<&Reply>
         ensures { option_copied result
             ≡ option_map (λ noted. noted.reply) (map.get self.now client) }
@@ -72,8 +74,8 @@ impl ClientTable {
         }
     }
 
-    /// Notes a new request and its reply. `seen` tells whether it is new. After want of memory the
-    /// table is unchanged, and the reply is dropped.
+    /// Records a new request and its reply. The caller has asked `seen` whether it is new. After
+    /// `Err(OutOfMemory)` the table is unchanged, and the reply is dropped.
     pub fn note(&mut self, client: u16, seq: u32, reply: Reply) -> Result<(), OutOfMemory>
         requires { seen_of (map.get self.old client) seq ≡ Seen.New }
         ensures ok { OnOk result
@@ -83,8 +85,8 @@ impl ClientTable {
         self.set(client, Noted { seq, reply })
     }
 
-    /// Joins entries by the greater number of each client; on equal numbers this table's reply
-    /// stays. After want of memory a prefix of the entries was joined.
+    /// Adds entries of another table: for each client the one with the greater number stays, and
+    /// on equal numbers this table's. After `Err(OutOfMemory)` a prefix of the entries was added.
     pub fn join(&mut self, other: &SeenList) -> Result<(), OutOfMemory>
         ensures ok { OnOk result (self.new ≡ joined_with self.old other.now) }
         ensures err { OnErr result
@@ -96,7 +98,7 @@ impl ClientTable {
         Ok(())
     }
 
-    /// What is noted, in the order of the clients.
+    /// Returns the entries, in the order of the clients.
     pub fn list(&self) -> Result<SeenList, OutOfMemory>
         ensures { IfOk result (λ list. list ≡ map.entries self.now) }
     {
