@@ -8,7 +8,7 @@ use Rattle.sc_cmd.specs.declared.votes.Outcome.{Outcome}
 use Rattle.sc_cmd.specs.declared.votes.Outcome.TheVariants.{Abort, Merged, Moved, Migrated, Divided}
 use Rattle.sc_cmd.specs.declared.votes.Past.{Past}
 
--- whether an order was carried out or begun
+-- whether the effect is Changed: of an entry of an order, whether the order was carried out or begun
 abbrev pub is_changed : Effect → Bool
 is_changed Changed = true
 is_changed (Done reply) = false

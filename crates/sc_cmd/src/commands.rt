@@ -16,7 +16,8 @@ pub enum Command {
     Join { node: u16, order: u32 },
     /// The node stops being a member.
     Leave { node: u16, order: u32 },
-    /// The part from `at` on becomes the new group `child`, decided by this group alone.
+    /// The part from `at` on becomes the new group `child`: at once where the group is its own
+    /// successor, and else by a transaction in which the next group watches.
     Split { at: u32, child: Draw, order: u32 },
     /// The group begins, as the coordinator, a transaction with its successor.
     Begin { tx: Draw, body: Body, order: u32 },

@@ -53,7 +53,7 @@ pub struct Core {
     pub begun: u32,
     pub decided: DecidedList,
     pub voted: VotedList,
-    /// The groups that this group has split off on its own, without a transaction.
+    /// The groups that this group has split off, oldest first.
     pub born: Sequence<Draw>,
     /// The group into which this one was merged, if it was.
     pub gone: Option<Route>,

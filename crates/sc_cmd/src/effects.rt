@@ -27,7 +27,7 @@ pub enum Effect {
     NoEffect { tx: Draw },
     /// Nothing changed: the entry fills a gap.
     Idle,
-    /// An order was carried out or begun.
+    /// An order was carried out or begun, or the participant's Yes to a merge was recorded.
     Changed,
     /// The group has voted.
     Voted(Past),
@@ -38,7 +38,8 @@ pub enum Effect {
 }
 
 impl Effect {
-    /// Returns whether an order was carried out or begun.
+    /// Returns whether the effect is `Changed`: of an entry of an order, whether the order was carried
+    /// out or begun.
     pub fn is_changed(&self) -> bool
         ensures { result ≡ is_changed self.now }
     {
