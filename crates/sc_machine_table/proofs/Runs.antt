@@ -94,7 +94,7 @@ busy = refl
 tenth : refusal_of (core nine) (Join 10 1) ≡ Some (TooManyMembers 10)
 tenth = refl
 
--- a member of nine is told that it is one
+-- a join of one of nine members is refused since it is a member
 ninth : refusal_of (core nine) (Join 9 1) ≡ Some IsMember
 ninth = refl
 

@@ -1,4 +1,4 @@
--- The group machine: what an executed command makes of the group, and its effect. In each part the first line whose condition holds counts.
+-- The group's state machine: the group after an executed command, and the effect. In each definition the first case whose condition holds counts.
 use Rattle.std.specs.Prelude.{ℕ, Option, Some, None, nat_lt, ◌==◌, if◌then◌else◌}
 use Rattle.std.specs.FinMap.{get, insert}
 use Rattle.sc_base.specs.declared.names.Draw.{Draw}
@@ -22,14 +22,14 @@ use Rattle.sc_machine_table.specs.Transactions.{begun_group, given_up, vote_reco
 use Rattle.sc_machine_table.specs.Votes.{offer_voted, watched}
 use Rattle.sc_machine_table.specs.Finishes.{finished}
 
--- a new request: the operation is applied, and the client table notes its number and reply
+-- a new request: the operation is applied, and the client table keeps its number and reply
 abbrev pub done : Group → ℕ → ℕ → Op → Group × Effect
 done group client seq op = (
   record group { pairs = after op group.pairs; clients = insert group.clients client (record { seq = seq; reply = reply_of op group.pairs }) },
   Done (reply_of op group.pairs),
 )
 
--- a request by what the client table notes of its client
+-- a request by the client's entry in the client table: a new one is applied, the last one gets its reply again, and an older one is stale
 abbrev pub served_by_note : Option Noted → Group → ℕ → ℕ → Op → Group × Effect
 served_by_note None group client seq op = done group client seq op
 served_by_note (Some noted) group client seq op =
@@ -37,13 +37,13 @@ served_by_note (Some noted) group client seq op =
     else if noted.seq == seq then (group, Again noted.reply)
     else (group, Stale noted.seq)
 
--- a request to a group that may serve it: only where its arc holds the key
+-- a request to a group that serves: only where its arc holds the key
 abbrev pub served : Group → ℕ → ℕ → Op → Group × Effect
 served group client seq op =
     if holds_key group.core.arc (key_of op) then served_by_note (get group.clients client) group client seq op
     else (group, NotMine group.core.arc group.core.succ)
 
--- a request by where the group went, if it is gone, and by its lock
+-- a request to a group that may be gone or locked: a gone group and a coordinator or participant do not serve it
 abbrev pub called : Option Route → Lock → Group → ℕ → ℕ → Op → Group × Effect
 called (Some into) lock group client seq op = (group, Gone into)
 called None Free group client seq op = served group client seq op
@@ -51,16 +51,16 @@ called None (Watching tx watch) group client seq op = served group client seq op
 called None (Coordinating tx body order heard) group client seq op = (group, NoEffect tx)
 called None (Promised tx offer) group client seq op = (group, NoEffect tx)
 
--- a split: at once where the group is its own successor, else the group only locks, and asks its watcher
+-- an accepted Split: the group is split at once where it is its own successor, and else it only locks, to ask its watcher
 abbrev pub split_group : Group → ℕ → Draw → ℕ → Group
 split_group group at child order = if is_alone group.core then left_group group at child else begun_group group child (Body.Split at child) order
 
--- an order, by the draw that it brings, if it does: a draw names one thing only. A join and a leave bring none.
+-- an order with the name that it brings, if it brings one; a name in use already has no effect. A join and a leave bring none
 abbrev pub ordered_by : Option Draw → Option OrderRefusal → Group → Group → Group × Effect
 ordered_by None why after group = ordered group.core.gone why after group
 ordered_by (Some draw) why after group = if has_named group.core draw then (group, NoEffect draw) else ordered group.core.gone why after group
 
--- one command: the group after it, and its effect
+-- the group after one command, and the command's effect
 abbrev pub applied : Group → Command → Group × Effect
 applied group Noop = (group, Idle)
 applied group (Call client seq op) = called group.core.gone group.core.lock group client seq op

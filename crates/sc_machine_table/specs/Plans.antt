@@ -1,4 +1,4 @@
--- What a transaction makes of its coordinator: a merge, a moved boundary, or a member that moves on, as in Scatter (SOSP 2011). A plan that cannot be made is none.
+-- What a transaction makes of its coordinator: a merge, a moved boundary, or a member that is handed over, as in Scatter (SOSP 2011, multi-group operations). None stands for a plan that cannot be made.
 use Rattle.std.specs.Prelude.{ℕ, ◌+◌, ◌^◌, Bool, ◌==◌, ◌&&◌, not, nat_le, is_some, length, List, ◌∷◌, [], if◌then◌else◌, Option, Some, None}
 use Rattle.std.specs.List.{list_any}
 use Rattle.std.specs.FinMap.{empty, entries, get}
@@ -15,23 +15,23 @@ use Rattle.sc_cmd.specs.declared.votes.Outcome.TheVariants.{Merged, Moved, Migra
 use Rattle.sc_machine_table.specs.Group.{Group}
 use Rattle.sc_machine_table.specs.Splits.{left_group}
 
--- a coordinator after its transaction, and the outcome
+-- the plan of a transaction: the coordinator after it, and the outcome, or none
 abbrev pub Plan : Type 0
 Plan = Option (Group × Outcome)
 
--- whether an arc can be cut at a place, and two arcs be joined
+-- whether an arc can be cut at a position
 abbrev pub can_cut : Arc → ℕ → Bool
 can_cut arc at = holds arc at && not (at == arc.lo)
 
--- two arcs that meet, and are no longer together than the ring
+-- whether two arcs can be joined: they meet, and together are not longer than the ring
 abbrev pub can_join : Arc → Arc → Bool
 can_join arc next = (next.lo == end_of arc) && nat_le (arc.len + next.len) (2 ^ 32)
 
--- whether a map has one of these keys
+-- whether a map has one of the keys of these pairs
 abbrev pub has_key_of : Contents → List (List ℕ × List ℕ) → Bool
 has_key_of contents pairs = list_any (λ pair. is_some (get contents pair.0)) pairs
 
--- what a group that is locked hands to its coordinator
+-- the record that a participant hands to its coordinator with its Yes
 abbrev pub frozen_of : Group → Frozen
 frozen_of group = record {
   arc = group.core.arc;
@@ -43,29 +43,29 @@ frozen_of group = record {
 
 -- ---- a split
 
--- whether a group can be split there: its arc can be cut and it has two members
+-- whether a group can be split at a position: its arc can be cut there and it has at least two members
 abbrev pub can_split : Core → ℕ → Bool
 can_split core at = can_cut core.arc at && nat_le 2 (length core.members)
 
--- the group keeps the part before the boundary
+-- the plan of a split: the group keeps the part before the boundary
 abbrev pub split_plan : Group → ℕ → Draw → Plan
 split_plan group at child = if can_split group.core at then Some (left_group group at child, Divided) else None
 
 -- ---- a merge: the coordinator takes over its successor
 
--- whether the arcs can be joined, and both groups have at most nine members together
+-- whether a group can take over its successor: the arcs can be joined, and both have at most nine members together
 abbrev pub can_merge : Core → Frozen → Bool
 can_merge core frozen = can_join core.arc frozen.arc && nat_le (length (united core.members frozen.members)) 9
 
--- the group itself with the members of both
+-- the link to the merged group, which has the members of both
 abbrev pub merged_link : Core → Frozen → Link
 merged_link core frozen = record { group = core.id; members = united core.members frozen.members }
 
--- who stands after both: of two groups that make the ring, the one that is left
+-- the successor of the merged group: that of the participant, or the merged group itself where the two make the ring
 abbrev pub merged_succ : Core → Frozen → Link
 merged_succ core frozen = if same_draw frozen.succ.group core.id then merged_link core frozen else frozen.succ
 
--- the coordinator's record afterwards, with the arcs and the members of both
+-- the coordinator's record after a merge, with the arcs and the members of both
 abbrev pub merged_core : Core → Frozen → Core
 merged_core core frozen = record core {
   arc = joined core.arc frozen.arc;
@@ -73,35 +73,35 @@ merged_core core frozen = record core {
   succ = merged_succ core frozen;
 }
 
--- where the successor's keys are found from then on
+-- the route to the merged group, where the participant's keys are found from then on
 abbrev pub merged_route : Core → Frozen → Route
 merged_route core frozen = record { group = core.id; lo = core.arc.lo; members = united core.members frozen.members }
 
--- a group with this record that takes over pairs and a client table
+-- a group with this record, which takes over pairs and a client table
 abbrev pub enriched : Group → Core → Gift → Group
 enriched group core gift = record { core = core; pairs = with_pairs group.pairs gift.pairs; clients = joined_with group.clients gift.clients }
 
--- all that a frozen group has
+-- the pairs and the client table of a participant, as a gift
 abbrev pub whole_gift : Frozen → Gift
 whole_gift frozen = record { pairs = frozen.pairs; clients = frozen.clients }
 
--- the group that has taken over a successor which has another one
+-- the group after it has taken over a successor that is followed by a third group
 abbrev pub merged_group : Group → Frozen → Group
 merged_group group frozen = enriched group (merged_core group.core frozen) (whole_gift frozen)
 
--- of two groups that make the ring nobody else stands before the one that is left
+-- the coordinator's record after a merge of the two groups that make the ring: it is its own predecessor
 abbrev pub closing_core : Core → Frozen → Core
 closing_core core frozen = record (merged_core core frozen) { pred = merged_link core frozen }
 
--- the group that has taken over the only other one of the ring
+-- the group after it has taken over the only other group of the ring
 abbrev pub closing_group : Group → Frozen → Group
 closing_group group frozen = enriched group (closing_core group.core frozen) (whole_gift frozen)
 
--- a merge brings no key that is there
+-- whether a merge can be made: arcs and members fit, and no key of the participant is there already
 abbrev pub may_merge : Group → Frozen → Bool
 may_merge group frozen = can_merge group.core frozen && not (has_key_of group.pairs frozen.pairs)
 
--- the plan of a merge where the successor has another one after it
+-- the plan of a merge where a third group follows the participant
 abbrev pub merge_plan : Group → Frozen → Plan
 merge_plan group frozen =
     if may_merge group frozen then Some (merged_group group frozen, Merged (merged_route group.core frozen)) else None
@@ -111,35 +111,35 @@ abbrev pub closing_plan : Group → Frozen → Plan
 closing_plan group frozen =
     if may_merge group frozen then Some (closing_group group frozen, Merged (merged_route group.core frozen)) else None
 
--- ---- a boundary that moves to `at`: into the coordinator's arc, which then loses what lies from there on, or else into the successor's
+-- ---- a boundary that moves to `at`: where `at` is in the coordinator's arc, the coordinator gives what lies from there on; else it takes what the successor has before it
 
--- whether the arc that gives can be cut there, and the part be joined to the coordinator's
+-- whether a boundary can move to `at`: the arc that gives can be cut there, and the part that is taken fits to the coordinator's arc
 abbrev pub can_repart : Core → ℕ → Frozen → Bool
 can_repart core at frozen =
     if holds core.arc at then can_cut core.arc at
     else can_cut frozen.arc at && can_join core.arc (before frozen.arc at)
 
--- the arc that changes hands
+-- the arc that changes from one group to the other
 abbrev pub moved_arc : Core → ℕ → Frozen → Arc
 moved_arc core at frozen = if holds core.arc at then from core.arc at else before frozen.arc at
 
--- the coordinator's arc afterwards
+-- the coordinator's arc after the boundary has moved
 abbrev pub kept_arc : Core → ℕ → Frozen → Arc
 kept_arc core at frozen = if holds core.arc at then before core.arc at else joined core.arc (before frozen.arc at)
 
--- the successor as it was when it was frozen
+-- the link to the successor with the members that its frozen record has
 abbrev pub succ_with : Core → List ℕ → Link
 succ_with core members = record { group = core.succ.group; members = members }
 
--- the coordinator's record afterwards
+-- the coordinator's record after the boundary has moved
 abbrev pub repart_core : Core → ℕ → Frozen → Core
 repart_core core at frozen = record core { arc = kept_arc core at frozen; succ = succ_with core frozen.members }
 
--- what the successor is given, and what it gives
+-- the gift to the successor: the pairs from the boundary on, and the client table
 abbrev pub part_gift : Group → ℕ → Gift
 part_gift group at = record { pairs = entries (part_of (from group.core.arc at) group.pairs); clients = entries group.clients }
 
--- what the coordinator takes: the successor's pairs before the boundary, and its client table
+-- the gift that the coordinator takes: the successor's pairs before the boundary, and its client table
 abbrev pub taken : ℕ → Frozen → Gift
 taken at frozen = record { pairs = entries (part_of (before frozen.arc at) (with_pairs empty frozen.pairs)); clients = frozen.clients }
 
@@ -147,44 +147,44 @@ taken at frozen = record { pairs = entries (part_of (before frozen.arc at) (with
 abbrev pub giving_group : Group → ℕ → Frozen → Group
 giving_group group at frozen = record group { core = repart_core group.core at frozen; pairs = part_of (before group.core.arc at) group.pairs }
 
--- the coordinator that takes: it has the successor's pairs before the boundary too
+-- the coordinator that takes: it gets the successor's pairs before the boundary
 abbrev pub taking_group : Group → ℕ → Frozen → Group
 taking_group group at frozen = enriched group (repart_core group.core at frozen) (taken at frozen)
 
--- the plan where the coordinator gives
+-- the plan of a moved boundary where the coordinator gives
 abbrev pub giving_plan : Group → ℕ → Frozen → Plan
 giving_plan group at frozen =
     if can_repart group.core at frozen then Some (giving_group group at frozen, Moved at (Some (part_gift group at))) else None
 
--- and brings no key that is there
+-- the plan of a moved boundary where the coordinator takes; none also where a key that it would take is there already
 abbrev pub taking_plan : Group → ℕ → Frozen → Plan
 taking_plan group at frozen =
     if can_repart group.core at frozen && not (has_key_of group.pairs (taken at frozen).pairs)
     then Some (taking_group group at frozen, Moved at None)
     else None
 
--- the coordinator gives where the boundary lies in its arc, and else takes
+-- the plan of a moved boundary: the coordinator gives where the boundary lies in its arc, and else takes
 abbrev pub repart_plan : Group → ℕ → Frozen → Plan
 repart_plan group at frozen = if holds group.core.arc at then giving_plan group at frozen else taking_plan group at frozen
 
 -- ---- a member that leaves the coordinator for its successor
 
--- whether the node is a member but not the last one, and the successor then has at most nine
+-- whether a member can be handed over: it is a member but not the only one, and the successor then has at most nine
 abbrev pub can_migrate : Core → ℕ → Frozen → Bool
 can_migrate core node frozen = is_member core.members node && nat_le 2 (length core.members) && nat_le (length (united frozen.members (node ∷ []))) 9
 
--- the coordinator's record without the member, with a successor that has it
+-- the coordinator's record without the member, with the link to a successor that has it
 abbrev pub migrated_core : Core → ℕ → Frozen → Core
 migrated_core core node frozen = record core {
   members = without_member core.members node;
   succ = succ_with core (united frozen.members (node ∷ []));
 }
 
--- the coordinator without the member
+-- the coordinator without the member that was handed over
 abbrev pub migrated_group : Group → ℕ → Frozen → Group
 migrated_group group node frozen = record group { core = migrated_core group.core node frozen }
 
--- the plan of such a move
+-- the plan of a member that is handed over
 abbrev pub migrate_plan : Group → ℕ → Frozen → Plan
 migrate_plan group node frozen =
     if can_migrate group.core node frozen then Some (migrated_group group node frozen, Migrated node) else None

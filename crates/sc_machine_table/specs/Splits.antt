@@ -1,4 +1,4 @@
--- The split of a group in two, as the groups of Scatter (SOSP 2011) split in general shape: the group keeps the positions before a boundary and its lesser members, and a new group, its child, takes the rest.
+-- The split of a group in two, as groups of Scatter split (SOSP 2011, multi-group operations): the group keeps the positions before a boundary and its lesser members, and a new group, its child, takes the rest.
 use Rattle.std.specs.Prelude.{ℕ, ◌-◌, ◌/◌, ◌≤◌, Bool, not, is_some, ◌&&◌, ◌||◌, if◌then◌else◌, List, [], ◌∷◌, ◌++◌, length, take, drop, Option, Some, None, false}
 use Rattle.std.specs.List.{list_any}
 use Rattle.std.specs.FinMap.{entries}
@@ -13,24 +13,24 @@ use Rattle.sc_cmd.specs.declared.links.Link.{Link}
 use Rattle.sc_machine_table.specs.Group.{Group}
 use Rattle.sc_machine_table.specs.Orders.{locked_in}
 
--- a group can be split where its arc can be cut and it has two members
+-- a group can be split at a position: its arc can be cut there and it has at least two members
 pub record CanSplit (core : Core) (at : ℕ) : Type 0 where
   pub cut : CanCut core.arc at
   pub two : 2 ≤ length core.members
 
--- of n members the first n - n/2 stay
+-- how many of n members stay in a split: n - n/2
 abbrev pub staying : List ℕ → ℕ
 staying members = length members - length members / 2
 
--- the members that stay
+-- the members that stay, which are the lesser ones
 abbrev pub left_members : List ℕ → List ℕ
 left_members members = take (staying members) members
 
--- and the others are the child's
+-- the members of the child, which are the greater ones
 abbrev pub right_members : List ℕ → List ℕ
 right_members members = drop (staying members) members
 
--- the links to the two parts
+-- the link to the group after a split
 abbrev pub left_link : Core → Link
 left_link core = record { group = core.id; members = left_members core.members }
 
@@ -38,19 +38,19 @@ left_link core = record { group = core.id; members = left_members core.members }
 abbrev pub right_link : Core → Draw → Link
 right_link core child = record { group = child; members = right_members core.members }
 
--- whether a group splits at once: it is in no transaction, and its own successor; one that is in the transaction of its split has a watcher
+-- whether a split is made without a transaction: the group is in none, and is its own successor; in the transaction of a split it has a watcher
 abbrev pub splits_at_once : Core → Bool
 splits_at_once core = not (is_some (locked_in core.lock)) && is_alone core
 
--- who stands before the group: after a split at once the other part, else who stood there
+-- the predecessor of the group after a split: the child where the split is made without a transaction, and else the same as before
 abbrev pub left_pred : Core → Draw → Link
 left_pred core child = if splits_at_once core then right_link core child else core.pred
 
--- who stands after the child
+-- the successor of the child: the group where the split is made without a transaction, and else the group's successor before
 abbrev pub right_succ : Core → Link
 right_succ core = if splits_at_once core then left_link core else core.succ
 
--- the group afterwards: it keeps its name, and remembers the child
+-- the group's record after a split: it keeps its name, and remembers the child
 abbrev pub left_core : Core → ℕ → Draw → Core
 left_core core at child = record core {
   arc = before core.arc at;
@@ -60,7 +60,7 @@ left_core core at child = record core {
   born = core.born ++ child ∷ [];
 }
 
--- the child: a group of its own, which nothing has happened to
+-- the child's record: it is free, and has begun, decided and voted on nothing
 abbrev pub right_core : Core → ℕ → Draw → Core
 right_core core at child = record {
   id = child;
@@ -77,20 +77,20 @@ right_core core at child = record {
   gone = None;
 }
 
--- the group after the split, with the pairs that lie before the boundary
+-- the group after a split, with the pairs before the boundary
 abbrev pub left_group : Group → ℕ → Draw → Group
 left_group group at child = record group { core = left_core group.core at child; pairs = part_of (before group.core.arc at) group.pairs }
 
--- the record of the child of a group that is not split yet: the pairs from the boundary on, and the whole client table
+-- the first state of the child of a group that is not split yet: the pairs from the boundary on, and the whole client table
 abbrev pub child_of : Group → ℕ → Draw → Base
 child_of group at child = record { core = right_core group.core at child; pairs = entries (part_of (from group.core.arc at) group.pairs); clients = entries group.clients }
 
--- whether a group is locked in this transaction
+-- whether a lock's transaction is this one
 abbrev pub is_locked_in : Option Draw → Draw → Bool
 is_locked_in None draw = false
 is_locked_in (Some tx) draw = same_draw tx draw
 
--- whether a draw has named something here: a child that was split off, or a transaction that is decided or is the lock's
+-- whether a name is in use in a group: for a child that it has split off, for a transaction that it has decided, or for that of its lock
 abbrev pub has_named : Core → Draw → Bool
 has_named core draw =
     list_any (λ child. same_draw child draw) core.born

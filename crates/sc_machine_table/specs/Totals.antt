@@ -1,26 +1,26 @@
--- What a split or a transaction keeps of the arcs, the pairs and the client tables of its two groups.
+-- What a split or a transaction leaves unchanged of the arcs, pairs and client tables of its two groups together.
 use Rattle.std.specs.Prelude.{◌≡◌, ℕ, ◌<◌, ◌^◌}
 use Rattle.std.specs.FinMap.{get}
 use Rattle.sc_base.specs.Definitions.{IsArc, CanJoin, joined}
 use Rattle.sc_ideal.specs.Definitions.{Contents, part_of, ClientTable, later}
 use Rattle.sc_machine_table.specs.Group.{Group}
 
--- the group has of a whole map just the pairs on its arc
+-- the group has exactly the pairs of a whole map that lie on its arc
 abbrev pub HasItsPart : Contents → Group → Type 0
 HasItsPart whole group = group.pairs ≡ part_of group.core.arc whole
 
--- a group and the one after it
+-- two groups are neighbours: the arc of the second begins where that of the first ends
 pub record AreNeighbours (group next : Group) : Type 0 where
   pub lo_fits : group.core.arc.lo < 2 ^ 32
   pub first : IsArc group.core.arc
   pub second : IsArc next.core.arc
   pub meet : CanJoin group.core.arc next.core.arc
 
--- a table that was joined with another: of each client it notes what has the greater number
+-- a table is the joining of two: for each client it has the entry with the greater number
 abbrev pub IsJoined : ClientTable → ClientTable → ClientTable → Type 0
 IsJoined own other table = (client : ℕ) → get table client ≡ later (get own client) (get other client)
 
--- two neighbours stay neighbours, and their arcs make the same; each has its part of whatever they had their parts of
+-- two neighbours stay neighbours, their arcs join to the same arc, and each has its part of any whole map of which both had their parts
 pub record KeepTheTotal (group next group_after next_after : Group) : Type 0 where
   pub neighbours : AreNeighbours group_after next_after
   pub arcs : joined group_after.core.arc next_after.core.arc ≡ joined group.core.arc next.core.arc

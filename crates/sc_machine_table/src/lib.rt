@@ -1,5 +1,5 @@
-//! The group machine's table: what an executed command makes of a group, and its effect.
-//! Definitions, no logic.
+//! The transition table of a group's state machine: the group after an executed command, and the
+//! effect of the command. Definitions, no logic.
 #![tactic(auto)]
 
 pub use sc_cmd::Effect;
