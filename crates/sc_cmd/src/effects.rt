@@ -38,8 +38,8 @@ pub enum Effect {
 }
 
 impl Effect {
-    /// Returns whether the effect is `Changed`: of an entry of an order, whether the order was carried
-    /// out or begun.
+    /// Returns whether the effect is `Changed`: of an entry of an order, whether the order was
+    /// carried out or begun.
     pub fn is_changed(&self) -> bool
         ensures { result ≡ is_changed self.now }
     {

@@ -6,7 +6,7 @@ use Rattle.sc_cmd.specs.declared.cores.Lock.TheVariants.{Free}
 use Rattle.sc_cmd.specs.declared.links.Route.{Route}
 use Rattle.sc_machine.specs.declared.bases.GroupBirth.{GroupBirth}
 
--- the record of a group at its birth: its least member leads, it is in no transaction, and it has no pairs and knows no clients
+-- the whole record of a group at its creation: its least member leads, it is in no transaction, and it has no pairs and knows no clients
 abbrev pub base_born : GroupBirth → Base
 base_born birth = record {
   core = record {
@@ -27,6 +27,6 @@ base_born birth = record {
   clients = [];
 }
 
--- the route to it
+-- the route to a group at its creation
 abbrev pub route_born : GroupBirth → Route
 route_born birth = record { group = birth.group; lo = birth.arc.lo; members = birth.members }

@@ -1,4 +1,4 @@
--- Which commands may want memory: those that change what a group keeps in lists, or answer a copy. A command without effect wants none.
+-- Which commands may report out of memory: those that change the lists that a group holds, or return a copy. A command without effect reports none, unless its vote is one on a boundary that moves.
 use Rattle.std.specs.Prelude.{◌≡◌, ◌⊎◌, Bool, true, false, Some}
 use Rattle.sc_cmd.specs.declared.bodies.Body.{Body}
 use Rattle.sc_cmd.specs.declared.bodies.Body.TheVariants as Does
@@ -13,7 +13,7 @@ use Rattle.sc_cmd.specs.declared.votes.Vote.{Vote}
 use Rattle.sc_cmd.specs.declared.votes.Vote.TheVariants.{Yes, No}
 use Rattle.sc_machine_table.specs.Definitions.{finished, Group, called, ordered_by, split_group, refusal_of, can_repart, given_up, vote_recorded, watch_recorded, offer_voted, watched}
 
--- effects that take memory to be made: a reply, a vote, a decision, a change
+-- whether an effect may need memory: a reply, a vote, a decision or a change
 abbrev pub is_made : Effect → Bool
 is_made (Done reply) = true
 is_made (Again reply) = true
@@ -27,30 +27,30 @@ is_made (NoEffect tx) = false
 is_made Idle = false
 is_made (Refused why) = false
 
--- what an entry comes to takes memory
+-- the effect of an entry may need memory
 abbrev pub Makes : Group × Effect → Type 0
 Makes after = is_made after.1 ≡ true
 
--- before a boundary moves into the successor's arc its pairs are looked through
+-- recording a Yes may need memory also where nothing is decided then: of a boundary that can move, the pairs that the coordinator would take are copied first
 abbrev pub LooksThrough : Body → Group → Frozen → Type 0
 LooksThrough Does.Merge group frozen = ⊥
 LooksThrough (Does.Repart at) group frozen = can_repart group.core at frozen ≡ true
 LooksThrough (Does.Migrate node) group frozen = ⊥
 LooksThrough (Does.Split at child) group frozen = ⊥
 
--- .. which only a Yes asks for
+-- a vote may need memory in that way: only a Yes does, by its frozen record
 abbrev pub MayLookThrough : Vote → Body → Group → Type 0
 MayLookThrough (Yes frozen) body group = LooksThrough body group frozen
 MayLookThrough (No why) body group = ⊥
 
--- .. of the participant for which the lock waits
+-- recording a vote may need memory in that way, by the group's lock: only a coordinator does
 abbrev pub LockLooksThrough : Lock → Vote → Group → Type 0
 LockLooksThrough Free vote group = ⊥
 LockLooksThrough (Coordinating tx body order heard) vote group = MayLookThrough vote body group
 LockLooksThrough (Promised tx offer) vote group = ⊥
 LockLooksThrough (Watching tx watch) vote group = ⊥
 
--- whether a command may want memory
+-- a command may report out of memory
 abbrev pub MayWantMemory : Group → Command → Type 0
 MayWantMemory group Noop = ⊥
 MayWantMemory group (Call client seq op) = Makes (called group.core.gone group.core.lock group client seq op)

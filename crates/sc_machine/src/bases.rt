@@ -6,22 +6,22 @@ use sc_base::{Draw, Members, Pairs, RingArc, SeenList, Sequence};
 use sc_cmd::{Base, Core, Link, Lock, Route};
 use std::alloc::Global;
 
-/// A group at its birth: its name, its arc, its members and its neighbours on the ring. A group
+/// A group at its creation: its name, its arc, its members and its neighbours on the ring. A group
 /// that is alone on the ring is its own neighbour on both sides.
 #[derive(Clone, Copy)]
 pub struct GroupBirth {
     pub group: Draw,
     pub arc: RingArc,
     pub members: Members,
-    /// The group that serves the positions from this arc's end on.
+    /// The group that serves the positions from the end of this arc on.
     pub succ: Link,
-    /// The group that serves the positions up to this arc's start.
+    /// The group that serves the positions up to the start of this arc.
     pub pred: Link,
 }
 
 impl GroupBirth {
-    /// Returns the record of the group: its least member leads, it is in no transaction, and it has
-    /// no pairs and knows no clients. Takes no memory.
+    /// Returns the whole record of the group: its least member leads, it is in no transaction, and
+    /// it has no pairs and knows no clients. Allocates nothing.
     pub fn base(&self, alloc: Global) -> Base
         ensures { result ≡ base_born self.now }
     {
@@ -45,8 +45,8 @@ impl GroupBirth {
         }
     }
 
-    /// Returns the route by which a client knows the group: its name, where its arc starts, and its
-    /// members.
+    /// Returns the route by which a client knows the group: its name, where its arc starts, and
+    /// its members.
     pub fn route(&self) -> Route
         ensures { result ≡ route_born self.now }
     {

@@ -12,8 +12,9 @@ use sc_cmd::{Base, Body, Command, Lock, Past};
 use sc_txn::{can_split, check, has_named, plan_split};
 
 impl Machine {
-    /// The record of the child, where the group is split at `at`; to be taken before the entry that
-    /// splits is applied. `can_split` tells whether the group can be split there.
+    /// Returns the record of the child where the group is split at `at`, taken before the entry
+    /// that splits is applied. The caller has asked `can_split` whether the group can be split
+    /// there.
     pub fn child(&self, at: u32, child: Draw) -> Result<Base, OutOfMemory>
         requires { CanSplit self.now.core at }
         ensures { IfOk result (λ base. base ≡ child_of self.now at child) }
@@ -28,8 +29,9 @@ impl Machine {
         })
     }
 
-    /// The record of the child that a command makes of the group, if it makes one: a split at once
-    /// does, and a watcher's Yes that lets a split go. To be taken before the command is applied.
+    /// Returns the record of the child that a command makes of the group, if it makes one, taken
+    /// before the command is applied: a split without a transaction makes one, and a watcher's Yes
+    /// that carries a split out. Fails only where the command makes a child.
     pub fn child_by(&self, command: &Command) -> Result<Option<Base>, OutOfMemory>
         ensures child { IfOk result (λ child. child ≡ child_by self.now command.now) }
         ensures none { child_by self.now command.now ≡ None → IsOk result }
@@ -50,7 +52,7 @@ impl Machine {
         }
     }
 
-    // Of a split at once, unless it is refused.
+    // Returns the child of a `Split`, unless it is refused or only locks the group.
     #[tactic(auto, using(crate::proofs::Accepted::free_of))]
     fn split_child(
         &self,
@@ -74,7 +76,8 @@ impl Machine {
         }
     }
 
-    // A group with another successor only locks.
+    // Returns the child of an accepted `Split`: a group with another successor only locks, and has
+    // none yet.
     #[tactic(auto, using(crate::proofs::Accepted::can_split))]
     fn lone_child(&self, at: u32, child: Draw) -> Result<Option<Base>, OutOfMemory>
         requires { split_refused self.now.core at ≡ None }
@@ -88,7 +91,7 @@ impl Machine {
         Ok(Some(self.child(at, child)?))
     }
 
-    // Of a watcher's vote on the transaction that the group coordinates.
+    // Returns the child that a watcher's vote on this transaction makes, if it makes one.
     fn watched_child(&self, tx: Draw, vote: &Past) -> Result<Option<Base>, OutOfMemory>
         ensures child { IfOk result
             (λ base. base ≡ watched_child self.now.core.lock self.now tx vote.now) }
@@ -110,7 +113,7 @@ impl Machine {
         }
     }
 
-    // Only a Yes carries the split out.
+    // Returns the child that a watcher's vote makes: only a Yes carries the split out.
     fn answered_child(&self, vote: &Past, body: &Body) -> Result<Option<Base>, OutOfMemory>
         ensures child { IfOk result (λ base. base ≡ answered_child vote.now body.now self.now) }
         ensures none { answered_child vote.now body.now self.now ≡ None → IsOk result }
@@ -131,7 +134,7 @@ impl Machine {
         }
     }
 
-    // Of a split that can be made.
+    // Returns the child of a split that can be made.
     fn planned_child(&self, at: u32, child: Draw) -> Result<Option<Base>, OutOfMemory>
         ensures child { IfOk result
             (λ base.

@@ -15,7 +15,7 @@ use sc_txn::{
 };
 use std::alloc::Global;
 
-// The route to a group of that record.
+// Returns the route to a group with this record.
 fn route_of(core: &Core) -> Route
     ensures { result
         ≡ record { group = core.now.id; lo = core.now.arc.lo; members = core.now.members } }
@@ -27,7 +27,7 @@ fn route_of(core: &Core) -> Route
     }
 }
 
-// Of these pairs those that lie on an arc.
+// Returns those of the pairs that lie on an arc.
 fn pairs_on(alloc: Global, pairs: &Pairs, arc: &RingArc) -> Result<Pairs, OutOfMemory>
     ensures { IfOk result (λ part. part ≡ entries (part_of arc.now (with_pairs empty pairs.now))) }
 {
@@ -43,7 +43,7 @@ impl Machine {
         can_merge(&self.core, frozen) && !self.store.has_any(&frozen.pairs)
     }
 
-    /// The group has this record, and takes over pairs and a client table.
+    /// Gives the group this record, and adds pairs and a client table to its own.
     pub(crate) fn enrich(
         &mut self,
         core: Core,
@@ -74,7 +74,8 @@ impl Machine {
         self.decide(tx, Outcome::Merged { into })
     }
 
-    // The group that is left stands before itself.
+    // Commits a merge of the two groups that make the ring: the merged group is its own
+    // predecessor.
     pub(crate) fn commit_closing(
         &mut self,
         tx: Draw,
@@ -116,7 +117,8 @@ impl Machine {
         }
     }
 
-    // The successor gets what lies from `at` on, and the client table.
+    // Commits a moved boundary where the successor gets what lies from `at` on, and the client
+    // table.
     fn give(&mut self, tx: Draw, at: u32, frozen: &Frozen) -> Result<Effect, OutOfMemory>
         requires { holds self.old.core.arc at ≡ true }
         ensures step { IfOk result
@@ -143,7 +145,8 @@ impl Machine {
         )
     }
 
-    // The group takes what its successor has before `at`, and joins its client table.
+    // Commits a moved boundary where the group takes what its successor has before `at`, and joins
+    // its client table.
     fn take(&mut self, tx: Draw, at: u32, frozen: &Frozen) -> Result<Effect, OutOfMemory>
         requires { holds self.old.core.arc at ≡ false }
         ensures step { IfOk result
@@ -158,7 +161,7 @@ impl Machine {
         self.take_over(tx, at, core, &pairs, &frozen.clients)
     }
 
-    // It takes these over, unless a key is there already.
+    // Commits a moved boundary where the group takes these pairs, unless a key is there already.
     fn take_over(
         &mut self,
         tx: Draw,
@@ -204,7 +207,7 @@ impl Machine {
         self.decide(tx, Outcome::Moved { at, gift: None })
     }
 
-    // The group's record then, and the pairs that it takes.
+    // Returns the record of the group that takes, and the pairs that it takes.
     fn taking(&self, at: u32, frozen: &Frozen) -> Result<(Core, Pairs), OutOfMemory>
         requires takes { holds self.now.core.arc at ≡ false }
         requires can { can_repart self.now.core at frozen.now ≡ true }

@@ -1,4 +1,4 @@
-//! A group that coordinates a transaction: what its parties answer, and what it decides.
+//! A group that coordinates a transaction: what it does with the votes, and what it decides.
 ghost use Rattle.std.specs.Prelude.{◌≡◌, ◌⊎◌, true, false, IfOk, OnErr};
 ghost use Rattle.sc_machine_table.specs.Transactions.{decided, granted, participant_answered, asks_watcher, vote_recorded, released, watch_answered, watch_recorded, is_coordinating, given_up};
 ghost use Rattle.sc_machine.specs.Memory.{Makes, LooksThrough, MayLookThrough, LockLooksThrough};
@@ -112,7 +112,7 @@ impl Machine {
         }
     }
 
-    // Of a merge the watcher is asked next, where there is one.
+    // A merge asks the watcher next, unless the two groups make the ring.
     fn hear_merge(
         &mut self,
         frozen: &Frozen,
@@ -169,7 +169,8 @@ impl Machine {
         }
     }
 
-    // Whether a watcher's vote has an effect: only then memory is taken, for what was heard.
+    // Returns whether a watcher's vote has an effect. Only then the recorded Yes is copied, which
+    // may fail.
     fn counts_watch(&self, vote: &Past, body: &Body, heard: &Option<Heard>, tx: Draw) -> bool
         ensures some { result ≡ true →
             Makes (watch_answered vote.now body.now heard.now self.now tx) }
@@ -236,7 +237,7 @@ impl Machine {
         }
     }
 
-    // The decision is noted, and the group is free.
+    // Records the decision, and frees the group.
     pub(crate) fn decide(&mut self, tx: Draw, outcome: Outcome) -> Result<Effect, OutOfMemory>
         ensures { IfOk result (λ effect. decided self.old tx outcome ≡ (self.new, effect)) }
     {

@@ -1,4 +1,4 @@
-//! One command after another on a group.
+//! The state machine of a group, to which commands are applied one after another.
 #![tactic(auto)]
 
 mod bases;

@@ -1,4 +1,4 @@
-//! The group machine: one command, and requests.
+//! The state machine of a group: one command, and requests.
 ghost use Rattle.std.specs.Prelude.{◌≡◌, IfOk, OnErr};
 ghost use Rattle.std.specs.FinMap.{entries, get};
 ghost use Rattle.sc_ideal.specs.IdealStore.{holds_key, key_of};
@@ -48,7 +48,7 @@ fn holds_key(arc: &RingArc, op: &Op) -> bool
 }
 
 impl Machine {
-    /// The group that a record starts.
+    /// Returns the group that starts from this record.
     pub fn born(alloc: Global, base: Base) -> Result<Machine, OutOfMemory>
         ensures { IfOk result (λ machine. machine ≡ group_of base) }
     {
@@ -69,21 +69,21 @@ impl Machine {
         })
     }
 
-    /// The group's record but for pairs and client table.
+    /// Returns the group's record without pairs and client table.
     pub fn core(&self) -> &Core
         ensures { result.now ≡ self.now.core }
     {
         &self.core
     }
 
-    /// The group's pairs, in the order of their keys.
+    /// Returns the group's pairs, in the order of their keys.
     pub fn pairs(&self) -> Result<Pairs, OutOfMemory>
         ensures { IfOk result (λ pairs. pairs ≡ entries self.now.pairs) }
     {
         self.store.list()
     }
 
-    /// The group's whole record. A machine that is born from it is the same as this one.
+    /// Returns the group's whole record. A machine that starts from it equals this one.
     #[tactic(auto, using(sc_machine_table::proofs::Parts::group_again))]
     pub fn base(&self) -> Result<Base, OutOfMemory>
         ensures whole { IfOk result (λ base. base ≡ base_of self.now) }
@@ -96,7 +96,7 @@ impl Machine {
         })
     }
 
-    /// What the group hands to its coordinator when it votes Yes.
+    /// Returns the record that the group hands to its coordinator when it votes Yes.
     pub fn frozen(&self) -> Result<Frozen, OutOfMemory>
         ensures { IfOk result (λ frozen. frozen ≡ frozen_of self.now) }
     {
@@ -109,8 +109,9 @@ impl Machine {
         })
     }
 
-    /// Applies a command, by the group machine's table. After want of memory the machine may only
-    /// be dropped.
+    /// Applies a command by the transition table (Paxos Made Simple, section 3), and returns its
+    /// effect. Fails only where the command may need memory by the table. After `Err(OutOfMemory)`
+    /// the contract says nothing of the machine, so it may only be dropped.
     pub fn apply(&mut self, command: &Command) -> Result<Effect, OutOfMemory>
         ensures step { IfOk result (λ effect. applied self.old command.now ≡ (self.new, effect)) }
         ensures memory { OnErr result (MayWantMemory self.old command.now) }
@@ -177,7 +178,7 @@ impl Machine {
         Ok(Effect::Done(reply))
     }
 
-    // The reply that is noted, of a request whose number is the noted one.
+    // Returns the recorded reply to a request that is the client's last one.
     fn repeat(&self, client: u16, seq: u32, op: &Op) -> Result<Effect, OutOfMemory>
         requires { seen_of (get self.now.clients client) seq ≡ Seen.Again }
         ensures step { IfOk result

@@ -16,7 +16,7 @@ use sc_cmd::{Body, Command, Effect, Lock, OrderRefusal};
 use sc_txn::{check, has_named, plan_split};
 
 impl Machine {
-    // Why an order is refused, if it is: a group that is gone leads nothing.
+    // Returns why an order is refused, if it is. A group that is gone has no leader.
     #[tactic(auto, using(crate::proofs::Accepted::free_of))]
     fn refusal(&self, command: &Command) -> Option<OrderRefusal>
         requires { is_checked command.now ≡ true }
@@ -50,7 +50,7 @@ impl Machine {
         Effect::Changed
     }
 
-    // The node is a member from now on.
+    // Adds a node to the members.
     #[tactic(auto, using(crate::proofs::Accepted::can_join))]
     fn add(&mut self, node: u16)
         requires { join_refused self.old.core node ≡ None }
@@ -75,7 +75,7 @@ impl Machine {
         Effect::Changed
     }
 
-    // The node is no member from now on.
+    // Removes a node from the members.
     #[tactic(auto, using(crate::proofs::Accepted::can_leave))]
     fn remove(&mut self, node: u16)
         requires { leave_refused self.old.core node ≡ None }
@@ -104,7 +104,7 @@ impl Machine {
         Effect::Changed
     }
 
-    // The group begins a transaction.
+    // Begins a transaction.
     fn lock_for(&mut self, tx: Draw, body: Body, order: u32)
         requires { self.old.core.begun < 256 }
         ensures { self.new ≡ begun_group self.old tx body order }
@@ -145,7 +145,7 @@ impl Machine {
         Ok(Effect::Changed)
     }
 
-    // A group that is its own successor splits at once, another one locks.
+    // Splits a group that is its own successor, and locks another one.
     #[tactic(auto, using(crate::proofs::Accepted::can_split, crate::proofs::Accepted::can_lock))]
     fn divide(&mut self, at: u32, child: Draw, order: u32) -> Result<(), OutOfMemory>
         requires { split_refused self.old.core at ≡ None }
@@ -159,7 +159,7 @@ impl Machine {
         self.leave_right_part(at, child)
     }
 
-    /// What lies from `at` on is the child's.
+    /// Gives what lies from `at` on to the child.
     pub(crate) fn leave_right_part(&mut self, at: u32, child: Draw) -> Result<(), OutOfMemory>
         requires { CanSplit self.old.core at }
         ensures { OnOk result (self.new ≡ left_group self.old at child) }

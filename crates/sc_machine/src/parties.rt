@@ -1,4 +1,4 @@
-//! A group that takes part in another group's transaction: it votes, and takes over the outcome.
+//! A group that takes part in another group's transaction: it votes, and executes the outcome.
 ghost use Rattle.std.specs.Prelude.{◌≡◌, IfOk, OnOk, OnErr, Some, None, true, false, is_some, map, take, if◌then◌else◌};
 ghost use Rattle.sc_machine_table.specs.Votes.{has_voted, past_of, voted_on, offer_voted, watched};
 ghost use Rattle.sc_machine_table.specs.Finishes.{gone_group, gained, lost, moved, group_welcomed, participant_after, pred_after, closed, voted_after, party_freed, settled_in, watch_ended, finished};
@@ -85,7 +85,7 @@ impl Machine {
         }
     }
 
-    // The vote is noted, unless there was one; a Yes binds the group.
+    // Records a vote, unless there was one; a Yes binds the group.
     fn cast(&mut self, why: Option<No>, bond: Lock, tx: Draw) -> Result<Effect, OutOfMemory>
         ensures step { IfOk result (λ effect. voted_on why bond self.old tx ≡ (self.new, effect)) }
         ensures memory { OnErr result (Makes (voted_on why bond self.old tx)) }
@@ -160,7 +160,7 @@ impl Machine {
         Ok(Effect::Decided(outcome.dup(self.alloc)?))
     }
 
-    // The party is free again, and remembers that the transaction has ended.
+    // Frees the party, and records that the transaction has ended.
     fn end(&mut self, tx: Draw) -> Result<(), OutOfMemory>
         ensures { OnOk result (self.new ≡ party_freed self.old tx) }
     {
@@ -169,7 +169,7 @@ impl Machine {
         Ok(())
     }
 
-    // Takes over an outcome; false where that cannot be made, and then nothing changes.
+    // Executes an outcome. Returns `false` where that cannot be done, and then nothing is changed.
     fn take_outcome(&mut self, offer: &Offer, outcome: &Outcome) -> Result<bool, OutOfMemory>
         ensures made { IfOk result
             (λ made.

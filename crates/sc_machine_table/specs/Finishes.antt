@@ -26,7 +26,7 @@ use Rattle.sc_machine_table.specs.Votes.{has_voted}
 abbrev pub gone_group : Group → Route → Group
 gone_group group into = record { core = record group.core { gone = Some into }; pairs = empty; clients = empty }
 
--- whether a participant can gain, in front of its arc, what lies from `at` on in the coordinator's arc
+-- whether a participant can gain what lies from `at` on in the coordinator's arc, which is before its own
 abbrev pub can_gain : Core → Offer → ℕ → Bool
 can_gain core offer at = can_cut offer.arc at && can_join (from offer.arc at) core.arc
 

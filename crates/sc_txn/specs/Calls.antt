@@ -1,4 +1,4 @@
--- What comes of a request, by what holds calls back.
+-- What comes of a request, by what holds requests back.
 use Rattle.std.specs.Prelude.{ℕ, Option, Some, None}
 use Rattle.sc_base.specs.declared.names.Draw.{Draw}
 use Rattle.sc_base.specs.declared.ops.Op.{Op}
@@ -6,7 +6,7 @@ use Rattle.sc_cmd.specs.declared.effects.Effect.{Effect}
 use Rattle.sc_cmd.specs.declared.effects.Effect.TheVariants.{NoEffect}
 use Rattle.sc_machine_table.specs.Definitions.{Group, served}
 
--- a request to a group that is not gone, by the transaction that holds calls back, if one does
+-- what comes of a request to a group that is not gone, by the transaction that holds requests back, if one does
 abbrev pub called_under : Option Draw → Group → ℕ → ℕ → Op → Group × Effect
 called_under None group client seq op = served group client seq op
 called_under (Some tx) group client seq op = (group, NoEffect tx)

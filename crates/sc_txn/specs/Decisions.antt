@@ -8,7 +8,7 @@ use Rattle.sc_cmd.specs.declared.votes.Outcome.TheVariants as Was
 use Rattle.sc_txn.specs.declared.votes.Decision.{Decision}
 use Rattle.sc_txn.specs.declared.votes.Decision.TheVariants.{Undecided, Commit, Abort}
 
--- an outcome other than an abort is a commit
+-- the decision of an outcome: an abort, or else a commit
 abbrev pub decision_by : Outcome → Decision
 decision_by Was.Abort = Abort
 decision_by (Was.Merged into) = Commit
@@ -16,11 +16,11 @@ decision_by (Was.Moved at gift) = Commit
 decision_by (Was.Migrated node) = Commit
 decision_by Was.Divided = Commit
 
--- the decision by what is noted, if anything is
+-- the decision by the recorded outcome, if there is one
 abbrev pub decision_in : Option (Draw × Outcome) → Decision
 decision_in None = Undecided
 decision_in (Some noted) = decision_by noted.1
 
--- the first decision that is noted under that name
+-- what a group has decided of a transaction: the first outcome that is recorded under that name
 abbrev pub decision_of : Core → Draw → Decision
 decision_of core tx = decision_in (find (λ noted. same_draw noted.0 tx) core.decided)

@@ -1,4 +1,4 @@
-//! Which locks hold calls back.
+//! Which locks hold requests back.
 ghost use Rattle.std.specs.Prelude.{◌≡◌, ℕ, None};
 ghost use Rattle.sc_base.specs.declared.ops.Op.{Op};
 ghost use Rattle.sc_machine_table.specs.Group.{Group};
@@ -8,8 +8,8 @@ ghost use Rattle.sc_txn.specs.Calls.{called_under};
 use sc_base::Draw;
 use sc_cmd::Lock;
 
-/// The transaction for which a group with this lock holds calls back; none where it serves them, as
-/// a watcher does.
+/// Returns the transaction for which a group with this lock holds requests back, or `None` where
+/// it serves them, as a free group and a watcher do.
 pub fn held_back_by(lock: &Lock) -> Option<Draw>
     ensures { (group : Group) (client seq : ℕ) (op : Op)
         → called None lock.now group client seq op ≡ called_under result group client seq op }

@@ -1,4 +1,5 @@
-//! The refusals of orders. Of those that hold of an order the one with the least number counts.
+//! The refusals of orders. Of those that hold of an order the one with the least number counts;
+//! docs/SCENARIOS.md, section Orders, lists them.
 ghost use Rattle.std.specs.Prelude.{◌≡◌, true, Some, None, MatchResult, nat_eq, nat_le, length};
 ghost use Rattle.std.specs.List.{list_any};
 ghost use Rattle.sc_base.specs.Same.{same_draw};
@@ -10,12 +11,12 @@ ghost use Rattle.sc_txn.specs.Checked.{is_checked};
 use sc_base::{Draw, same_draw};
 use sc_cmd::{Body, Command, Core, Lock, OrderRefusal};
 
-/// How many transactions a group may begin.
+/// The most transactions that a group may begin.
 const MOST_BEGUN: u32 = 256;
 
-/// Why the command of an order is refused to a group of that record, if it is: the refusal with the
-/// least number of those that hold. The command is `Join`, `Leave`, `Split` or `Begin`. Whether the
-/// group is gone is not looked at here.
+/// Tests whether the command of an order is refused to a group with this record. The error is the
+/// refusal with the least number of those that hold. The command is `Join`, `Leave`, `Split` or
+/// `Begin`. Whether the group is gone is not tested here.
 pub fn check(core: &Core, command: &Command) -> Result<(), OrderRefusal>
     requires { is_checked command.now ≡ true }
     ensures { MatchResult result (λ _. refusal_of core.now command.now ≡ None)
@@ -40,7 +41,7 @@ pub fn check(core: &Core, command: &Command) -> Result<(), OrderRefusal>
     }
 }
 
-/// The transaction that a lock is in.
+/// Returns the transaction that a lock is in, if it is in one.
 pub(crate) fn locked_in(lock: &Lock) -> Option<Draw>
     ensures { result ≡ locked_in lock.now }
 {
@@ -161,16 +162,16 @@ fn check_begin(core: &Core, body: &Body) -> Result<(), OrderRefusal>
     check_body(core, body)
 }
 
-/// Whether the draw has named something in a group of that record: a child that was split off, or a
-/// transaction that is decided or that the group is locked in. An order under such a name has no
-/// effect.
+/// Returns whether the name is in use in a group with this record: for a child that it has split
+/// off, or for a transaction that it has decided or is locked in. An order under such a name has
+/// no effect.
 pub fn has_named(core: &Core, draw: Draw) -> bool
     ensures { result ≡ has_named core.now draw }
 {
     is_born(core, draw) || is_decided(core, draw) || is_locked_in(&core.lock, draw)
 }
 
-/// Whether a group of that record has voted on a transaction.
+/// Returns whether a group with this record has voted on the transaction.
 pub fn has_voted(core: &Core, tx: Draw) -> bool
     ensures { result ≡ has_voted core.now tx }
 {

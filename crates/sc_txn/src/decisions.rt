@@ -1,4 +1,4 @@
-//! How a coordinator notes a decision.
+//! How a coordinator records a decision.
 ghost use Rattle.std.specs.Prelude.{◌≡◌, OnOk};
 ghost use Rattle.std.specs.FinMap.{empty};
 ghost use Rattle.sc_machine_table.specs.Transactions.{decided_group};
@@ -6,9 +6,9 @@ ghost use Rattle.sc_machine_table.specs.Transactions.{decided_group};
 use sc_base::{Draw, OutOfMemory};
 use sc_cmd::{Core, Lock, Outcome};
 
-/// The decision is noted, and the group is free: a vote that comes later finds no lock.
+/// Records the decision, and frees the group, so that a vote that comes later finds no lock.
 ///
-/// After want of memory the record may only be dropped.
+/// After `Err(OutOfMemory)` the contract says nothing of the record, so it may only be dropped.
 pub fn note_decision(core: &mut Core, tx: Draw, outcome: Outcome) -> Result<(), OutOfMemory>
     ensures { OnOk result
         (core.new

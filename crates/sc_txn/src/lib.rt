@@ -1,6 +1,6 @@
 //! Transactions of groups: whether an order is refused and why, the plans of splits, merges, moved
-//! boundaries and moved members for both sides, how a group votes, what it has decided, and which
-//! locks hold calls back.
+//! boundaries and handed-over members for both sides, how a group votes, what it has decided, and
+//! which locks hold requests back.
 #![tactic(auto)]
 
 mod calls;

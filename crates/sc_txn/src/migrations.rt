@@ -1,4 +1,4 @@
-//! What a member's move makes of the two groups.
+//! The plan of handing over a member, for both groups.
 ghost use Rattle.std.specs.Prelude.{◌≡◌, ◌∷◌, [], IfOk, Some, None, true, nat_le, length, if◌then◌else◌};
 ghost use Rattle.sc_base.specs.Roster.{is_member, without_member};
 ghost use Rattle.sc_base.specs.Union.{united};
@@ -8,9 +8,9 @@ use sc_base::{Dup, Members, OutOfMemory};
 use sc_cmd::{Core, Frozen, Link};
 use std::alloc::Global;
 
-/// Whether the node can leave a group of that record for its successor, which was frozen so: it is
-/// a
-/// member and not the only one, and the successor has at most nine members with it.
+/// Returns whether the node can leave a group with this record for its successor, whose frozen
+/// record is given: it is a member and not the only one, and the successor has at most nine
+/// members with it.
 pub fn can_migrate(core: &Core, node: u16, frozen: &Frozen) -> bool
     ensures { result ≡ can_migrate core.now node frozen.now }
 {
@@ -19,7 +19,8 @@ pub fn can_migrate(core: &Core, node: u16, frozen: &Frozen) -> bool
         && frozen.members.count_with(&Members::one(node)) <= 9
 }
 
-/// The group after the node left it for its successor. `can_migrate` tells whether it can.
+/// Returns the record of the group after the node has left it for its successor. The caller has
+/// asked `can_migrate` whether it can.
 pub fn plan_migrate(
     alloc: Global,
     core: &Core,
@@ -39,7 +40,8 @@ pub fn plan_migrate(
     Ok(after)
 }
 
-/// The members of the successor with the node, which may be one of them; none where they are ten.
+/// Returns the members of the successor with the node, which may be one of them, or `None` where
+/// they would be ten.
 pub fn welcomed_members(core: &Core, node: u16) -> Option<Members>
     ensures { result
         ≡ (if nat_le (length (united core.now.members (node ∷ []))) 9 then Some

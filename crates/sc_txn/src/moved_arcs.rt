@@ -1,4 +1,4 @@
-//! The arcs of a participant whose boundary moves, where it can.
+//! The arcs of a participant whose boundary moves.
 ghost use Rattle.std.specs.Prelude.{◌≡◌, Some, None, if◌then◌else◌};
 ghost use Rattle.sc_base.specs.Arc.{from, joined};
 ghost use Rattle.sc_machine_table.specs.Plans.{can_cut};
@@ -7,8 +7,8 @@ ghost use Rattle.sc_machine_table.specs.Finishes.{can_gain};
 use sc_base::RingArc;
 use sc_cmd::{Core, Offer};
 
-/// The arc of a participant that gains what the coordinator's arc, as it was offered, has from `at`
-/// on; none where that arc cannot be cut there, or the two do not meet.
+/// Returns the arc of a participant that gains what the coordinator's arc, as it was offered, has
+/// from `at` on, or `None` where that arc cannot be cut there or the two do not meet.
 pub fn gained_arc(core: &Core, offer: &Offer, at: u32) -> Option<RingArc>
     ensures { result
         ≡ (if can_gain core.now offer.now at then Some (joined (from offer.now.arc at) core.now.arc)
@@ -18,8 +18,8 @@ pub fn gained_arc(core: &Core, offer: &Offer, at: u32) -> Option<RingArc>
     gift.join(&core.arc).ok()
 }
 
-/// The arc of a participant that loses what lies before `at`; none where its arc cannot be cut
-/// there.
+/// Returns the arc of a participant that loses what lies before `at`, or `None` where its arc
+/// cannot be cut there.
 pub fn lost_arc(core: &Core, at: u32) -> Option<RingArc>
     ensures { result ≡ (if can_cut core.now.arc at then Some (from core.now.arc at) else None) }
 {

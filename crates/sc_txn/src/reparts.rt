@@ -1,4 +1,4 @@
-//! The coordinator's side.
+//! The plan of a moved boundary, for the coordinator.
 ghost use Rattle.std.specs.Prelude.{◌≡◌, IfOk, Some, None, true, if◌then◌else◌};
 ghost use Rattle.sc_machine_table.specs.Plans.{can_repart, kept_arc, moved_arc, repart_core};
 
@@ -6,17 +6,18 @@ use sc_base::{Dup, OutOfMemory, RingArc};
 use sc_cmd::{Core, Frozen, Link};
 use std::alloc::Global;
 
-/// Whether the boundary between a group of that record and its successor, which was frozen so, can
-/// move to `at`: a place inside the one arc or the other, where the arcs meet.
+/// Returns whether the boundary between a group with this record and its successor, whose frozen
+/// record is given, can move to `at`: a position inside one of the two arcs, where the arcs meet.
 pub fn can_repart(core: &Core, at: u32, frozen: &Frozen) -> bool
     ensures { result ≡ can_repart core.now at frozen.now }
 {
     arcs(core, at, frozen).is_some()
 }
 
-/// The group after the boundary moved to `at`, and the arc that changed hands: the group gives what
-/// it has from `at` on, or takes what its successor has before. `can_repart` tells whether it can.
-/// Pairs and client table lie beside the record, and are no part of the plan.
+/// Returns the record of the group after the boundary has moved to `at`, and the arc that has
+/// changed sides: the group gives what it has from `at` on, or takes what its successor has before
+/// `at`. The caller has asked `can_repart` whether it can. Pairs and client table are not in the
+/// record, and are no part of the plan.
 pub fn plan_repart(
     alloc: Global,
     core: &Core,
@@ -39,8 +40,8 @@ pub fn plan_repart(
     Ok((after, moved))
 }
 
-// The arc that the group has afterwards, and the one that changes hands, where the boundary can
-// move.
+// Returns the arc that the group has afterwards, and the one that changes sides, where the
+// boundary can move.
 fn arcs(core: &Core, at: u32, frozen: &Frozen) -> Option<(RingArc, RingArc)>
     ensures { result ≡ (if can_repart core.now at frozen.now
         then Some (kept_arc core.now at frozen.now, moved_arc core.now at frozen.now) else None) }

@@ -10,8 +10,8 @@ use sc_base::{Draw, Dup, Members, OutOfMemory, RingArc, Sequence};
 use sc_cmd::{Core, Link, Lock};
 use std::alloc::Global;
 
-/// Whether a group of that record can be split at `at`: its arc holds `at` after its start, and it
-/// has two members at least.
+/// Returns whether a group with this record can be split at `at`: its arc holds `at` after its
+/// start, and it has at least two members.
 pub fn can_split(core: &Core, at: u32) -> bool
     ensures can { IsTrue result ↔ CanSplit core.now at }
     ensures same { result ≡ can_split core.now at }
@@ -19,11 +19,11 @@ pub fn can_split(core: &Core, at: u32) -> bool
     at != core.arc.lo() && core.arc.holds(at) && core.members.len() >= 2
 }
 
-/// The group after a split at `at`, and its child: the group keeps its name, the arc before `at`
-/// and its first `n - n/2` members of `n`, and the child has the rest. Each is the other's
-/// neighbour there; where the group splits at once, on both sides.
-/// `can_split` tells whether the group can be split there. Pairs and client table lie beside the
-/// record, and are no part of the plan.
+/// Returns the records of the group after a split at `at`, and of its child: the group keeps its
+/// name, the arc before `at` and its first `n - n/2` members of `n`, and the child has the rest.
+/// The child is the group's successor; where the split is made without a transaction, also its
+/// predecessor. The caller has asked `can_split` whether the group can be split there. Pairs and
+/// client table are not in the record, and are no part of the plan.
 pub fn plan_split(
     alloc: Global,
     core: &Core,
@@ -51,7 +51,7 @@ pub fn plan_split(
     Ok((left, right))
 }
 
-/// The first `n - n/2` of `n` members, and the others.
+/// Returns the first `n - n/2` of `n` members, and the others.
 fn halves(members: &Members) -> (Members, Members)
     requires { 2 ≤ length members.now }
     ensures { result ≡ (left_members members.now, right_members members.now) }
@@ -61,7 +61,7 @@ fn halves(members: &Members) -> (Members, Members)
     (set_of(&nodes[..count]), set_of(&nodes[count..]))
 }
 
-/// The set of these nodes, one to nine in ascending order.
+/// Returns the set of these nodes, which are one to nine in ascending order.
 fn set_of(nodes: &[u16]) -> Members
     requires { IsRoster nodes.now }
     ensures { result ≡ nodes.now }
@@ -73,7 +73,7 @@ fn set_of(nodes: &[u16]) -> Members
     members
 }
 
-/// Puts a node behind the others.
+/// Adds a node that is greater than all members.
 fn put_last(members: &mut Members, node: u16)
     requires above { All (λ member. member < node) members.old }
     requires room { length members.old < 9 }
@@ -85,8 +85,8 @@ fn put_last(members: &mut Members, node: u16)
     }
 }
 
-/// Whether the group splits at once: it is in no transaction, and its own successor. One that is in
-/// the transaction of its split has a watcher.
+/// Returns whether the split is made without a transaction: the group is in none, and is its own
+/// successor. In the transaction of a split it has a watcher.
 fn splits_at_once(core: &Core) -> bool
     ensures { result ≡ splits_at_once core.now }
 {
@@ -96,7 +96,8 @@ fn splits_at_once(core: &Core) -> bool
     }
 }
 
-/// The group that keeps this arc and is `own` from now on, beside a child there.
+/// Returns the record of the group that keeps this arc, has the members of `own`, and is followed
+/// by `child`.
 fn left_part(
     alloc: Global,
     core: &Core,
@@ -129,7 +130,7 @@ fn left_part(
     Ok(left)
 }
 
-/// The child on this arc, of a group that is `parent` from now on.
+/// Returns the record of the child with this arc, whose predecessor is `parent`.
 fn right_part(alloc: Global, core: &Core, arc: RingArc, parent: &Link, child: &Link) -> Core
     ensures { result
         ≡ record {

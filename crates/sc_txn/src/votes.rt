@@ -1,4 +1,4 @@
-//! Votes, and what a coordinator has decided.
+//! Votes of a group, and what a coordinator has decided.
 ghost use Rattle.std.specs.Prelude.{◌≡◌, ◌||◌, not, Some, None, MatchResult, find};
 ghost use Rattle.std.specs.Option.{option_copied};
 ghost use Rattle.sc_base.specs.Same.{same_draw};
@@ -14,17 +14,17 @@ use sc_cmd::{Body, Core, No, Offer, Outcome, Watch};
 /// What a coordinator's log says of a transaction.
 #[derive(Clone, Copy, Debug, PartialEq, Eq)]
 pub enum Decision {
-    /// It is not decided.
+    /// The transaction is not decided.
     Undecided,
-    /// It was committed.
+    /// The transaction was committed.
     Commit,
-    /// It was aborted.
+    /// The transaction was aborted.
     Abort,
 }
 
-/// How a group of that record votes on the offer of the group before it; Ok means Yes. Of the
-/// reasons
-/// for a No the first that holds counts. Whether it has voted already is not looked at here.
+/// Returns the vote of a group with this record on the offer of its predecessor: `Ok` is a Yes,
+/// and the error is the first reason for a No that holds. Whether it has voted already is not
+/// tested here. Scatter, SOSP 2011, multi-group operations.
 pub fn vote(core: &Core, offer: &Offer) -> Result<(), No>
     ensures { MatchResult result (λ _. vote_of core.now offer.now ≡ None)
         (λ why. vote_of core.now offer.now ≡ Some why) }
@@ -38,7 +38,8 @@ pub fn vote(core: &Core, offer: &Offer) -> Result<(), No>
     }
 }
 
-/// How it votes on becoming a watcher; Ok means Yes.
+/// Returns the vote of a group with this record on becoming a watcher: `Ok` is a Yes, and the
+/// error is the first reason for a No that holds. Whether it has voted already is not tested here.
 pub fn watch_vote(core: &Core, watch: &Watch) -> Result<(), No>
     ensures { MatchResult result (λ _. watch_vote_of core.now watch.now ≡ None)
         (λ why. watch_vote_of core.now watch.now ≡ Some why) }
@@ -52,7 +53,7 @@ pub fn watch_vote(core: &Core, watch: &Watch) -> Result<(), No>
     Ok(())
 }
 
-/// What a group of that record has decided of a transaction that it coordinates.
+/// Returns what a group with this record has decided of a transaction that it coordinates.
 pub fn decide(core: &Core, tx: Draw) -> Decision
     ensures { result ≡ decision_of core.now tx }
 {
@@ -62,7 +63,7 @@ pub fn decide(core: &Core, tx: Draw) -> Decision
     }
 }
 
-// Why a group votes No whatever is asked: it is gone, or locked.
+// Returns why a group votes No whatever is asked, if so: it is gone, or locked.
 fn bound(core: &Core) -> Option<No>
     ensures { result ≡ no_of core.now.gone (locked_in core.now.lock) None }
 {
