@@ -5,7 +5,7 @@ use Rattle.sc_lookup.specs.declared.ways.Way.{Way}
 use Rattle.sc_lookup.specs.Ways.{far}
 use Rattle.sc_lookup.specs.Known.{KnownGroups, chosen}
 
--- a group stands among the known ones, none before it is nearer, and each after it is farther
+-- a known group is nearest to a position: no group before it in the list is nearer, and each after it is farther
 pub record IsNearest (p : ℕ) (known : KnownGroups) (group : Draw) : Type 0 where
   pub before : KnownGroups
   pub way : Way
@@ -14,6 +14,6 @@ pub record IsNearest (p : ℕ) (known : KnownGroups) (group : Draw) : Type 0 whe
   pub none_nearer : All (λ (entry : Draw × Way). far p way ≤ far p entry.1) before
   pub each_farther : All (λ (entry : Draw × Way). far p way < far p entry.1) after
 
--- the chosen group is the nearest, and among equals the one that stands last
+-- the chosen group is the nearest one, and of several at one distance the last in the list
 abbrev pub ChoosesNearest : Type 0
 ChoosesNearest = (p : ℕ) (known : KnownGroups) (group : Draw) → chosen p known ≡ Some group → IsNearest p known group

@@ -1,4 +1,4 @@
--- The groups that a client knows, in the order in which it came to know them, and how they change.
+-- The groups that a client knows, in the order in which it got to know them, and how they change.
 use Rattle.std.specs.Prelude.{ℕ, List, [], ◌∷◌, ◌++◌, Option, Some, None, nat_le, fold, is_some, if◌then◌else◌}
 use Rattle.std.specs.Option.{option_map}
 use Rattle.std.specs.Map.{lookup, set_value, remove_entry}
@@ -9,62 +9,62 @@ use Rattle.sc_cmd.specs.declared.links.Route.{Route}
 use Rattle.sc_lookup.specs.declared.ways.Way.{Way}
 use Rattle.sc_lookup.specs.Ways.{far, new_way, next_target, target_of}
 
--- each group with what is known of it
+-- a list of groups with what is known of each
 abbrev pub KnownGroups : Type 0
 KnownGroups = List (Draw × Way)
 
--- what is known of a group
+-- what is known of a group, if it is known
 abbrev pub way_to : Draw → KnownGroups → Option Way
 way_to group known = lookup (same_draw group) known
 
--- the nearer of two groups to a position, by their starts; where both are as far, the second
+-- the group of two whose start is nearer before a position, and the second where both are as far
 abbrev pub nearer : ℕ → Draw × Way → Draw × Way → Draw × Way
 nearer p best entry = if nat_le (far p entry.1) (far p best.1) then entry else best
 
--- the nearer of a group and the best one before it, if there is one
+-- the nearer of the best group so far and another, or the other one where there is none so far
 abbrev pub better : ℕ → Option (Draw × Way) → Draw × Way → Option (Draw × Way)
 better p None entry = Some entry
 better p (Some best) entry = Some (nearer p best entry)
 
--- the group whose start lies nearest at or before a position; among equals the one that stands last
+-- the group whose start is nearest at or before a position, and of several at one distance the last in the list
 abbrev pub chosen : ℕ → KnownGroups → Option Draw
 chosen p known = option_map (λ entry. entry.0) (fold (better p) None known)
 
--- the node to be asked of a group
+-- the node of a known group to be asked
 abbrev pub target_in : Draw → KnownGroups → Option ℕ
 target_in group known = option_map target_of (way_to group known)
 
--- the member after that node
+-- the member of a known group after the node to be asked
 abbrev pub next_in : Draw → KnownGroups → Option ℕ
 next_in group known = option_map next_target (way_to group known)
 
--- a known group is changed in its place, and one that is not known changes nothing
+-- the groups with a change of one that is known; a group that is not known changes nothing
 abbrev pub changed : (Way → Way) → Draw → KnownGroups → Option Way → KnownGroups
 changed change group known None = known
 changed change group known (Some way) = set_value (same_draw group) known (change way)
 
--- a node becomes the preferred one of a group
+-- the groups after a node has become the preferred one of a group
 abbrev pub preferring : Draw → ℕ → KnownGroups → KnownGroups
 preferring group node known = changed (λ way. record way { preferred = Some node }) group known (way_to group known)
 
--- the member after the node to be asked becomes the preferred one
+-- the groups after the member after the node to be asked has become the preferred one
 abbrev pub passed_on : Draw → KnownGroups → KnownGroups
 passed_on group known = changed (λ way. record way { preferred = Some (next_target way) }) group known (way_to group known)
 
--- a known group's arc starts elsewhere
+-- the groups after a known group's start has been set
 abbrev pub starting : Draw → ℕ → KnownGroups → KnownGroups
 starting group lo known = changed (λ way. record way { lo = lo }) group known (way_to group known)
 
--- a known group's arc starts elsewhere, and a group that was not known goes last
+-- the groups after a known group's start has been set, or a group that was not known has been added at the end
 abbrev pub group_learnt : Draw → ℕ → List ℕ → KnownGroups → KnownGroups
 group_learnt group lo members known =
     if is_some (way_to group known) then starting group lo known
     else known ++ (group, new_way lo members) ∷ []
 
--- a group told its arc and its successor, which starts at the arc's end
+-- the groups after a group's answer that a key is not its own: its start is set, and its successor starts at the end of its arc
 abbrev pub told_not_mine : Draw → Arc → Link → KnownGroups → KnownGroups
 told_not_mine group arc succ known = group_learnt succ.group (end_of arc) succ.members (starting group arc.lo known)
 
--- a group told that it went into another
+-- the groups after a group's answer that it was merged into another: it is removed, and the other one is learnt
 abbrev pub told_gone : Draw → Route → KnownGroups → KnownGroups
 told_gone group into known = group_learnt into.group into.lo into.members (remove_entry (same_draw group) known)

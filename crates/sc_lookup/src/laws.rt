@@ -1,8 +1,8 @@
-//! What holds of routes.
+//! The law of routes.
 ghost use Rattle.sc_lookup.specs.Choice.{ChoosesNearest};
 
-/// The chosen group is the one whose start lies nearest at or before the position, and among
-/// equals the one that stands last.
+/// States that the chosen group is the one whose start is nearest at or before the position, and
+/// of several at one distance the last in the list.
 pub fn choices_are_nearest()
     ensures { ChoosesNearest }
 {}

@@ -13,7 +13,7 @@ use sc_cmd::{Link, Route};
 use std::alloc::Global;
 use std::marker::Model;
 
-/// The groups that a client knows, at least one, in the order in which it came to know them.
+/// The groups that a client knows, at least one, in the order in which it got to know them.
 /// Contracts see the list.
 #[derive(Drop)]
 pub struct Routes {
@@ -32,7 +32,7 @@ impl Model for Routes {
 }
 
 impl Routes {
-    /// The routes of a client that knows one group.
+    /// Returns the routes of a client that knows one group.
     pub fn start(alloc: Global, route: Route) -> Result<Routes, OutOfMemory>
         ensures { IfOk result
             (λ routes. routes ≡ (route.group, new_way route.lo route.members) ∷ []) }
@@ -42,8 +42,8 @@ impl Routes {
         Ok(Routes { known })
     }
 
-    /// The group whose start lies nearest at or before the position on the ring; among equals the
-    /// one that stands last.
+    /// Returns the group whose start is nearest at or before the position on the ring, and of
+    /// several at one distance the last in the list.
     pub fn choose(&self, p: u32) -> Draw
         ensures { chosen p self.now ≡ Some result }
     {
@@ -57,7 +57,7 @@ impl Routes {
         }
     }
 
-    /// The node to be asked of the group; none exactly where the group is not known.
+    /// Returns the node of the group to be asked, or `None` exactly where the group is not known.
     pub fn target(&self, group: Draw) -> Option<u16>
         ensures { result ≡ target_in group self.now }
     {
@@ -67,8 +67,8 @@ impl Routes {
         }
     }
 
-    /// Makes the member after the group's target the preferred node, and gives it. None exactly
-    /// where the group is not known; then nothing changes.
+    /// Makes the member after the group's target the preferred node, and returns it. Returns
+    /// `None` exactly where the group is not known, and then the routes are unchanged.
     pub fn after(&mut self, group: Draw) -> Option<u16>
         ensures node { result ≡ next_in group self.old }
         ensures routes { self.new ≡ passed_on group self.old }
@@ -84,8 +84,8 @@ impl Routes {
         }
     }
 
-    /// Makes a node the preferred one of the group. False exactly where the group is not known;
-    /// then nothing changes.
+    /// Makes a node the preferred one of the group. Returns `false` exactly where the group is not
+    /// known, and then the routes are unchanged.
     pub fn prefer(&mut self, group: Draw, node: u16) -> bool
         ensures known { result ≡ is_some (way_to group self.old) }
         ensures routes { self.new ≡ preferring group node self.old }
@@ -100,9 +100,9 @@ impl Routes {
         }
     }
 
-    /// The group told its arc and its successor: the group's arc starts where the arc does, and the
-    /// successor's at the arc's end. A successor that was not known goes last; one that was known
-    /// takes no memory.
+    /// Follows a group's answer that a key is not its own: the group's arc starts where `arc`
+    /// does, and its successor's at the end of `arc`. A successor that was not known is added at
+    /// the end of the list. Fails only where the successor was not known.
     pub fn not_mine(&mut self, group: Draw, arc: &RingArc, succ: &Link) -> Result<(), OutOfMemory>
         ensures routes { OnOk result (self.new ≡ told_not_mine group arc.now succ.now self.old) }
         ensures known { is_some (way_to succ.now.group self.old) ≡ true → IsOk result }
@@ -111,8 +111,9 @@ impl Routes {
         learn(&mut self.known, succ.group, arc.end(), succ.members)
     }
 
-    /// The group told that it went into another: its route is removed, and the others keep their
-    /// order. The other group's arc starts at `into`'s start; if it was not known it goes last.
+    /// Follows a group's answer that it was merged into another: its route is removed, and the
+    /// others keep their order. The other group's arc starts at the start of `into`; a group that
+    /// was not known is added at the end of the list.
     pub fn gone(&mut self, group: Draw, into: &Route) -> Result<(), OutOfMemory>
         ensures { OnOk result (self.new ≡ told_gone group into.now self.old) }
     {
@@ -122,7 +123,8 @@ impl Routes {
     }
 }
 
-/// The nearer of the best group so far and another; the other one where both are as far.
+/// Returns the nearer of the best group so far and another, and the other one where both are as
+/// far.
 fn better(p: u32, best: Option<(Draw, Way)>, group: Draw, way: Way) -> (Draw, Way)
     ensures { better p best (group, way) ≡ Some result }
 {
@@ -147,7 +149,7 @@ fn way_to(known: &IndexMap<Draw, Way>, group: Draw) -> Option<Way>
     }
 }
 
-/// Changes what is known of a group; nothing where it is not known.
+/// Replaces what is known of a group; changes nothing where it is not known.
 fn set_way(known: &mut IndexMap<Draw, Way>, group: Draw, way: Way)
     ensures entries { known.new.entries ≡ set_value (same_draw group) known.old.entries way }
     ensures len { length known.new.entries ≡ length known.old.entries }
@@ -157,7 +159,7 @@ fn set_way(known: &mut IndexMap<Draw, Way>, group: Draw, way: Way)
     }
 }
 
-/// Lets a known group's arc start elsewhere.
+/// Sets the start of a known group's arc.
 fn start_at(known: &mut IndexMap<Draw, Way>, group: Draw, lo: u32)
     ensures entries { known.new.entries ≡ starting group lo known.old.entries }
     ensures same { (other : Draw) → is_some (way_to other known.new.entries) ≡ is_some (way_to other known.old.entries) }
@@ -168,7 +170,7 @@ fn start_at(known: &mut IndexMap<Draw, Way>, group: Draw, lo: u32)
     }
 }
 
-/// Adds a group, which goes last where it was not known. Takes no memory where there is room.
+/// Adds a group that was not known at the end of the list. Allocates nothing where there is room.
 fn add(known: &mut IndexMap<Draw, Way>, group: Draw, way: Way) -> Result<(), OutOfMemory>
     requires { way_to group known.old.entries ≡ None }
     ensures ok { OnOk result (known.new.entries ≡ known.old.entries ++ (group, way) ∷ []) }
@@ -179,8 +181,8 @@ fn add(known: &mut IndexMap<Draw, Way>, group: Draw, way: Way) -> Result<(), Out
     Ok(())
 }
 
-/// Lets a group's arc start elsewhere; adds a group that was not known. Takes no memory where
-/// there is room.
+/// Sets the start of a known group's arc, or adds a group that was not known. Allocates nothing
+/// where there is room.
 fn learn(
     known: &mut IndexMap<Draw, Way>,
     group: Draw,

@@ -6,7 +6,7 @@ use sc_base::{Dup, Members, OutOfMemory};
 use std::alloc::Global;
 
 /// What a client knows of one group: where its arc starts, its members, which may be out of date,
-/// and the node that the client would rather ask than the least member.
+/// and the node that the client prefers to ask instead of the least member.
 #[derive(Clone, Copy)]
 pub struct Way {
     pub lo: u32,
@@ -25,7 +25,7 @@ impl Way {
         }
     }
 
-    /// The node that is asked: the preferred one, else the least member.
+    /// Returns the node that is asked: the preferred one, or else the least member.
     pub fn target(&self) -> u16
         ensures { result ≡ target_of self.now }
     {
@@ -35,14 +35,14 @@ impl Way {
         }
     }
 
-    /// The member after the node that is asked.
+    /// Returns the member after the node that is asked.
     pub fn next(&self) -> u16
         ensures { result ≡ next_target self.now }
     {
         self.members.after(self.target())
     }
 
-    /// How far a position lies after the start of the group's arc.
+    /// Returns how far a position lies after the start of the group's arc, round the ring.
     pub fn far(&self, p: u32) -> u32
         ensures { result ≡ far p self.now }
     {
