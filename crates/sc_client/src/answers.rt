@@ -1,4 +1,4 @@
-//! What a client makes of answers.
+//! How a client acts on answers.
 ghost use Rattle.std.specs.Prelude.{◌≡◌, ℕ, ◌+◌, ◌++◌, ◌∷◌, [], false, Option, Some, IfOk, IsOk};
 ghost use Rattle.sc_base.specs.declared.names.Draw.{Draw};
 ghost use Rattle.sc_mail.specs.declared.bodies.AnswerBody.{AnswerBody};
@@ -12,7 +12,8 @@ use sc_mail::{AnswerBody, Mail, MailBody};
 use std::alloc::Global;
 
 impl ClientCore {
-    /// Takes a mail; one that is no answer to the waiting request is ignored, which takes no memory.
+    /// Acts on a mail. A mail that is no answer to the waiting request is ignored, and then the
+    /// call does not fail.
     pub(crate) fn got(&mut self, alloc: Global, mail: &Mail) -> Result<Sequence<Mail>, OutOfMemory>
         ensures sent { IfOk result
             (λ mails. got mail.now.from mail.now.body self.old ≡ (self.new, mails)) }
@@ -28,7 +29,7 @@ impl ClientCore {
         }
     }
 
-    /// Whether a number is the waiting one.
+    /// Returns whether a number is that of the waiting request.
     fn waits_for(&self, seq: u32) -> bool
         ensures { result ≡ waits_for self.now.waiting seq }
     {
@@ -38,7 +39,7 @@ impl ClientCore {
         }
     }
 
-    /// Whether this node and this group were asked last.
+    /// Returns whether this node and this group were asked last.
     fn was_asked(&self, from: u32, group: Draw) -> bool
         ensures { result ≡ was_asked self.now.asked from group }
     {
@@ -50,7 +51,7 @@ impl ClientCore {
 }
 
 impl ClientCore {
-    /// An answer to the waiting request.
+    /// Acts on an answer to the waiting request.
     fn answered(
         &mut self,
         alloc: Global,
@@ -75,7 +76,7 @@ impl ClientCore {
         }
     }
 
-    /// The reply is kept, and the next request is sent, if there is one.
+    /// Keeps the reply, and sends the next request, if there is one.
     fn replied(
         &mut self,
         alloc: Global,
@@ -92,8 +93,8 @@ impl ClientCore {
         self.start(alloc, seq + 1)
     }
 
-    /// Follows an answer, other than a reply, of the node that was asked. Memory is taken only for
-    /// the request that is sent again, and for a group that becomes known.
+    /// Follows an answer, other than a reply, of the node that was asked. Memory is allocated only
+    /// for the request that is sent again, and for a group that becomes known.
     fn redirected(
         &mut self,
         alloc: Global,

@@ -1,4 +1,4 @@
-//! The value of a client, and what each input makes of it.
+//! A client, and how it acts on each input.
 ghost use Rattle.std.specs.Prelude.{◌≡◌, ◌≤◌, ◌⊎◌, [], length, IfOk, IsOk};
 ghost use Rattle.sc_actor.specs.declared.rows.Input.TheVariants.{Go, Told, Tick};
 ghost use Rattle.sc_base.specs.Limits.{most_requests};
@@ -14,8 +14,8 @@ use sc_mail::Mail;
 use std::alloc::Global;
 use std::marker::Model;
 
-/// A client: its requests, the one that waits, the groups that it knows, whom it asked last, and
-/// its replies. Contracts see all of it.
+/// A client: its requests, the one that waits, the groups that it knows, the node that it asked
+/// last, and its replies. Contracts see all of it.
 #[derive(Drop)]
 pub struct ClientCore {
     pub(crate) me: u16,
@@ -46,7 +46,8 @@ impl Model for ClientCore {
 }
 
 impl ClientCore {
-    /// A client with that number, those requests, at most 1,000, and one group that it knows.
+    /// Returns a client with this number, these requests, at most 1,000, and one group that it
+    /// knows.
     pub fn born(
         alloc: Global,
         me: u16,
@@ -66,14 +67,14 @@ impl ClientCore {
         })
     }
 
-    /// The client's number, from 1.
+    /// Returns the client's number, from 1.
     pub fn me(&self) -> u16
         ensures { result ≡ self.now.me }
     {
         self.me
     }
 
-    /// Its requests, numbered from 1 by their places.
+    /// Returns the client's requests, numbered from 1 by their places.
     pub fn requests(&self) -> &Sequence<Op>
         ensures same { result.now ≡ self.now.requests }
         ensures few { length self.now.requests ≤ most_requests }
@@ -81,22 +82,23 @@ impl ClientCore {
         &self.requests
     }
 
-    /// The number of the request that waits, if one does.
+    /// Returns the number of the request that waits for its reply, if one does.
     pub fn waiting(&self) -> Option<u32>
         ensures { result ≡ self.now.waiting }
     {
         self.waiting
     }
 
-    /// The replies to its requests, in their order.
+    /// Returns the replies to the client's requests, in the order of the requests.
     pub fn replies(&self) -> &Sequence<Reply>
         ensures { result.now ≡ self.now.replies }
     {
         &self.replies
     }
 
-    /// Takes an input by the client's table, and returns what it sends. An order, and a tick or a go
-    /// that sends nothing, take no memory. Out of memory, the client may only be dropped.
+    /// Acts on an input by the client's transition table, and returns the mail sent. Does not fail
+    /// on an order, nor on a tick or a start that sends nothing. After `Err(OutOfMemory)` the
+    /// contract says nothing of the client, so it may only be dropped.
     pub fn step(
         &mut self,
         alloc: Global,

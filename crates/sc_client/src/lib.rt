@@ -1,4 +1,4 @@
-//! A client: it sends its requests one after another, and follows what it is told of groups.
+//! A client: it sends its requests one after another, and follows what answers say of groups.
 #![tactic(auto)]
 
 mod answers;

@@ -9,7 +9,7 @@ use sc_base::{Draw, Dup, Op, OutOfMemory, Sequence};
 use sc_mail::{Mail, MailBody, client_number};
 use std::alloc::Global;
 
-/// The mail of a request.
+/// Returns the mail that carries a request.
 fn request_mail(
     alloc: Global,
     me: u16,
@@ -41,7 +41,7 @@ fn just(alloc: Global, mail: Mail) -> Result<Sequence<Mail>, OutOfMemory>
 }
 
 impl ClientCore {
-    /// The request that waits, with its number.
+    /// Returns the request that waits, with its number, if one does.
     fn waiting_request(&self) -> Option<(u32, &Op)>
         ensures { option_map (λ request. (request.0, request.1.now)) result
             ≡ waiting_request self.now }
@@ -52,7 +52,7 @@ impl ClientCore {
         }
     }
 
-    /// Sends the waiting request to a group's target. Where nothing is sent, no memory is taken.
+    /// Sends the waiting request to a group's target. Does not fail where nothing is sent.
     pub(crate) fn send_to(
         &mut self,
         alloc: Global,
@@ -72,8 +72,8 @@ impl ClientCore {
         just(alloc, mail)
     }
 
-    /// Sends the waiting request by a new choice of the group. Where nothing is sent, no memory is
-    /// taken.
+    /// Sends the waiting request to the group chosen for its key. Does not fail where nothing is
+    /// sent.
     pub(crate) fn send(&mut self, alloc: Global) -> Result<Sequence<Mail>, OutOfMemory>
         ensures sent { IfOk result (λ mails. request_sent self.old ≡ (self.new, mails)) }
         ensures none { (request_sent self.old).1 ≡ [] → IsOk result }
@@ -85,7 +85,8 @@ impl ClientCore {
         self.send_to(alloc, group)
     }
 
-    /// Sends the request with a number, if there is one. Where nothing is sent, no memory is taken.
+    /// Begins the request with this number and sends it, if there is one. Does not fail where
+    /// nothing is sent.
     pub(crate) fn start(&mut self, alloc: Global, seq: u32) -> Result<Sequence<Mail>, OutOfMemory>
         requires { 1 ≤ seq }
         ensures sent { IfOk result (λ mails. started seq self.old ≡ (self.new, mails)) }
@@ -99,8 +100,8 @@ impl ClientCore {
         Ok(Sequence::new(alloc))
     }
 
-    /// Prefers the member after a group's target, and sends the waiting request to it. Where nothing
-    /// is sent, no memory is taken.
+    /// Prefers the member after a group's target, and sends the waiting request to it. Does not
+    /// fail where nothing is sent.
     pub(crate) fn turn_on(
         &mut self,
         alloc: Global,
@@ -113,8 +114,8 @@ impl ClientCore {
         self.send_to(alloc, group)
     }
 
-    /// Asks the group that was asked last again, at the next node, where a request waits. Where
-    /// nothing is sent, no memory is taken.
+    /// Asks the group that was asked last again, at its next node, where a request waits. Does not
+    /// fail where nothing is sent.
     pub(crate) fn tick(&mut self, alloc: Global) -> Result<Sequence<Mail>, OutOfMemory>
         ensures sent { IfOk result
             (λ mails. client_ticked self.old self.old.waiting self.old.asked ≡ (self.new, mails)) }
