@@ -1,4 +1,4 @@
--- What it means to go through keys from a position on.
+-- The order of keys from a position on, round the ring.
 use Rattle.std.specs.Prelude.{◌≡◌, ℕ, ◌+◌, ◌-◌, ◌%◌, ◌^◌, ◌<◌, ◌≤◌, List, length, All}
 use Rattle.std.specs.List.{AllPairs}
 use Rattle.std.specs.Ordering.{nat_cmp}
@@ -10,7 +10,7 @@ use Rattle.sc_policy.specs.Wishes.{positions_from}
 abbrev pub far_from : ℕ → ℕ → ℕ
 far_from lo p = ((p + 2 ^ 32) - lo) % 2 ^ 32
 
--- of the keys of pairs, in the order of their bytes, each has one position, and none lies farther from the start than one that comes later
+-- pairs with ascending keys have one position each, and in the order from a start on no position is farther from the start than a later one
 abbrev pub KeysRiseFromTheStart : Type 0
 KeysRiseFromTheStart =
     (lo : ℕ) (pairs : List (List ℕ × List ℕ)) → lo < 2 ^ 32 → All (λ (pair : List ℕ × List ℕ). IsText longest_key pair.0) pairs → IsAscending (slice_cmp nat_cmp) pairs →

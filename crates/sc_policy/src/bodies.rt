@@ -1,11 +1,11 @@
-//! What a policy names.
+//! The orders that a policy can wish.
 ghost use Rattle.std.specs.Prelude.{◌≡◌};
 ghost use Rattle.sc_policy.specs.Wishes.{order_of};
 
 use sc_base::Draw;
 use sc_cmd::Order;
 
-/// What a policy wishes of a group, with no name yet for a group or a transaction that it makes.
+/// A policy's wish for a group, without a name for the group or transaction that it makes.
 #[derive(Clone, Copy, Debug, PartialEq, Eq)]
 pub enum Body0 {
     /// The group's part from `at` on becomes a group of its own.
@@ -17,7 +17,7 @@ pub enum Body0 {
 }
 
 impl Body0 {
-    /// The order to the group of that name.
+    /// Returns the order to the group with this name.
     pub fn order(self, group: Draw) -> Order
         ensures { result ≡ order_of group self }
     {

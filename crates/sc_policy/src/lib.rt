@@ -1,5 +1,7 @@
-//! When a group is to be reshaped: a crowded one is split, a small one merged into another, and of
-//! a full one a boundary moved. It says only what is wished; whether it may be is for the caller.
+//! When a group is to be reshaped: one with too many members is split, one with too few is merged
+//! with its successor, and of one with too many pairs a boundary is moved (Scatter, SOSP 2011,
+//! policies). This crate says only what is wished; whether the order is accepted is for the
+//! caller.
 #![tactic(auto)]
 
 mod bodies;

@@ -1,4 +1,4 @@
-//! What is wished of a group.
+//! What a policy wishes for a group.
 ghost use Rattle.std.specs.Prelude.{◌≡◌, nat_le, nat_lt, length, filter, slice_get};
 ghost use Rattle.sc_policy.specs.Wishes.{has_neighbour, middle_of, positions, middle_key, wants_split, wished, wished_of_two, wished_order};
 
@@ -6,21 +6,22 @@ use crate::bodies::Body0;
 use sc_base::{Key, Pairs, RingArc, Value};
 use sc_cmd::{Core, Order};
 
-/// More members are too many.
+/// The most members of a group that is not to be split.
 const MOST_MEMBERS: u8 = 7;
 
-/// Fewer members are too few.
+/// The fewest members of a group that is not to be merged.
 const FEWEST_MEMBERS: u8 = 3;
 
-/// More pairs are too many.
+/// The most pairs of a group whose boundary is not to be moved.
 const MOST_PAIRS: usize = 128;
 
-/// What a policy wishes of a group of that record with these pairs, if anything.
+/// Returns what a policy wishes for a group with this record and these pairs, if anything.
 ///
-/// With more than 7 members it is to be split in the middle of its arc. Else, if its successor is
-/// another group: with fewer than 3 members it is to take over its successor, and with more than
-/// 128 pairs its end is to move to the middle one of its keys. The lock is not looked at here, nor
-/// whether the order would be accepted. Takes no memory.
+/// A group with more than 7 members is to be split in the middle of its arc. Otherwise, if its
+/// successor is another group: one with fewer than 3 members is to take over its successor, and of
+/// one with more than 128 pairs the end is to move to the middle one of its keys. Neither the lock
+/// nor whether the order would be accepted is tested. Allocates nothing. Scatter, SOSP 2011,
+/// policies.
 pub fn wish(core: &Core, keys: &Pairs) -> Option<Body0>
     ensures { result ≡ wished core.now keys.now }
 {
@@ -34,7 +35,8 @@ pub fn wish(core: &Core, keys: &Pairs) -> Option<Body0>
     None
 }
 
-/// The order that a policy makes for a group of that record with these pairs, if it makes one.
+/// Returns the order that a policy makes for a group with this record and these pairs, if it makes
+/// one.
 pub fn wished_order(core: &Core, keys: &Pairs) -> Option<Order>
     ensures { result ≡ wished_order core.now keys.now }
 {
@@ -56,14 +58,14 @@ fn has_neighbour(core: &Core) -> bool
     !core.is_alone()
 }
 
-// The position in the middle.
+// Returns the position in the middle of the arc.
 fn middle_of(arc: &RingArc) -> u32
     ensures { result ≡ middle_of arc.now }
 {
     ((arc.lo() as u64 + arc.len() / 2) % (1 << 32)) as u32
 }
 
-// What is wished of a group that has a neighbour and is not split.
+// Returns the wish for a group that has a neighbour and is not split.
 fn wish_of_two(core: &Core, keys: &Pairs) -> Option<Body0>
     ensures { result ≡ wished_of_two core.now keys.now }
 {
@@ -81,7 +83,7 @@ fn wish_of_two(core: &Core, keys: &Pairs) -> Option<Body0>
     Some(Body0::Repart { at })
 }
 
-// The position of the key in the middle, of all from a position on round the ring.
+// Returns the position of the middle key, of all keys from `lo` on round the ring.
 fn middle_key(lo: u32, pairs: &[(Key, Value)]) -> u32
     ensures { result ≡ middle_key lo pairs.now }
 {
@@ -95,7 +97,7 @@ fn middle_key(lo: u32, pairs: &[(Key, Value)]) -> u32
     found.unwrap_or(0)
 }
 
-// How many keys lie at the position or above.
+// Returns how many keys lie at the position `lo` or above.
 fn count_above(lo: u32, pairs: &[(Key, Value)]) -> usize
     ensures { result ≡ length (filter (λ p. nat_le lo p) (positions pairs.now)) }
 {
@@ -106,7 +108,7 @@ fn count_above(lo: u32, pairs: &[(Key, Value)]) -> usize
         .count()
 }
 
-// The position of one of these, counted from 0.
+// Returns the position of the n-th key, counted from 0, of those at `lo` or above.
 fn nth_above(lo: u32, pairs: &[(Key, Value)], n: usize) -> Option<u32>
     ensures { result ≡ slice_get (filter (λ p. nat_le lo p) (positions pairs.now)) n }
 {
@@ -117,7 +119,7 @@ fn nth_above(lo: u32, pairs: &[(Key, Value)], n: usize) -> Option<u32>
         .nth(n)
 }
 
-// The position of one of the keys that lie below, counted from 0.
+// Returns the position of the n-th key, counted from 0, of those below `lo`.
 fn nth_below(lo: u32, pairs: &[(Key, Value)], n: usize) -> Option<u32>
     ensures { result ≡ slice_get (filter (λ p. nat_lt p lo) (positions pairs.now)) n }
 {
