@@ -86,7 +86,7 @@ put_behind true from node more all lt e =
     ∙ ap (λ l. from ∷ l) e
 put_behind false from node more all lt e = e
 
--- or in front of all others
+-- a node that the test leaves out is put before all others
 put_first : (test : ℕ → Bool) (node count : ℕ) → test node ≡ false → with_member (filter test (numbers_from node (suc count))) node ≡ filter (or_node node test) (numbers_from node (suc count))
 put_first test node count fails =
     let more = filter test (numbers_from (node + 1) count) in
@@ -156,7 +156,7 @@ with_sets test from count (set ∷ sets) each =
     ∙ with_sets (λ n. is_member set n || test n) from count sets each.1
     ∙ filter_agree (λ n. is_in_some sets n || (is_member set n || test n)) (λ n. is_in_some (set ∷ sets) n || test n) (λ n. turned (is_member set n) (is_in_some sets n) (test n)) (numbers_from from count)
 
--- the numbers of nodes are so many from 1 on
+-- the numbers of nodes are 1 to `most_nodes`
 abbrev IsNode : ℕ → Type 0
 IsNode node = (1 ≤ node) × (node ≤ most_nodes)
 

@@ -11,7 +11,7 @@ use Rattle.sc_node_table.specs.Definitions.{sent_all, sent_others, answered, nex
 use Rattle.sc_node_table.proofs.Runs.{g, b, mail, base}
 use Rattle.sc_node_table.proofs.TransactionRuns.{h, tx, left_core, right_core, bare, watch}
 
--- node 1 at the birth of these groups, where so many names are drawn
+-- node 1 at the creation of these groups, where `drawn` names are drawn already
 abbrev node : Bool → ℕ → List Base → NodeState
 node policy drawn groups = record (born_node 4 1 groups policy) { draws = record { node = 1; next = drawn + 1 } }
 
@@ -34,7 +34,7 @@ splits : tells (node true 0 (base eight ∷ [])) ≡ asks_eight 1 ∷ asks_eight
 unfolding ticked tick_row told_last asked_again sent_others reminded wishing pumped pumped_from found_for from_queues from_calls next_call offered sent_all answered
 splits = refl
 
--- .. and the child's name is drawn
+-- a split draws the child's name
 draws_split : draws_on (node true 0 (base eight ∷ [])) ≡ record { node = 1; next = 2 }
 unfolding names_after_ticks
 draws_split = refl
@@ -57,7 +57,7 @@ draws_both : draws_on (node true 0 two) ≡ record { node = 1; next = 3 }
 unfolding names_after_ticks
 draws_both = refl
 
--- nothing is ordered and nothing is told where the policy is off, where a watcher is bound, where no name is left, and where the order would be refused
+-- nothing is ordered and nothing is reported where the policy is off, where a watcher is bound, where no name is left, and where the order would be refused
 off : tells (node false 0 two) ≡ []
 unfolding ticked tick_row told_last asked_again sent_others reminded wishing pumped pumped_from found_for from_queues from_calls next_call offered sent_all answered
 off = refl

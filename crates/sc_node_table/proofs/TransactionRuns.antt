@@ -145,7 +145,7 @@ begins : (spoken true (before_of (left_core (1 ∷ []) Free [])) Changed (Begin 
 unfolding spoken spoken_mails told_begun went_on told_order sent_all
 begins = refl
 
--- .. also of a split, which no lawful journal begins so
+-- a Begin of a split, which is in no lawful journal, sends an offer too
 begins_split : (spoken true (before_of (left_core (1 ∷ []) Free [])) Changed (Begin tx (Divide 7 tx) 1) (at 1 (left_core (1 ∷ []) (Coordinating tx (Divide 7 tx) 1 None) []))).1 ≡ mail 1 2 (TxPrepare tx (record offer { body = Divide 7 tx })) ∷ []
 unfolding spoken spoken_mails told_begun went_on told_order sent_all
 begins_split = refl
@@ -160,12 +160,12 @@ votes : (watched_row 2 tx h Cast.Yes (vote_row 2 tx h (Says.Yes frozen) (vote_ro
 unfolding vote_row watched_row act_queued pumped pumped_from found_for from_queues from_calls next_call offered sent_all answered
 votes = refl
 
--- a Yes that comes after the decision is told it; a No is not
+-- a Yes that comes after the decision is answered with it; a No is not
 too_late : (vote_row 2 tx h (Says.No Why.Apart) (vote_row 2 tx h (Says.Yes frozen) (at 3 (left_core (1 ∷ []) Free ((tx, Abort) ∷ []))))).1 ≡ mail 3 2 (TxOutcome tx h Abort) ∷ []
 unfolding vote_row act_queued
 too_late = refl
 
--- what a Yes decides is told to the desk, and to the node that brought it; the desk is told by each replica
+-- what a Yes decides is reported to the desk by each replica, and sent to the node that sent the Yes
 decides : (spoken true (before_of (left_core (1 ∷ []) merging [])) (Decided (Merged into)) (RecordVote tx (Says.Yes frozen) 2) (at 1 (left_core (1 ∷ 2 ∷ []) Free []))).1
     ≡ mail 1 0 (Told 1 Committed) ∷ mail 1 2 (TxOutcome tx h (Merged into)) ∷ []
 unfolding spoken spoken_mails told_begun went_on told_order sent_all
@@ -196,7 +196,7 @@ hears : (spoken true (before_of (left_core (1 ∷ []) merging [])) Changed (Reco
 unfolding spoken spoken_mails told_begun went_on told_order sent_all
 hears = refl
 
--- what its Yes decides is told to the participant, and then to it
+-- what a watcher's Yes decides is sent to the participant, and then to the watcher
 releases : (spoken true (before_of (left_core (1 ∷ []) (Coordinating tx Merge 1 (Some heard)) [])) (Decided (Merged into)) (RecordWatch tx Cast.Yes 3) (at 1 (left_core (1 ∷ 2 ∷ []) Free []))).1
     ≡ mail 1 0 (Told 1 Committed) ∷ mail 1 2 (TxOutcome tx h (Merged into)) ∷ mail 1 3 (TxOutcome tx w (Merged into)) ∷ []
 unfolding spoken spoken_mails told_begun went_on told_order sent_all
@@ -235,7 +235,7 @@ watches : (reminded (at 2 (right_core (Watching tx watch) ((tx, Cast.Yes) ∷ []
 unfolding reminded sent_all
 watches = refl
 
--- an order of a merge takes the node's next name and is begun; with no name left it is told in words, and no name is drawn
+-- an order of a merge takes the node's next name and is begun; with no name left it is refused, and no name is drawn
 abbrev pub line : Order → OrderLine
 line order = record { number = 1; order = order }
 

@@ -1,4 +1,4 @@
--- The waiting commands of transactions: of one kind and one transaction one is enough.
+-- The queued commands of transactions: of each kind and transaction at most one is queued.
 use Rattle.std.specs.Prelude.{Bool, false, ◌||◌, [], ◌∷◌, ◌++◌, if◌then◌else◌}
 use Rattle.std.specs.List.{list_any}
 use Rattle.sc_base.specs.Definitions.{same_draw}
@@ -13,32 +13,32 @@ abbrev pub is_prepared : Draw → Command → Bool
 is_prepared tx (Prepared other offer) = same_draw tx other
 is_prepared tx _ = false
 
--- .. the record of a participant's vote
+-- whether a command records a participant's vote in this transaction
 abbrev pub is_vote_record : Draw → Command → Bool
 is_vote_record tx (RecordVote other vote by) = same_draw tx other
 is_vote_record tx _ = false
 
--- .. the end of the waiting
+-- whether a command gives this transaction up
 abbrev pub is_giving_up : Draw → Command → Bool
 is_giving_up tx (GiveUp other) = same_draw tx other
 is_giving_up tx _ = false
 
--- .. the outcome in a party's log
+-- whether a command brings the outcome of this transaction into a party's log
 abbrev pub is_finish : Draw → Command → Bool
 is_finish tx (Finish other outcome) = same_draw tx other
 is_finish tx _ = false
 
--- .. the vote on becoming a watcher
+-- whether a command is the vote on becoming a watcher in this transaction
 abbrev pub is_watched : Draw → Command → Bool
 is_watched tx (Watched other watch) = same_draw tx other
 is_watched tx _ = false
 
--- .. the record of a watcher's vote
+-- whether a command records a watcher's vote in this transaction
 abbrev pub is_watch_record : Draw → Command → Bool
 is_watch_record tx (RecordWatch other vote by) = same_draw tx other
 is_watch_record tx _ = false
 
--- whether another command is of the same kind and the same transaction; calls, orders and a Noop are of none
+-- whether the second command is of the same kind and transaction as the first; requests, orders and a Noop have no such kind
 abbrev pub is_of_kind : Command → Command → Bool
 is_of_kind (Prepared tx offer) other = is_prepared tx other
 is_of_kind (RecordVote tx vote by) other = is_vote_record tx other
@@ -53,14 +53,14 @@ is_of_kind (Leave node order) other = false
 is_of_kind (Split at child order) other = false
 is_of_kind (Begin tx body order) other = false
 
--- whether one of its kind and transaction waits, is in flight or is ready
+-- whether a command of this kind and transaction is queued, in flight or ready
 abbrev pub has_act : Command → ReplicaState → Bool
 has_act act r = list_any (is_of_kind act) r.acts || list_any (is_of_kind act) (under_way r)
 
--- it waits last, unless there is one
+-- the replica after a command of a transaction is queued last, unless there is one of its kind and transaction
 abbrev pub with_act : Command → ReplicaState → ReplicaState
 with_act act r = if has_act act r then r else record r { acts = r.acts ++ act ∷ [] }
 
--- .. and the pump is tried
+-- a command of a transaction is queued, and the pump is tried
 unfoldable pub act_queued : Command → Place → Place
 act_queued act (r, mails) = pumped (with_act act r, mails)

@@ -1,4 +1,4 @@
--- A replica begins to run, or runs no longer.
+-- How a replica begins to run for leader, and how it stops.
 use Rattle.std.specs.Prelude.{◌≡◌, ℕ, ◌≤◌, ◌+◌, ◌-◌, ◌^◌, ◌==◌, ◌&&◌, Bool, true, false, List, [], filter, fold, if◌then◌else◌, Option, Some}
 use Rattle.std.specs.List.{list_any}
 use Rattle.sc_base.specs.Definitions.{Each, most_nodes, is_member, united}
@@ -15,20 +15,20 @@ use Rattle.sc_node_table.specs.Mails.{sent_all, answered_all, dismissed_all}
 abbrev pub is_in_some : List (List ℕ) → ℕ → Bool
 is_in_some sets node = list_any (λ set. is_member set node) sets
 
--- the nodes, of 1 to so many, that are in one of these sets
+-- the nodes, from 1 to `most`, that are in one of these sets
 unfoldable pub nodes_to : ℕ → List (List ℕ) → List ℕ
 nodes_to most sets = filter (λ node. is_in_some sets node) (numbers_from 1 most)
 
--- the nodes that are in one of these sets: each of 1 to 32 that is a member of one
+-- the nodes, from 1 to 32, that are in one of these sets
 abbrev pub open_nodes : List (List ℕ) → List ℕ
 open_nodes sets = nodes_to most_nodes sets
 
--- where all members of the sets have numbers of nodes, these are the union of the sets, ascending
+-- where all members of the sets are numbers of nodes, `open_nodes` is the union of the sets, ascending
 abbrev pub AsksTheOpenSets : Type 0
 AsksTheOpenSets =
     (sets : List (List ℕ)) → Each (λ set. Each (λ node. (1 ≤ node) × (node ≤ most_nodes)) set) sets → open_nodes sets ≡ fold united [] sets
 
--- Election: it runs with the next ballot of its own and asks the members of the open slots to promise it (Paxos Made Simple, section 2.2, phase 1). The queues stay. No round is above 2^32 - 1
+-- Election: the replica runs with its next ballot and asks the members of the open slots for promises (Paxos Made Simple, section 2.2, phase 1a). Its queues stay. No round is above 2^32 - 1
 unfoldable pub elected : Place → Place
 elected (r, mails) =
     if r.top.round == 2 ^ 32 - 1 then (r, mails) else
@@ -37,18 +37,18 @@ elected (r, mails) =
       sent_all r.me (open_nodes r.sets) (Prepare (name_of r) ballot (next r)) mails,
     )
 
--- it runs no longer: each call in flight, ready or waiting is answered so, and the desk is told of each waiting order that this node does not lead
+-- the replica stops running: the client of each request in flight, ready or queued gets this answer, and of each queued order it is reported to the desk that this node does not lead
 unfoldable pub ended : Option ℕ → AnswerBody → Place → Place
 ended hint answer (r, mails) = (
   record r { running = false; leader = new_leader r.leader.ballot (next r); ready = []; acts = []; calls = []; hint = hint },
   dismissed_all r.me (name_of r) hint answer r.calls (answered_all r.me (name_of r) answer (under_way r) mails),
 )
 
--- Stop with a hint
+-- the replica stops running, and takes this node for the leader
 abbrev pub stopped : Option ℕ → Place → Place
 stopped hint place = ended hint (Says.NotLeader hint) place
 
--- the rule on a ballot of a Prepare, Accept or Nack: it raises the greatest ballot seen, and a leader of a lower one stops
+-- what the ballot of a Prepare, Accept or Nack does: it raises the greatest ballot seen, and a replica that runs with a lower one stops
 unfoldable pub saw : Ballot → Place → Place
 saw ballot (r, mails) =
     let seen : ReplicaState = if below r.top ballot then record r { top = ballot } else r in

@@ -1,4 +1,4 @@
--- Execute: the command of the next slot, counted where it was ready, else learnt. The parts stand in the order of their numbers.
+-- Execute: what a replica does with the command of its next slot, which it has counted as leader or has learnt (Paxos Made Simple, sections 2.3 and 3).
 use Rattle.std.specs.Prelude.{ℕ, ◌+◌, ◌==◌, ◌&&◌, ◌||◌, not, filter, nat_lt, Bool, true, false, List, [], ◌∷◌, ◌++◌, length, if◌then◌else◌, Option, Some, None}
 use Rattle.sc_cmd.specs.declared.links.Route.{Route}
 use Rattle.sc_cmd.specs.declared.commands.Command.{Command}
@@ -28,13 +28,13 @@ use Rattle.sc_node_table.specs.Spoken.{before_of, spoken}
 abbrev pub with_entry : Command → LogState Command → LogState Command
 with_entry command log = (learnt (next_of log) command log).1
 
--- 1. it is applied and kept, one more slot is open, decided by the members in the new state, and what is not above the floor is forgotten ..
+-- the replica after the command is applied and logged: one more slot is open, whose members are those of the new state, and what is not above the floor is forgotten
 unfoldable pub entered : Command → ReplicaState → ReplicaState
 entered command r =
     let after = (applied r.group command).0 in
     forgotten (next r) (record r { group = after; log = with_entry command r.log; sets = rest_of r.sets ++ after.core.members ∷ []; waits = waits_in after.core.lock r.waits })
 
--- .. a counted call is answered by its effect, or goes back
+-- the answer to a request by its effect, or None where the request is queued again
 abbrev pub answer_of : Effect → Option AnswerBody
 answer_of (Was.Done reply) = Some (Says.Value reply)
 answer_of (Was.Again reply) = Some (Says.Value reply)
@@ -48,13 +48,13 @@ answer_of (Was.Voted vote) = None
 answer_of (Was.Decided outcome) = None
 answer_of (Was.Refused why) = None
 
--- the client of a call is sent the answer, if there is one; else the call goes back
+-- the client of a counted request gets the answer, or the request is queued again where there is none
 unfoldable pub told_call : Option AnswerBody → Command → Place → Place
 told_call (Some answer) (Call client seq op) (r, mails) = (r, answer_to r.me (name_of r) client seq answer mails)
 told_call None (Call client seq op) (r, mails) = (put_back (Call client seq op) r, mails)
 told_call answer command place = place
 
--- .. and what a join or a leave came to is told by each replica that executes it; splits and transactions are spoken of apart
+-- the result of a join or a leave by its effect, which each replica that executes it reports; splits and transactions are reported elsewhere
 abbrev pub order_result : Command → Effect → Option ToldResult
 order_result (Join node order) effect = result_of effect
 order_result (Leave node order) effect = result_of effect
@@ -69,52 +69,52 @@ order_result (Finish tx outcome) effect = None
 order_result (Watched tx watch) effect = None
 order_result (RecordWatch tx vote by) effect = None
 
--- the desk is told the result, if there is one
+-- the result, if there is one, is reported to the desk
 unfoldable pub told_effect : Option ToldResult → Command → Place → Place
 told_effect None command place = place
 told_effect (Some result) command (r, mails) = (r, told_order r.me (order_number command) result mails)
 
--- .. both
+-- the answer to a counted request and the result of an order are sent
 unfoldable pub announced : Bool → Effect → Command → Place → Place
 announced counted effect command place =
     told_effect (order_result command effect) command (if counted then told_call (answer_of effect) command place else place)
 
--- 2. the members before a counted command learn it ..
+-- the members before a counted command learn the command
 unfoldable pub learnt_to : Bool → List ℕ → ℕ → Command → Place → Place
 learnt_to counted before slot command (r, mails) =
     if counted then (r, sent_others r.me before (Learn (name_of r) slot command) mails) else (r, mails)
 
--- .. and each member that it added is sent the state, and asked to promise this leader's ballot
+-- each member that a counted command has added gets the state, and is asked to promise this leader's ballot
 unfoldable pub welcomed : Bool → List ℕ → Place → Place
 welcomed counted before (r, mails) =
     if counted then welcomed_all (filter (λ node. not (is_member before node)) (members r)) (r, mails) else (r, mails)
 
--- 4. what is in flight or ready at its slot is over; a command that lost its slot to a learnt one goes back
+-- the replica after it has executed a command at a slot where it had another one in flight or ready: the other one is queued again, unless the executed one was counted or equals it
 abbrev pub slot_lost : Bool → Command → Option Command → ReplicaState → ReplicaState
 slot_lost counted command None r = r
 slot_lost counted command (Some other) r = if counted || same_command other command then r else put_back other r
 
--- the slot has nothing in flight or ready any more
+-- the replica without what it has in flight or ready at the executed slot
 unfoldable pub landed : Bool → ℕ → Command → Place → Place
 landed counted slot command (r, mails) =
     let over : ReplicaState = record r { leader = without_flight_at slot r.leader; ready = without_slot r.ready slot } in
     (slot_lost counted command (flying r slot) over, mails)
 
--- 5. one that runs ends where the group is gone, and stops where this node is no member
+-- a replica that runs stops where the group is gone, or where its node is no member
 abbrev pub left_gone : Option Route → Place → Place
 left_gone (Some into) place = ended None (Says.Gone into) place
 left_gone None (r, mails) = if is_member (members r) r.me then (r, mails) else stopped (Some (least_of (members r))) (r, mails)
 
--- one that does not run stays as it is
+-- a replica stops where it must; one that does not run stays as it is
 unfoldable pub left : Place → Place
 left (r, mails) = if r.running then left_gone r.group.core.gone (r, mails) else (r, mails)
 
--- 6. one that does not run looks for a leader where its hint is no member: the least member, and where that is itself it is elected
+-- whether there is a node and it is among these nodes
 abbrev pub is_among : List ℕ → Option ℕ → Bool
 is_among nodes None = false
 is_among nodes (Some node) = is_member nodes node
 
--- where the group is gone, no leader is looked for
+-- a replica whose leader is no member takes the least member for the leader, and runs itself where it is that member; of a group that is gone no leader is looked for
 abbrev pub looked_for : Option Route → Place → Place
 looked_for (Some into) place = place
 looked_for None (r, mails) =
@@ -122,11 +122,11 @@ looked_for None (r, mails) =
     else if least_of (members r) == r.me then elected (record r { hint = Some r.me }, mails)
     else (record r { hint = Some (least_of (members r)) }, mails)
 
--- one that runs looks for none
+-- a replica that does not run looks for a leader
 unfoldable pub looked : Place → Place
 looked (r, mails) = if r.running then (r, mails) else looked_for r.group.core.gone (r, mails)
 
--- 1 to 6 but for 3
+-- the execution of one command, without the children and the ready commands that follow
 unfoldable pub executed_one : Bool → Command → Place → Place
 executed_one counted command (r, mails) =
     let effect = (applied r.group command).1 in
@@ -137,37 +137,37 @@ executed_one counted command (r, mails) =
     let place5 = landed counted (next r) command place4 in
     looked (left place5)
 
--- 3. a child is made where the node is one of its members
+-- the child of an entry, if it makes one and the node is one of its members
 abbrev pub child_at : ℕ → Option Base → List Base
 child_at me None = []
 child_at me (Some child) = if is_member child.core.members me then child ∷ [] else []
 
--- .. the child of the command that is executed next
+-- the child of the command that is executed next, if it makes one for this node
 abbrev pub next_child : Command → ReplicaState → List Base
 next_child command r = child_at r.me (child_by r.group command)
 
--- whether a counted command may be executed at the next slot: the pump offers none above the last slot by more than the other open slots
+-- whether a counted command may be executed at the next slot: the slot is below the last slot plus the number of open slots, since the pump offers none above that
 abbrev pub has_room : ReplicaState → Bool
 has_room r = nat_lt (next r) (last_slot + length r.sets)
 
--- 7. where it runs, the ready command of the new next slot
+-- the ready command of the next slot, where the replica runs and may execute it
 abbrev pub next_ready : ReplicaState → Option Command
 next_ready r = if r.running && has_room r then at_slot r.ready (next r) else None
 
--- 8. each execution ends with the pump; the child that it made comes before those of what followed it
+-- the end of an execution: the pump is tried, and the child that the execution made comes before those of the executions that followed
 abbrev pub ending : List Base → Executed → Executed
 ending made (place, children) = (pumped place, made ++ children)
 
--- the ready command is executed as counted, and so on. What was ready bounds how often: each execution takes one of it away and none adds one
+-- the ready commands of the next slots are executed one after another; the list only bounds their number, since each execution takes one ready command away and adds none
 unfoldable pub executed_ready : List (ℕ × Command) → Place → Executed
 executed_ready [] place = childless place
 executed_ready (e ∷ es) place =
     elim (next_ready place.0) [ None ↦ childless place | Some command ↦ ending (next_child command place.0) (executed_ready es (executed_one true command place)) ]
 
--- 7
+-- all ready commands of the next slots are executed
 abbrev pub all_ready : Place → Executed
 all_ready place = executed_ready place.0.ready place
 
--- the whole of Execute
+-- Execute: the command is executed, and then the ready commands of the slots behind it
 unfoldable pub executed : Bool → Command → Place → Executed
 executed counted command place = ending (next_child command place.0) (all_ready (executed_one counted command place))

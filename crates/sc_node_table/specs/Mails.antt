@@ -1,4 +1,4 @@
--- Mails of a replica, each put behind those that are there.
+-- The mails of a replica. Each is put behind those that are there.
 use Rattle.std.specs.Prelude.{ℕ, ◌+◌, ◌==◌, List, [], ◌∷◌, ◌++◌, if◌then◌else◌, Option}
 use Rattle.sc_base.specs.Definitions.{client_actor}
 use Rattle.sc_base.specs.declared.names.Draw.{Draw}
@@ -17,35 +17,35 @@ use Rattle.sc_policy.specs.Definitions.{is_told}
 abbrev pub sent : ℕ → ℕ → MailBody → List Mail → List Mail
 sent me to body mails = mails ++ record { from = me; to = to; body = body } ∷ []
 
--- the same mail to each of several nodes, in their order
+-- the same body is sent to each of these nodes, in their order
 unfoldable pub sent_all : ℕ → List ℕ → MailBody → List Mail → List Mail
 sent_all me [] body mails = mails
 sent_all me (node ∷ nodes) body mails = sent_all me nodes body (sent me node body mails)
 
--- ... to each but the sender
+-- the same body is sent to each of these nodes but the sender, in their order
 unfoldable pub sent_others : ℕ → List ℕ → MailBody → List Mail → List Mail
 sent_others me [] body mails = mails
 sent_others me (node ∷ nodes) body mails = sent_others me nodes body (if node == me then mails else sent me node body mails)
 
--- an answer to a client
+-- an answer is sent to a client
 abbrev pub answer_to : ℕ → Draw → ℕ → ℕ → AnswerBody → List Mail → List Mail
 answer_to me group client seq answer mails = sent me (client_actor client) (Answer group seq answer) mails
 
--- the client of a call is answered so
+-- the client of a request gets this answer; of any other command nothing is sent
 unfoldable pub answered : ℕ → Draw → AnswerBody → Command → List Mail → List Mail
 answered me group answer (Call client seq op) mails = answer_to me group client seq answer mails
 answered me group answer _ mails = mails
 
--- each of these commands, in their order
+-- the client of each request among these commands gets this answer, in their order
 unfoldable pub answered_all : ℕ → Draw → AnswerBody → List Command → List Mail → List Mail
 answered_all me group answer [] mails = mails
 answered_all me group answer (command ∷ commands) mails = answered_all me group answer commands (answered me group answer command mails)
 
--- the desk is told what became of an order
+-- the result of an order is reported to the desk
 abbrev pub told_desk : ℕ → ℕ → ToldResult → List Mail → List Mail
 told_desk me number result mails = sent me 0 (Told number result) mails
 
--- the number of the order that a command is of: 0 where a policy made it, and where it is of none
+-- the number of the order that a command comes from, or 0 where a policy ordered it or it comes from none
 abbrev pub order_number : Command → ℕ
 order_number (Join node order) = order
 order_number (Leave node order) = order
@@ -60,16 +60,16 @@ order_number (Finish tx outcome) = 0
 order_number (Watched tx watch) = 0
 order_number (RecordWatch tx vote by) = 0
 
--- ... and nothing of an order without a number
+-- the result of an order is reported to the desk, unless its number is 0
 unfoldable pub told_order : ℕ → ℕ → ToldResult → List Mail → List Mail
 told_order me number result mails = if is_told number then told_desk me number result mails else mails
 
--- a waiting command of one that runs no longer: the client of a call is answered so, and of an order it is told that this node, which takes another for the leader, does not lead
+-- the client of a queued request gets this answer; of a queued order it is reported that this node, which takes `hint` for the leader, does not lead
 unfoldable pub dismissed : ℕ → Draw → Option ℕ → AnswerBody → Command → List Mail → List Mail
 dismissed me group hint answer (Call client seq op) mails = answer_to me group client seq answer mails
 dismissed me group hint answer command mails = told_order me (order_number command) (Refused (NotLeader hint)) mails
 
--- each of these waiting commands, in their order
+-- each of these queued commands is answered or reported, in their order
 unfoldable pub dismissed_all : ℕ → Draw → Option ℕ → AnswerBody → List Command → List Mail → List Mail
 dismissed_all me group hint answer [] mails = mails
 dismissed_all me group hint answer (command ∷ commands) mails = dismissed_all me group hint answer commands (dismissed me group hint answer command mails)

@@ -1,4 +1,4 @@
--- A node: its replicas, one a group, and its table.
+-- A node: its replicas, one for each group, and its transition table.
 use Rattle.std.specs.Prelude.{ℕ, ◌==◌, ◌&&◌, ◌||◌, not, nat_le, nat_lt, length, Bool, true, List, [], ◌∷◌, map, filter, find, if◌then◌else◌, Option, Some, None, is_some}
 use Rattle.std.specs.List.{list_all}
 use Rattle.sc_base.specs.Definitions.{most_nodes, Drawer, same_draw, is_member}
@@ -22,18 +22,18 @@ use Rattle.sc_node_table.specs.Rows.{mailed, tick_row, made_by}
 use Rattle.sc_node_table.specs.Ordering.{ordered_row, names_after}
 use Rattle.sc_node_table.specs.Policy.{names_after_tick}
 
--- the node's number, the names that it draws, whether it has a policy, and its replicas in the order of their groups' names
+-- the state of a node: its number, the generator of its names, whether it has a policy, and its replicas in the order of their groups' names
 pub record NodeState : Type 0 where
   pub me : ℕ
   pub draws : Drawer
   pub policy : Bool
   pub replicas : List ReplicaState
 
--- the replicas at the birth of groups that are in the order of their names, so many slots of a log of which are open at a time: one of each group of which the node is a member
+-- the first replicas of a node: one for each of these groups of which the node is a member; `ahead` slots of a log are open at a time
 abbrev pub born_replicas : ℕ → ℕ → List Base → List ReplicaState
 born_replicas ahead me groups = map (λ base. born_replica ahead me base) (filter (λ base. is_member base.core.members me) groups)
 
--- a node at the birth of groups, with a policy or without
+-- a node at the start, with these groups, and with a policy or without
 abbrev pub born_node : ℕ → ℕ → List Base → Bool → NodeState
 born_node ahead me groups policy = record {
   me = me;
@@ -42,30 +42,30 @@ born_node ahead me groups policy = record {
   replicas = born_replicas ahead me groups;
 }
 
--- the replica of a group
+-- the replica of a group, if the node has one
 abbrev pub replica_of : Draw → List ReplicaState → Option ReplicaState
 replica_of group replicas = find (λ r. same_draw (name_of r) group) replicas
 
--- the replicas with another value of that group's
+-- the replicas with the one of this group replaced
 abbrev pub with_replica : Draw → ReplicaState → List ReplicaState → List ReplicaState
 with_replica group new [] = []
 with_replica group new (r ∷ replicas) = if same_draw (name_of r) group then new ∷ replicas else r ∷ with_replica group new replicas
 
--- whether a name stands before another, and the replicas with one more, in the order of the names
+-- whether a name comes before another, by node and then by count
 abbrev pub is_before : Draw → Draw → Bool
 is_before a b = nat_lt a.node b.node || ((a.node == b.node) && nat_lt a.count b.count)
 
--- the replicas with this one more, at its place in the order
+-- the replicas with a new one in its place by name
 abbrev pub with_new : ReplicaState → List ReplicaState → List ReplicaState
 with_new new [] = new ∷ []
 with_new new (r ∷ replicas) = if is_before (name_of r) (name_of new) then r ∷ with_new new replicas else new ∷ r ∷ replicas
 
--- whether these groups stand in the order of their names, none twice
+-- whether these groups are in the strict order of their names
 abbrev pub are_in_order : List Base → Bool
 are_in_order [] = true
 are_in_order (base ∷ groups) = list_all (λ other. is_before base.core.id other.core.id) groups && are_in_order groups
 
--- the group that a mail is for, if a row of the table takes it
+-- the group that a mail is for, if a replica acts on such a mail
 abbrev pub group_of_mail : MailBody → Option Draw
 group_of_mail (Request group client seq op) = Some group
 group_of_mail (Prepare group ballot from_slot) = Some group
@@ -85,7 +85,7 @@ group_of_mail (TxWatch tx watch) = Some watch.part
 group_of_mail (TxWatched tx coord part vote) = Some coord
 group_of_mail (ToldMail order result) = None
 
--- what is sent where there is no replica of the group
+-- the mail that a node sends in answer to a mail for a group of which it has no replica
 abbrev pub absent : ℕ → ℕ → MailBody → List Mail
 absent me from (Request group client seq op) = answer_to me group client seq (Says.NotLeader None) []
 absent me from (Prepare group ballot from_slot) = sent me from (Ask group 0) []
@@ -105,22 +105,22 @@ absent me from (TxWatch tx watch) = sent me from (TxElsewhere tx watch.coord Non
 absent me from (TxWatched tx coord part vote) = []
 absent me from (ToldMail order result) = []
 
--- a node without a replica of the group makes one of the state that it is sent, with the members of the open slots
+-- the node with a new replica, and the mail that the replica has sent
 abbrev pub with_made : Place → NodeState → NodeState × List Mail
 with_made (r, mails) node = (record node { replicas = with_new r node.replicas }, mails)
 
--- a mail for a group of which the node has no replica
+-- what a node does with a mail for a group of which it has no replica: it makes one of an Install with the right number of open slots, and answers any other mail
 abbrev pub unknown : ℕ → MailBody → NodeState → NodeState × List Mail
 unknown from (Install group slot base sets) node =
     if not (length sets == slots_ahead) || nat_lt last_slot slot then (node, [])
     else with_made (made_by node.me from group slot base sets) node
 unknown from body node = (node, absent node.me from body)
 
--- only a request may come from others than nodes
+-- whether an actor is a node
 abbrev pub is_node : ℕ → Bool
 is_node from = nat_le 1 from && nat_le from most_nodes
 
--- whether a mail may come from this actor
+-- whether a mail of this body may come from this actor: only a request may come from an actor that is no node
 abbrev pub may_come : ℕ → MailBody → Bool
 may_come from (Request group client seq op) = true
 may_come from (Answer group seq answer) = is_node from
@@ -140,30 +140,30 @@ may_come from (TxWatch tx watch) = is_node from
 may_come from (TxWatched tx coord part vote) = is_node from
 may_come from (ToldMail order result) = is_node from
 
--- the replica of a child is made as at birth, unless there is one
+-- the node with a replica of a child in its first state, unless it has a replica of that group already
 abbrev pub with_born : Base → NodeState → NodeState
 with_born child node =
     if is_some (replica_of child.core.id node.replicas) then node
     else record node { replicas = with_new (born_replica slots_ahead node.me child) node.replicas }
 
--- .. of each of these children
+-- the node with a replica of each of these children
 unfoldable pub with_children : List Base → NodeState → NodeState
 with_children [] node = node
 with_children (child ∷ children) node = with_children children (with_born child node)
 
--- a mail for the replica of a group
+-- what a node does with a mail for a group, by its replica of the group, if it has one
 abbrev pub taken_by : Option ReplicaState → Draw → ℕ → MailBody → NodeState → NodeState × List Mail
 taken_by None group from body node = unknown from body node
 taken_by (Some r) group from body node =
     let after = mailed from body (r, []) in
     (with_children after.1 (record node { replicas = with_replica group after.0.0 node.replicas }), after.0.1)
 
--- a mail by the group that it is for; one for no group changes nothing
+-- what a node does with a mail, by the group that it is for; a mail for no group changes nothing
 abbrev pub routed : Option Draw → ℕ → MailBody → NodeState → NodeState × List Mail
 routed None from body node = (node, [])
 routed (Some group) from body node = taken_by (replica_of group node.replicas) group from body node
 
--- the node takes a mail
+-- what a node does with a mail from an actor
 abbrev pub on_mail : ℕ → MailBody → NodeState → NodeState × List Mail
 on_mail from body node = if may_come from body then routed (group_of_mail body) from body node else (node, [])
 
@@ -176,18 +176,18 @@ group_of_order (An.Merge group) = group
 group_of_order (An.Repart group at) = group
 group_of_order (An.Migrate group node) = group
 
--- an order for the replica of its group
+-- what a node does with an order, by its replica of the order's group; without one it refuses the order
 abbrev pub ordered_of : Option ReplicaState → OrderLine → NodeState → NodeState × List Mail
 ordered_of None line node = (node, told_desk node.me line.number (Refused (NotLeader None)) [])
 ordered_of (Some r) line node =
     let after = ordered_row node.draws line (r, []) in
     (record node { draws = names_after node.draws line r; replicas = with_replica (group_of_order line.order) after.0 node.replicas }, after.1)
 
--- the node takes an order
+-- what a node does with an order
 abbrev pub on_order : OrderLine → NodeState → NodeState × List Mail
 on_order line node = ordered_of (replica_of (group_of_order line.order) node.replicas) line node
 
--- each replica ticks, in their order, with the names that those before it left
+-- each replica of a node ticks, in their order, with the names that those before it have left
 unfoldable pub ticked : Bool → Drawer → List ReplicaState → List Mail → List ReplicaState × List Mail
 ticked on drawer [] mails = ([], mails)
 ticked on drawer (r ∷ replicas) mails =
@@ -195,18 +195,18 @@ ticked on drawer (r ∷ replicas) mails =
     let others = ticked on (names_after_tick on drawer r) replicas after.1 in
     (after.0 ∷ others.0, others.1)
 
--- .. and the names that all leave
+-- the names that are left after each replica has ticked
 unfoldable pub names_after_ticks : Bool → Drawer → List ReplicaState → Drawer
 names_after_ticks on drawer [] = drawer
 names_after_ticks on drawer (r ∷ replicas) = names_after_ticks on (names_after_tick on drawer r) replicas
 
--- the node ticks
+-- what a node does at a tick of its clock
 abbrev pub on_tick : NodeState → NodeState × List Mail
 on_tick node =
     let after = ticked node.policy node.draws node.replicas [] in
     (record node { draws = names_after_ticks node.policy node.draws node.replicas; replicas = after.0 }, after.1)
 
--- a node's table
+-- the transition table of a node: its state after an input, and the mail sent
 abbrev pub node_table : NodeState → Input Mail OrderLine → NodeState × List Mail
 node_table node (Got mail) = on_mail mail.from mail.body node
 node_table node Tick = on_tick node

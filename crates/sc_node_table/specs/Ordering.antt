@@ -1,4 +1,4 @@
--- Orders of all kinds: which are taken, and the names that they take of the node.
+-- Orders of all kinds: which are accepted, and the names that they take from the node.
 use Rattle.std.specs.Prelude.{ℕ, Bool, true, false, ◌-◌, ◌^◌, ◌==◌, ◌&&◌, ◌||◌, not, if◌then◌else◌, Option, Some, None, is_some, is_none}
 use Rattle.sc_base.specs.Definitions.{Drawer, next_name, drawn_on}
 use Rattle.sc_base.specs.declared.names.Draw.{Draw}
@@ -17,7 +17,7 @@ use Rattle.sc_node_table.specs.Mails.{told_desk}
 use Rattle.sc_node_table.specs.Queues.{with_call}
 use Rattle.sc_node_table.specs.Pump.{pumped}
 
--- the command of an order, with a name for its child or its transaction
+-- the command of an order, with this name for its child or its transaction
 abbrev pub ordered_command : Draw → ℕ → Order → Command
 ordered_command name number (An.Join node group) = Join node number
 ordered_command name number (An.Leave node group) = Leave node number
@@ -35,35 +35,35 @@ takes_name (An.Merge group) = true
 takes_name (An.Repart group at) = true
 takes_name (An.Migrate group node) = true
 
--- whether a node has drawn all its names
+-- whether a node has no name left
 abbrev pub has_drawn_all : Drawer → Bool
 has_drawn_all drawer = drawer.next == 2 ^ 32 - 1
 
--- 1. not where the group is gone or another node leads it, and none that takes a name where there is none left; what else refuses it comes between
+-- the refusal of an order that takes a name where the node has none left
 abbrev pub named_refused : Drawer → Order → ReplicaState → Option OrderRefusal
 named_refused drawer order r = if takes_name order && has_drawn_all drawer then Some (NotLeader r.hint) else None
 
--- the first refusal, or the one that comes after
+-- the first refusal, if there is one, or else the second
 abbrev pub first_of_both : Option OrderRefusal → Option OrderRefusal → Option OrderRefusal
 first_of_both (Some why) other = Some why
 first_of_both None other = other
 
--- why an order is not taken, if it is not
+-- why an order is not accepted, if so: NotLeader where the group is gone or the replica is not its settled leader, then what the group refuses, and then that no name is left
 abbrev pub untaken : Drawer → OrderLine → ReplicaState → Option OrderRefusal
 untaken drawer line r =
     if is_some r.group.core.gone || not (settled r) then Some (NotLeader r.hint)
     else first_of_both (refusal_of r.group.core (ordered_command (next_name drawer) line.number line.order)) (named_refused drawer line.order r)
 
--- it waits last, or the desk is told why not
+-- an order that is accepted is queued last, and the pump is tried; a refusal is reported to the desk
 abbrev pub taken_or_told : Option OrderRefusal → ℕ → Command → Place → Place
 taken_or_told (Some why) number command (r, mails) = (r, told_desk r.me number (Refused why) mails)
 taken_or_told None number command (r, mails) = pumped (with_call command r, mails)
 
--- Told order
+-- what a replica does with an order
 unfoldable pub ordered_row : Drawer → OrderLine → Place → Place
 ordered_row drawer line (r, mails) =
     taken_or_told (untaken drawer line r) line.number (ordered_command (next_name drawer) line.number line.order) (r, mails)
 
--- the names that are left: an order that is taken takes one, if its kind takes any
+-- the names that are left after an order: an accepted order takes one, if its kind takes any
 abbrev pub names_after : Drawer → OrderLine → ReplicaState → Drawer
 names_after drawer line r = if takes_name line.order && is_none (untaken drawer line r) then drawn_on drawer else drawer

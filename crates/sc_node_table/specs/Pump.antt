@@ -1,4 +1,4 @@
--- Pump: what a settled replica offers at its open slots.
+-- Pump: what a settled replica offers at its open slots (Paxos Made Simple, section 2.2, phase 2a, and section 3).
 use Rattle.std.specs.Prelude.{◌≡◌, ℕ, ◌+◌, ◌&&◌, ◌||◌, not, nat_le, Bool, true, false, List, [], ◌∷◌, if◌then◌else◌, Option, Some, None, is_some}
 use Rattle.std.specs.List.{list_any}
 use Rattle.sc_base.specs.declared.ops.Op.{Op}
@@ -19,11 +19,11 @@ use Rattle.sc_paxos_words.specs.Definitions.{must, with_flight_at}
 use Rattle.sc_node_table.specs.Replica.{Place, name_of, next, settled, may_offer, taken_at, under_way, is_idle, last_slot}
 use Rattle.sc_node_table.specs.Mails.{sent_all, answered}
 
--- what is found for a slot, if anything is, and the place after it
+-- the command that is found for a slot, if there is one, and the place after the search
 abbrev pub Found : Type 0
 Found = Option Command × Place
 
--- 3. whether a command is other than Call and Noop: while one is under way nothing new is offered
+-- whether a command is other than a request and a Noop; while such a command is under way nothing new is offered
 abbrev pub is_act : Command → Bool
 is_act Noop = false
 is_act (Call client seq op) = false
@@ -38,14 +38,14 @@ is_act (Finish tx outcome) = true
 is_act (Watched tx watch) = true
 is_act (RecordWatch tx vote by) = true
 
--- 5. calls are served under these locks alone
+-- whether requests are served under this lock
 abbrev pub serves_calls : Lock → Bool
 serves_calls Free = true
 serves_calls (Watching tx watch) = true
 serves_calls (Coordinating tx body order heard) = false
 serves_calls (Promised tx offer) = false
 
--- whether the head of `calls` waits: a call for the lock, and an order also for what is under way
+-- whether the command at the head of the queue `calls` must wait: every one for the lock, and an order also until nothing is under way
 abbrev pub waits : Bool → Lock → Command → Bool
 waits idle lock (Call client seq op) = not (serves_calls lock)
 waits idle lock Noop = not (serves_calls lock) || not idle
@@ -60,12 +60,12 @@ waits idle lock (Finish tx outcome) = not (serves_calls lock) || not idle
 waits idle lock (Watched tx watch) = not (serves_calls lock) || not idle
 waits idle lock (RecordWatch tx vote by) = not (serves_calls lock) || not idle
 
--- the answer of a call that the group does not serve
+-- the answer to a request that the group does not serve, or None where it serves it
 abbrev pub refused_by : Option Route → Core → Op → Option AnswerBody
 refused_by (Some into) core op = Some (Says.Gone into)
 refused_by None core op = if holds_key core.arc (key_of op) then None else Some (Says.NotMine core.arc core.succ)
 
--- the answer of a command that gets no slot: only calls are turned down
+-- the answer to a command that gets no slot, or None where it may get one; only requests are answered so
 abbrev pub turned_down : Core → Command → Option AnswerBody
 turned_down core (Call client seq op) = refused_by core.gone core op
 turned_down core Noop = None
@@ -80,44 +80,44 @@ turned_down core (Finish tx outcome) = None
 turned_down core (Watched tx watch) = None
 turned_down core (RecordWatch tx vote by) = None
 
--- 5 and 6. the command at the head of `calls` that a slot may have; the calls before it that the group does not serve are answered without a slot
+-- the command at the head of the queue `calls` that may get a slot, if there is one, with the rest of the queue and the mail; the requests before it that the group does not serve are answered without a slot
 unfoldable pub next_call : ℕ → Bool → Core → List Command → List Mail → Option Command × List Command × List Mail
 next_call me idle core [] mails = (None, [], mails)
 next_call me idle core (command ∷ calls) mails =
     if waits idle core.lock command then (None, command ∷ calls, mails)
     else elim (turned_down core command) [ None ↦ (Some command, calls, mails) | Some answer ↦ next_call me idle core calls (answered me core.id answer command mails) ]
 
--- what is found in `calls`, which the turned down calls have left
+-- what is found in the queue `calls`, from which the requests answered without a slot are removed
 unfoldable pub from_calls : Place → Found
 from_calls (r, mails) =
     let found = next_call r.me (is_idle r) r.group.core r.calls mails in
     (found.0, (record r { calls = found.1 }, found.2))
 
--- 4. the head of `acts`, once nothing is under way
+-- what is found in the queues: the head of `acts`, but only while nothing is under way, and where `acts` is empty what is found in `calls`
 abbrev pub from_acts : List Command → Place → Found
 from_acts [] place = from_calls place
 from_acts (act ∷ acts) (r, mails) = if is_idle r then (Some act, (record r { acts = acts }, mails)) else (None, (r, mails))
 
--- 3 to 7
+-- what is found in the queues, unless a command other than a request and a Noop is under way
 unfoldable pub from_queues : Place → Found
 from_queues (r, mails) = if list_any is_act (under_way r) then (None, (r, mails)) else from_acts r.acts (r, mails)
 
--- 1 and 2. what the leader must propose there; else what waits
+-- what is found for a slot, by what the leader must propose there: that value, a Noop for a gap, or else what is found in the queues
 abbrev pub found_by : Must Command → Place → Found
 found_by (Value command) place = (Some command, place)
 found_by Gap place = (Some Noop, place)
 found_by Open place = from_queues place
 
--- the command for a slot, by what the leader must propose there
+-- what is found for a slot
 unfoldable pub found_for : ℕ → Place → Found
 found_for slot (r, mails) = found_by (must slot r.leader) (r, mails)
 
--- what is found goes into flight, and the members of its slot are asked to accept it (Paxos Made Simple, section 2.2, phase 2)
+-- a command is put in flight at a slot, and the members of the slot are asked to accept it (Paxos Made Simple, section 2.2, phase 2a)
 unfoldable pub offered : ℕ → List ℕ → Command → Place → Place
 offered slot set command (r, mails) =
     (record r { leader = with_flight_at slot command r.leader }, sent_all r.me set (Accept (name_of r) r.leader.ballot slot command) mails)
 
--- the open slots from the least one on, each with its members; a slot that is taken is passed by
+-- the pump at the open slots from this one on, each with its members: a slot with a command in flight or ready is passed over
 unfoldable pub pumped_from : ℕ → List (List ℕ) → Place → Place
 pumped_from slot [] place = place
 pumped_from slot (set ∷ sets) place =
@@ -127,10 +127,10 @@ pumped_from slot (set ∷ sets) place =
     elim (found.0) [ None ↦ found.1 | Some command ↦ pumped_from (slot + 1) sets (offered slot set command found.1) ])
     else place
 
--- the whole pump: a settled replica offers at its open slots, up to the last slot
+-- the pump: a settled replica offers at its open slots, where its next slot is not above the last slot
 unfoldable pub pumped : Place → Place
 pumped place = if settled place.0 && nat_le (next place.0) last_slot then pumped_from (next place.0) place.0.sets place else place
 
--- to test a replica before each slot whether it is settled is to test it once
+-- a replica is settled after the pump exactly where it was before, so testing it before each slot is testing it once
 abbrev pub StaysSettled : Type 0
 StaysSettled = (slot : ℕ) (sets : List (List ℕ)) (place : Place) → settled (pumped_from slot sets place).0 ≡ settled place.0

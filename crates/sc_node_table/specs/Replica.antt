@@ -1,4 +1,4 @@
--- One group on one node: what its replica keeps, and what is said of it.
+-- A replica, which is one group on one node: its state, and functions of it.
 use Rattle.std.specs.Prelude.{ℕ, ◌-◌, ◌*◌, ◌/◌, ◌^◌, nat_lt, ◌==◌, ◌&&◌, Bool, false, List, [], ◌∷◌, ◌++◌, length, replicate, slice_get, if◌then◌else◌, Option, Some, None}
 use Rattle.std.specs.Option.{option_map}
 use Rattle.sc_base.specs.declared.names.Draw.{Draw}
@@ -13,7 +13,7 @@ use Rattle.sc_paxos_words.specs.Definitions.{LogState, empty_log, next_of, insta
 use Rattle.sc_machine_table.specs.Definitions.{Group, group_of}
 use Rattle.sc_node_table.specs.Slots.{at_slot, numbers_from}
 
--- the node's number; the executed state and the log of executed entries; the acceptor; the node that it takes for the leader; the greatest ballot seen; whether it runs, and its leader, which counts only then; the commands of which a majority was counted and that are not yet executed, by slot; the members of the open slots, from the next slot on; the waiting commands of transactions, and the waiting calls and orders; how long a transaction has waited
+-- the state of a replica: `me` the node's number; `group` the executed state and `log` the executed entries; `acceptor`; `hint` the node that it takes for the leader; `top` the greatest ballot seen; `running` whether it runs as candidate or leader, and `leader` its state as such, which counts only then; `ready` the commands that a majority has accepted and that are not executed yet, by slot; `sets` the members of the open slots, from the next slot on; `acts` the queued commands of transactions, and `calls` the queued requests and orders; `waits` how many ticks a transaction has waited
 pub record ReplicaState : Type 0 where
   pub me : ℕ
   pub group : Group
@@ -29,23 +29,23 @@ pub record ReplicaState : Type 0 where
   pub calls : List Command
   pub waits : ℕ
 
--- a replica and the mails that its step has sent so far: each part of the table takes one to the next, and puts its mails last
+-- a replica and the mails that its step has sent so far: each part of the table maps one place to the next, and adds its mails at the end
 abbrev pub Place : Type 0
 Place = ReplicaState × List Mail
 
--- what a step that may execute entries comes to: the place, and the children that the entries make at its node, the first first
+-- a place after a step that may execute entries, with the children that the entries make at its node, in their order
 abbrev pub Executed : Type 0
 Executed = Place × List Base
 
--- nothing was executed, and no child was made
+-- a place with no child made
 abbrev pub childless : Place → Executed
 childless place = (place, [])
 
--- the ballot in which a group's first leader runs from birth
+-- the first ballot of a group, in which its first leader runs from the group's creation
 abbrev pub first_ballot : Core → Ballot
 first_ballot core = record { round = 1; node = core.first }
 
--- a replica that was made at its group's birth, where so many slots are open at a time: the first member runs with the first ballot, which every acceptor has promised
+-- a replica made at its group's creation, with `ahead` open slots: the first leader runs with the first ballot, which every acceptor has promised
 abbrev pub born_replica : ℕ → ℕ → Base → ReplicaState
 born_replica ahead me base = record {
   me = me;
@@ -63,7 +63,7 @@ born_replica ahead me base = record {
   waits = 0;
 }
 
--- how many slots are kept or forgotten at a time
+-- the unit of slots in which old entries are kept or forgotten
 abbrev pub cut_unit : ℕ
 cut_unit = 64
 
@@ -71,18 +71,18 @@ cut_unit = 64
 abbrev pub floor_of : ℕ → ℕ
 floor_of last = cut_unit * (last / cut_unit) - cut_unit
 
--- what is not above the floor is forgotten
+-- the replica without entries and accepted commands that are not above the floor
 unfoldable pub forgotten : ℕ → ReplicaState → ReplicaState
 forgotten last r = record r { log = log_cut (floor_of last) r.log; acceptor = after_cut (floor_of last) r.acceptor }
 
--- a transaction waits no more where the group is not locked
+-- how many ticks a transaction has waited, by the lock: 0 where the group is free
 abbrev pub waits_in : Lock → ℕ → ℕ
 waits_in Free waits = 0
 waits_in (Coordinating tx body order heard) waits = waits
 waits_in (Promised tx offer) waits = waits
 waits_in (Watching tx watch) waits = waits
 
--- a replica that is made of the state after a slot, with the members of the open slots: it is as at birth, but it does not run, and it holds no entry
+-- a replica made of the state after a slot, with the members of the open slots: as at its group's creation, but it does not run, and its log starts after that slot
 abbrev pub installed_replica : ℕ → ℕ → Base → List (List ℕ) → ReplicaState
 installed_replica me slot base sets = forgotten slot (record {
   me = me;
@@ -100,7 +100,7 @@ installed_replica me slot base sets = forgotten slot (record {
   waits = 0;
 })
 
--- the name of its group
+-- the name of the replica's group
 abbrev pub name_of : ReplicaState → Draw
 name_of r = r.group.core.id
 
@@ -120,7 +120,7 @@ set_at slot r = if nat_lt slot (next r) then None else slice_get r.sets (slot - 
 abbrev pub open_slots : ReplicaState → List ℕ
 open_slots r = numbers_from (next r) (length r.sets)
 
--- the last slot at which a command is learnt, and after which none is offered
+-- the last slot at which a command is learnt; where the next slot is above it, nothing is offered
 abbrev pub last_slot : ℕ
 last_slot = 2 ^ 32 - 8
 
@@ -129,41 +129,41 @@ abbrev pub first_set : List (List ℕ) → List ℕ
 first_set [] = []
 first_set (set ∷ sets) = set
 
--- whether its leader may offer at a slot with these members: no higher ballot was promised here, and its ballot is the first or a majority of them has promised it
+-- whether the replica's leader may offer at a slot with these members: no higher ballot was promised here, and its ballot is the first or a majority of them has promised it
 abbrev pub may_offer : ReplicaState → List ℕ → Bool
 may_offer r set = is_settled r.acceptor.promised set r.leader
 
--- whether it runs and its leader may offer at the next slot
+-- whether a replica is settled: it runs, and may offer at the next slot
 abbrev pub settled : ReplicaState → Bool
 settled r = r.running && may_offer r (first_set r.sets)
 
--- the command in flight at a slot
+-- the command in flight at a slot, if there is one
 abbrev pub flying : ReplicaState → ℕ → Option Command
 flying r slot = option_map (λ flight. flight.value) (flight_at slot r.leader.flights)
 
--- the first of two, if there is one, else the second
+-- the first of two options, if it is some, or else the second
 abbrev pub either : {X : Type 0} → Option X → Option X → Option X
 either (Some x) other = Some x
 either None other = other
 
--- the command in flight or ready at a slot
+-- the command in flight or ready at a slot, if there is one
 abbrev pub taken_at : ReplicaState → ℕ → Option Command
 taken_at r slot = either (flying r slot) (at_slot r.ready slot)
 
--- none or one, as a list
+-- an option as a list of none or one
 abbrev pub listed : {X : Type 0} → Option X → List X
 listed None = []
 listed (Some x) = x ∷ []
 
--- what is in flight or ready at these slots
+-- the commands in flight or ready at these slots
 abbrev pub taken_from : ReplicaState → List ℕ → List Command
 taken_from r [] = []
 taken_from r (slot ∷ slots) = listed (taken_at r slot) ++ taken_from r slots
 
--- the commands in flight or ready, by slot
+-- the commands under way, that is in flight or ready, by slot
 abbrev pub under_way : ReplicaState → List Command
 under_way r = taken_from r (open_slots r)
 
--- whether nothing is in flight or ready
+-- whether nothing is under way
 abbrev pub is_idle : ReplicaState → Bool
 is_idle r = length (under_way r) == 0

@@ -1,4 +1,4 @@
--- The rows of Request, Learn, Ask, Install and Tick, and a replica's table.
+-- What a replica does with a Request, a Learn, an Ask, an Install and a tick, and its transition table.
 use Rattle.std.specs.Prelude.{ℕ, zero, suc, ◌+◌, ◌-◌, ◌==◌, ◌&&◌, ◌||◌, not, nat_lt, nat_le, false, Bool, List, [], ◌∷◌, ◌++◌, length, filter, if◌then◌else◌, Option, Some, None, is_some}
 use Rattle.sc_base.specs.declared.ops.Op.{Op}
 use Rattle.sc_ideal.specs.Definitions.{key_of, holds_key}
@@ -30,7 +30,7 @@ use Rattle.sc_node_table.specs.Ordering.{ordered_row, names_after}
 use Rattle.sc_node_table.specs.Policy.{wishing, names_after_tick}
 use Rattle.sc_node_table.specs.Voting.{prepare_row, promise_row, accept_row, accepted_row, nack_row}
 
--- why a request is not taken, the first that holds
+-- why a request is not queued, if so: the first that holds of a group that is gone, a replica that does not run, and a key of another group
 abbrev pub call_refusal : Option Route → Core → Bool → Option ℕ → Op → Option AnswerBody
 call_refusal (Some into) core running hint op = Some (Says.Gone into)
 call_refusal None core running hint op =
@@ -38,27 +38,27 @@ call_refusal None core running hint op =
     else if serves_calls core.lock && not (holds_key core.arc (key_of op)) then Some (Says.NotMine core.arc core.succ)
     else None
 
--- .. at a replica
+-- why a request is not queued at a replica, if so
 abbrev pub refused_at : Option Route → Op → ReplicaState → Option AnswerBody
 refused_at gone op r = call_refusal gone r.group.core r.running r.hint op
 
--- it waits last, unless the same or a later request of its client waits; an earlier one waits no more
+-- a request is queued last, and the pump is tried, unless the same or a later request of its client is queued; an earlier one is removed
 unfoldable pub queued : Option ℕ → ℕ → ℕ → Op → Place → Place
 queued None client seq op (r, mails) = pumped (record r { calls = r.calls ++ Call client seq op ∷ [] }, mails)
 queued (Some other) client seq op (r, mails) =
     if nat_le seq other then (r, mails)
     else pumped (record r { calls = without_call r.calls client ++ Call client seq op ∷ [] }, mails)
 
--- a request that is not taken is answered why; another waits
+-- a request is queued, or its client gets the reason why not
 unfoldable pub requested : Option AnswerBody → ℕ → ℕ → Op → Place → Place
 requested (Some answer) client seq op (r, mails) = (r, answer_to r.me (name_of r) client seq answer mails)
 requested None client seq op (r, mails) = queued (call_of r.calls client) client seq op (r, mails)
 
--- Request
+-- what a replica does with a Request
 unfoldable pub request_row : ℕ → ℕ → Op → Place → Place
 request_row client seq op (r, mails) = requested (refused_at r.group.core.gone op r) client seq op (r, mails)
 
--- Learn: the next slot's command is executed; for a later one the slots from the next on are asked for
+-- what a replica does with a Learn: it executes the command of the next slot, and for a later slot asks for those from the next one on (Paxos Made Simple, section 2.3)
 unfoldable pub learn_row : ℕ → ℕ → Command → Place → Executed
 learn_row from slot command (r, mails) =
     if nat_lt last_slot slot then childless (r, mails)
@@ -66,42 +66,42 @@ learn_row from slot command (r, mails) =
     else if nat_lt (next r) slot then childless (r, sent r.me from (Ask (name_of r) (next r)) mails)
     else childless (r, mails)
 
--- the most entries that an Ask is answered with
+-- the most entries that are sent in answer to an Ask
 abbrev pub most_taught : ℕ
 most_taught = 32
 
--- at most so many entries, from a slot on
+-- at most `count` entries that the log holds are sent, from a slot on
 unfoldable pub taught : ℕ → ReplicaState → ℕ → ℕ → List Mail → List Mail
 taught zero r from slot mails = mails
 taught (suc count) r from slot mails =
     elim (entry_at slot r.log) [ None ↦ mails | Some command ↦ taught count r from (slot + 1) (sent r.me from (Learn (name_of r) slot command) mails) ]
 
--- an entry that is held is followed by others; where it is not held the executed state is sent
+-- an Ask is answered with entries from a slot on, where the log holds it, and else with the executed state
 abbrev pub ask_answered : Option Command → ℕ → ℕ → Place → Place
 ask_answered None from slot place = install_to from place
 ask_answered (Some command) from slot (r, mails) = (r, taught most_taught r from slot mails)
 
--- Ask: of an executed slot, and from 0. Entries that are held, or the executed state
+-- what a replica does with an Ask: it answers one for an executed slot or for slot 0
 unfoldable pub ask_row : ℕ → ℕ → Place → Place
 ask_row from slot (r, mails) = if nat_lt slot (next r) then ask_answered (entry_at slot r.log) from slot (r, mails) else (r, mails)
 
--- the sender of the state is taken for the leader if it is a member, and else one is looked for
+-- the sender of a state is taken for the leader if it is a member, and else a leader is looked for
 unfoldable pub looked_up : ℕ → Place → Place
 looked_up from (r, mails) = if is_member (members r) from then (record r { hint = Some from }, mails) else looked (r, mails)
 
--- one that runs stops, with the sender as its hint, and then takes the state over
+-- a replica takes over a state; it stops first, where it runs, with the sender for the leader
 unfoldable pub took_over : ℕ → ℕ → Base → List (List ℕ) → Place → Place
 took_over from slot base sets (r, mails) =
     let place1 : Place = if r.running then stopped (Some from) (r, mails) else (r, mails) in
     looked_up from (jumped slot base sets place1.0, place1.1)
 
--- Install: of a later slot than those that are executed, with the members of as many slots as are open
+-- what a replica does with an Install: it takes over the state after a slot that it has not executed, if it comes with the members of as many slots as are open
 unfoldable pub install_row : ℕ → ℕ → Base → List (List ℕ) → Place → Place
 install_row from slot base sets (r, mails) =
     if not (length sets == length r.sets) || (nat_lt last_slot slot || nat_lt slot (next r)) then (r, mails)
     else took_over from slot base sets (r, mails)
 
--- a replica that is made by an Install for a group
+-- a replica made of an Install for a group of which the node has none
 unfoldable pub made_by : ℕ → ℕ → Draw → ℕ → Base → List (List ℕ) → Place
 made_by me from group slot base sets = looked_up from (installed_replica me slot (named group base) sets, [])
 
@@ -109,7 +109,7 @@ made_by me from group slot base sets = looked_up from (installed_replica me slot
 abbrev pub uncounted : ReplicaState → ℕ → List ℕ → List ℕ
 uncounted r slot set = filter (λ node. not (has_counted slot node r.leader)) set
 
--- 1. Accept again for each slot in flight, to each of its members that was not counted ..
+-- Accept is sent again for each slot in flight, to each of its members whose vote was not counted
 unfoldable pub asked_again : ReplicaState → ℕ → List (List ℕ) → List Mail → List Mail
 asked_again r slot [] mails = mails
 asked_again r slot (set ∷ sets) mails =
@@ -118,12 +118,12 @@ asked_again r slot (set ∷ sets) mails =
       | Some command ↦ asked_again r (slot + 1) sets (sent_all r.me (uncounted r slot set) (Accept (name_of r) r.leader.ballot slot command) mails)
     ]
 
--- .. with nothing in flight or ready, Learn of the last entry to each other member
+-- the last entry, if the log holds it, is sent by Learn to each other member
 unfoldable pub told_last : Option Command → ReplicaState → List Mail → List Mail
 told_last None r mails = mails
 told_last (Some command) r mails = sent_others r.me (members r) (Learn (name_of r) (next r - 1) command) mails
 
--- Tick: a member that is not settled is elected; one that is settled asks again, reminds the other parties of a transaction, orders what a policy wishes, if one is on, and pumps
+-- what a replica does at a tick: one that is not settled runs for leader; a settled one sends again what is not answered, or the last entry where nothing is under way, reminds the parties of a transaction, queues what a policy wishes, and tries the pump. One whose group is gone, or whose node is no member, does nothing
 unfoldable pub tick_row : Bool → Drawer → Place → Place
 tick_row on drawer (r, mails) =
     if is_some r.group.core.gone || not (is_member (members r) r.me) then (r, mails)
@@ -131,7 +131,7 @@ tick_row on drawer (r, mails) =
     else if is_idle r then pumped (wishing on drawer (reminded (r, told_last (entry_at (next r - 1) r.log) r mails)))
     else pumped (wishing on drawer (reminded (r, asked_again r (next r) r.sets mails)))
 
--- a mail from an actor; those of no row change nothing. Only a vote and a learnt command execute
+-- what a replica does with a mail; a mail of any other body changes nothing. Only a counted vote and a learnt command execute entries
 unfoldable pub mailed : ℕ → MailBody → Place → Executed
 mailed from (Request group client seq op) place = childless (request_row client seq op place)
 mailed from (Prepare group ballot from_slot) place = childless (prepare_row from ballot from_slot place)
@@ -151,13 +151,13 @@ mailed from (TxWatch tx watch) place = childless (watch_row from tx watch place)
 mailed from (TxWatched tx coord part vote) place = childless (watched_row from tx part vote place)
 mailed from (Told order result) place = childless place
 
--- a replica's table, with whether its node has a policy, and the names that its node draws
+-- the transition table of a replica, with whether its node has a policy, and the generator of its node's names
 unfoldable pub stepped : Bool → Drawer → ReplicaInput → Place → Executed
 stepped on drawer (Given.Got mail) place = mailed mail.from mail.body place
 stepped on drawer Given.Tick place = childless (tick_row on drawer place)
 stepped on drawer (Given.Told line) place = childless (ordered_row drawer line place)
 
--- the names that are left after a step
+-- the names that are left after a step of a replica
 abbrev pub names_left : Bool → Drawer → ReplicaInput → ReplicaState → Drawer
 names_left on drawer (Given.Got mail) r = drawer
 names_left on drawer Given.Tick r = names_after_tick on drawer r

@@ -1,21 +1,21 @@
--- Slots, and values by their slots, ascending; and the first of a list.
+-- Slots, and values by their slots, ascending.
 use Rattle.std.specs.Prelude.{ℕ, zero, suc, ◌+◌, ◌==◌, nat_lt, List, [], ◌∷◌, if◌then◌else◌, Option, Some, None}
 
--- how many slots of a log are open at a time: each is decided by the members of the state so many entries before it (Paxos Made Simple, section 3)
+-- how many slots of a log are open at a time: the members of each slot are those of the state 4 entries before it (Paxos Made Simple, section 3)
 abbrev pub slots_ahead : ℕ
 slots_ahead = 4
 
--- what is behind the first of a list
+-- a list without its first item
 abbrev pub rest_of : {X : Type 0} → List X → List X
 rest_of [] = []
 rest_of (x ∷ xs) = xs
 
--- so many numbers from one on
+-- the numbers from `from` on, as many as the second argument says
 abbrev pub numbers_from : ℕ → ℕ → List ℕ
 numbers_from from zero = []
 numbers_from from (suc more) = from ∷ numbers_from (from + 1) more
 
--- the value of a slot, if it has one
+-- the value at a slot, if there is one
 abbrev pub at_slot : {X : Type 0} → List (ℕ × X) → ℕ → Option X
 at_slot [] slot = None
 at_slot (e ∷ es) slot = if e.0 == slot then Some e.1 else at_slot es slot

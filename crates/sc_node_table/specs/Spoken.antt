@@ -1,4 +1,4 @@
--- Execute, 1: what is told of splits, transactions and their decisions, and the mails by which a transaction goes on. All by the effect, and by the group before and after the entry.
+-- The mails by which splits and transactions are reported and go on when an entry is executed. They are determined by the entry's effect, and by the group before and after the entry.
 use Rattle.std.specs.Prelude.{ℕ, Bool, true, false, List, if◌then◌else◌, Option, Some, None}
 use Rattle.std.specs.Option.{option_map}
 use Rattle.sc_base.specs.declared.names.Draw.{Draw}
@@ -35,7 +35,7 @@ use Rattle.sc_node_table.specs.Transactions.{voted_to, watched_to, told_outcome}
 
 -- ---- the group before an entry, as far as its mails need it
 
--- the node that brought the participant's vote, and the group behind that participant
+-- the node that sent the participant's Yes, and the successor of the participant, where a Yes is recorded
 abbrev pub heard_from : Option Heard → Option (ℕ × Link)
 heard_from None = None
 heard_from (Some heard) = Some (heard.by, heard.frozen.succ)
@@ -47,24 +47,24 @@ is_merge (At.Repart at) = false
 is_merge (At.Migrate node) = false
 is_merge (At.Split at child) = false
 
--- a group that coordinates no transaction
+-- the group before an entry, where it coordinates no transaction
 abbrev pub before_free : Core → Before
 before_free core = record { alone = is_alone core; succ = core.succ; order = 0; merges = false; heard = None }
 
--- .. by its lock
+-- the group before an entry, by its lock
 abbrev pub before_in : Lock → Core → Before
 before_in Free core = before_free core
 before_in (Coordinating tx body order heard) core = record { alone = is_alone core; succ = core.succ; order = order; merges = is_merge body; heard = heard_from heard }
 before_in (Promised tx offer) core = before_free core
 before_in (Watching tx watch) core = before_free core
 
--- .. as it is
+-- the group before an entry, as far as its mails need it
 abbrev pub before_of : Core → Before
 before_of core = before_in core.lock core
 
--- ---- what the desk is told
+-- ---- what is reported to the desk
 
--- what a transaction came to
+-- the result of an order, by the outcome of its transaction
 abbrev pub outcome_result : Outcome → ToldResult
 outcome_result Is.Abort = Tells.Aborted
 outcome_result (Is.Merged into) = Tells.Committed
@@ -72,11 +72,11 @@ outcome_result (Is.Moved at gift) = Tells.Committed
 outcome_result (Is.Migrated node) = Tells.Committed
 outcome_result Is.Divided = Tells.Committed
 
--- .. where the entry decided it
+-- the result of an order, where the entry has decided its transaction
 abbrev pub decided_result : Effect → Option ToldResult
 decided_result effect = option_map outcome_result (decided_in effect)
 
--- what is told of a split or a transaction, by whether the group stood alone: of one that only begins nothing, but why it is refused; of its decision, what it came to
+-- the result of the order of a split or a transaction, if the entry ends it: the split of a group that is alone, a refusal, or a decision
 abbrev pub begun_result : Bool → Effect → Command → Option ToldResult
 begun_result alone effect (Split at child order) = if alone then result_of effect else refused_result effect
 begun_result alone effect (Begin tx body order) = refused_result effect
@@ -91,7 +91,7 @@ begun_result alone effect (Prepared tx offer) = None
 begun_result alone effect (Finish tx outcome) = None
 begun_result alone effect (Watched tx watch) = None
 
--- the number of the order that is spoken of: the command's own, or that of the transaction that the group coordinated
+-- the number of the order that the entry may end: that of the command, or that of the transaction that the group coordinated
 abbrev pub spoken_number : ℕ → Command → ℕ
 spoken_number begun (Split at child order) = order
 spoken_number begun (Begin tx body order) = order
@@ -106,62 +106,62 @@ spoken_number begun (Prepared tx offer) = 0
 spoken_number begun (Finish tx outcome) = 0
 spoken_number begun (Watched tx watch) = 0
 
--- the desk is told the result, if there is one
+-- the result of an order, if there is one, is reported to the desk
 abbrev pub told_result : ℕ → Option ToldResult → ℕ → List Mail → List Mail
 told_result me None number mails = mails
 told_result me (Some result) number mails = told_order me number result mails
 
--- each replica that executes the entry tells it
+-- each replica that executes the entry reports the result of the order that it ends, if it ends one
 unfoldable pub told_begun : ℕ → Before → Effect → Command → List Mail → List Mail
 told_begun me before effect command mails = told_result me (begun_result before.alone effect command) (spoken_number before.order command) mails
 
 -- ---- how a transaction goes on
 
--- a group that only locks to be split, or has heard its participant, asks its watcher
+-- a group that has locked for a split, or has recorded its participant's Yes to a merge, asks its watcher
 abbrev pub asked_on : Effect → ℕ → Core → List Mail → List Mail
 asked_on effect me core mails = if is_changed effect then asked_first core.lock me core mails else mails
 
--- a group that has begun asks the least member of its successor, whatever it has begun
+-- a group that has begun a transaction sends its offer to the least member of its successor
 abbrev pub begun_asks : Effect → ℕ → Core → Draw → Body → List Mail → List Mail
 begun_asks effect me core tx body mails =
     if is_changed effect then sent me (least_of core.succ.members) (TxPrepare tx (offer_of me core body)) mails else mails
 
--- the vote goes to the node that asked
+-- the vote of a participant, if the entry cast it, is sent to the node that asked
 abbrev pub vote_sent : Option Past → ℕ → Group → Draw → Offer → List Mail → List Mail
 vote_sent None me group tx offer mails = mails
 vote_sent (Some vote) me group tx offer mails = voted_to me group offer.by tx offer vote mails
 
--- .. and a watcher's
+-- the vote of a watcher, if the entry cast it, is sent to the node that asked
 abbrev pub watch_sent : Option Past → ℕ → Draw → Watch → List Mail → List Mail
 watch_sent None me tx watch mails = mails
 watch_sent (Some vote) me tx watch mails = watched_to me watch.by tx watch vote mails
 
--- each member of a party is told that nothing comes of it
+-- an abort is sent to each member of a party
 abbrev pub aborted_to : ℕ → Draw → Link → List Mail → List Mail
 aborted_to me tx link mails = sent_all me link.members (TxOutcome tx link.group Is.Abort) mails
 
--- .. of the watcher, if one was asked after the participant was heard
+-- an abort is sent to the watcher, if the participant's Yes was recorded, so that the watcher was asked
 abbrev pub aborted_watcher : ℕ → Draw → Option (ℕ × Link) → List Mail → List Mail
 aborted_watcher me tx None mails = mails
 aborted_watcher me tx (Some heard) mails = aborted_to me tx heard.1 mails
 
--- of a transaction that is given up, the participant is told, and the watcher where one was asked after it
+-- after a transaction is given up, an abort is sent to the successor, and to the watcher where it was asked after the participant
 abbrev pub given_up_by : Option Outcome → ℕ → Before → Draw → List Mail → List Mail
 given_up_by None me before tx mails = mails
 given_up_by (Some outcome) me before tx mails = aborted_watcher me tx before.heard (aborted_to me tx before.succ mails)
 
--- what a participant's Yes decided is told to the node that brought it
+-- what a participant's Yes has decided is sent to the node that sent the Yes
 abbrev pub vote_answered : Option Outcome → Vote → ℕ → Before → Draw → ℕ → List Mail → List Mail
 vote_answered None vote me before tx by mails = mails
 vote_answered (Some outcome) (Says.Yes frozen) me before tx by mails = told_outcome me by tx before.succ.group outcome mails
 vote_answered (Some outcome) (Says.No why) me before tx by mails = mails
 
--- what a watcher's Yes decided is told to the participant that was heard, and then to the node that brought the vote; of a split the successor is the watcher
+-- what a watcher's Yes has decided is sent to the node that sent the participant's Yes, and then to the one that sent the watcher's; of a split the successor is the watcher, and there is no participant
 abbrev pub released_to : Option (ℕ × Link) → ℕ → Link → Draw → ℕ → Outcome → List Mail → List Mail
 released_to None me succ tx by outcome mails = told_outcome me by tx succ.group outcome mails
 released_to (Some heard) me succ tx by outcome mails = told_outcome me by tx heard.1.group outcome (told_outcome me heard.0 tx succ.group outcome mails)
 
--- what a watcher's vote decided: its No to a merge is told to the participant
+-- what a watcher's vote has decided is sent: of its No to a merge, an abort to the participant
 abbrev pub watch_answered_by : Option Outcome → Past → ℕ → Before → Draw → ℕ → List Mail → List Mail
 watch_answered_by None vote me before tx by mails = mails
 watch_answered_by (Some outcome) Cast.Yes me before tx by mails = released_to before.heard me before.succ tx by outcome mails
@@ -183,12 +183,12 @@ went_on me group before effect (Call client seq op) mails = mails
 went_on me group before effect (Join node order) mails = mails
 went_on me group before effect (Leave node order) mails = mails
 
--- both: each replica that executes the entry tells, and the one that counted it goes on
+-- each replica that executes the entry reports, and the one that has counted its votes makes the transaction go on
 unfoldable pub spoken_mails : Bool → ℕ → Group → Before → Effect → Command → List Mail → List Mail
 spoken_mails counted me group before effect command mails =
     let told = told_begun me before effect command mails in
     if counted then went_on me group before effect command told else told
 
--- nothing changes but for the mails
+-- the mails that report and continue splits and transactions are sent; the replica does not change
 unfoldable pub spoken : Bool → Before → Effect → Command → Place → Place
 spoken counted before effect command (r, mails) = (r, spoken_mails counted r.me r.group before effect command mails)

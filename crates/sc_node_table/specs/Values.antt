@@ -1,4 +1,4 @@
--- The types of the crates below, under one name: keys and names, rows, commands, mail, what acceptors and leaders answer.
+-- The types of the crates below, under one name: keys and names, rows, commands, mail, and the answers of acceptors and leaders.
 pub use Rattle.sc_base.specs.declared.names.Ballot.{Ballot}
 pub use Rattle.sc_base.specs.declared.names.Draw.{Draw}
 pub use Rattle.sc_base.specs.declared.ops.Noted.{Noted}

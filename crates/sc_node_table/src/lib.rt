@@ -1,5 +1,5 @@
-//! The tables of a replica and of a node: what each input makes of them, and what they send.
-//! Definitions, no logic.
+//! The transition tables of a replica and of a node: the state after each input, and the mail
+//! sent. Definitions, no logic.
 #![tactic(auto)]
 
 ghost use Rattle.sc_node_table.specs.Election.{AsksTheOpenSets};
@@ -10,17 +10,17 @@ use sc_base::Sequence;
 use sc_cmd::{Base, Link, OrderLine};
 use sc_mail::Mail;
 
-/// How many slots of a log are open at a time: each is decided by the members of the state so many
+/// How many slots of a log are open at a time: the members of each slot are those of the state 4
 /// entries before it (Paxos Made Simple, section 3).
 pub const OPEN_SLOTS: usize = 4;
 
-/// How many slots are kept or forgotten at a time.
+/// The unit of slots in which old entries are kept or forgotten.
 pub const CUT_UNIT: u32 = 64;
 
-/// How many entries an Ask is answered with at most.
+/// The most entries that are sent in answer to an Ask.
 pub const MOST_TAUGHT: u32 = 32;
 
-/// What a replica takes: a mail for its group, a tick of its node's clock, or an order to its
+/// An input of a replica: a mail for its group, a tick of its node's clock, or an order to its
 /// group.
 #[derive(Drop)]
 pub enum ReplicaInput {
@@ -29,39 +29,42 @@ pub enum ReplicaInput {
     Told(OrderLine),
 }
 
-/// What a step of a replica leaves to its node: the children whose replicas the node must make.
+/// What a step of a replica leaves for its node to do: to make replicas of these new groups, the
+/// children.
 #[derive(Drop)]
 pub struct Made {
     pub children: Sequence<Base>,
 }
 
-/// A group before an entry, as far as the mails by the entry's effect need it.
+/// What the mails by an entry's effect need of the group as it was before the entry.
 #[derive(Clone, Copy)]
 pub struct Before {
-    /// Whether it is its own successor.
+    /// Whether the group is its own successor.
     pub alone: bool,
     pub succ: Link,
-    /// The order of the transaction that it coordinates; 0 where a policy made it, and where it
-    /// coordinates none.
+    /// The number of the order of the transaction that the group coordinates, or 0 where a policy
+    /// ordered it or the group coordinates none.
     pub order: u32,
-    /// Whether that is a merge.
+    /// Whether that transaction is a merge.
     pub merges: bool,
-    /// The node that brought the participant's vote, and the group behind that participant.
+    /// The node that sent the participant's Yes, and the successor of the participant, where a Yes
+    /// is recorded.
     pub heard: Option<(u16, Link)>,
 }
 
-/// Two commands are the same by the table's test exactly where they are equal.
+/// States that the table's test of two commands is true exactly where they are equal.
 pub fn commands_are_told_apart()
     ensures { TellsCommands }
 {}
 
-/// What the pump offers leaves a settled replica settled: the pump goes on while it is, and tests
-/// it once.
+/// States that what a settled replica offers in the pump leaves it settled, so that it is enough
+/// to test that once.
 pub fn settled_replicas_stay_settled()
     ensures { StaysSettled }
 {}
 
-/// An election asks the union of the open sets, in ascending order: all members are nodes 1 to 32.
+/// States that an election asks the union of the members of the open slots, in ascending order,
+/// where all members are nodes 1 to 32.
 pub fn elections_ask_the_open_sets()
     ensures { AsksTheOpenSets }
 {}
