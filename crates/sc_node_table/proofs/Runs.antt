@@ -170,7 +170,7 @@ follower :
 unfolding stepped mailed request_row requested queued learn_row taught ask_row asked_again told_last tick_row prepare_row promised accept_row took promise_row accepted_row readied nack_row pumped pumped_from found_for from_queues from_calls next_call offered sent_all sent_others answered answered_all nodes_to elected ended saw entered announced told_call learnt_to landed left looked executed_one executed_ready executed put_back forgotten told_effect told_order welcomed welcomed_all dismissed dismissed_all install_to spoken spoken_mails told_begun went_on reminded wishing ordered_row offer_row watch_row vote_row watched_row elsewhere_row outcome_row act_queued
 follower = refl
 
--- a Nack stops a leader, and its next ballot is above the one that it was told of
+-- a Nack stops a leader, and its next ballot is above the one in the Nack
 nack :
     (run (born_replica 4 1 (base (1 ∷ 2 ∷ 3 ∷ [])), []) (
     Got (mail 33 1 (Request g 1 1 (Put (97 ∷ []) (120 ∷ []))))
