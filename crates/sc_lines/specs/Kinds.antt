@@ -1,4 +1,4 @@
--- What kind a line is of, by its first word, and an order also by its third; the phase of each kind, and its number of words.
+-- The kind of a line, by its first word, and of an order also by its third; the phase of each kind, and its number of words.
 use Rattle.std.specs.Prelude.{ℕ, ◌==◌, ◌&&◌, nat_le, nat_lt, Bool, true, false, List, length, codes, Option, Some, None, if◌then◌else◌}
 use Rattle.std.specs.Option.{option_map, option_or}
 use Rattle.sc_lines.specs.Words.{same, nth}
@@ -11,7 +11,7 @@ use Rattle.sc_lines.specs.declared.kinds.LineKind.TheVariants as line
 use Rattle.sc_lines.specs.declared.kinds.OrderKind.{OrderKind}
 use Rattle.sc_lines.specs.declared.kinds.OrderKind.TheVariants as order
 
--- the parts of a scenario before its schedule
+-- the kind of a line before the schedule that is no request, by its first word
 abbrev pub part_kind : List ℕ → Option Kind
 part_kind word =
     if same word (codes "scatter") then Some Header
@@ -22,7 +22,7 @@ part_kind word =
     else if same word (codes "end") then Some End
     else None
 
--- requests; `add` and `cas` from version 2 on
+-- the kind of a request, by its first word; `add` and `cas` are requests in version 2 only
 abbrev pub request_kind : ℕ → List ℕ → Option RequestKind
 request_kind version word =
     if same word (codes "get") then Some ask.Get
@@ -32,7 +32,7 @@ request_kind version word =
     else if (version == 2) && same word (codes "cas") then Some ask.Cas
     else None
 
--- lines of the schedule that are no orders
+-- the kind of a line of the schedule that is no order, by its first word
 abbrev pub line_kind : List ℕ → Option LineKind
 line_kind word =
     if same word (codes "go") then Some line.Go
@@ -46,7 +46,7 @@ line_kind word =
     else if same word (codes "storm") then Some line.Storm
     else None
 
--- what an order's third word asks for
+-- the kind of an order, by its third word
 abbrev pub named_order : List ℕ → Option OrderKind
 named_order word =
     if same word (codes "join") then Some order.Join
@@ -57,11 +57,11 @@ named_order word =
     else if same word (codes "migrate") then Some order.Migrate
     else None
 
--- an order may lack its third word, and then asks for nothing
+-- the kind of an order; one without a third word is short
 abbrev pub order_kind : List (List ℕ) → Option OrderKind
 order_kind words = if nat_lt (length words) 3 then Some order.Short else named_order (nth words 2)
 
--- what a first word other than `order` asks for
+-- the kind of a line whose first word is not `order`
 abbrev pub first_kind : ℕ → List ℕ → Option Kind
 first_kind version word = option_or (part_kind word) (option_or (option_map Asking (request_kind version word)) (option_map Playing (line_kind word)))
 
@@ -71,7 +71,7 @@ kind_of version words =
     if same (nth words 0) (codes "order") then option_map Telling (order_kind words)
     else first_kind version (nth words 0)
 
--- lines stand in the order of their phases
+-- the phase of a kind; lines are in the order of their phases
 abbrev pub phase_of : Kind → ℕ
 phase_of Header = 0
 phase_of Nodes = 1
@@ -83,7 +83,7 @@ phase_of (Asking kind) = 4
 phase_of (Playing kind) = 5
 phase_of (Telling kind) = 5
 
--- lines that stand inside a client's section, and nowhere else
+-- whether a line of this kind is inside a client's section, and nowhere else
 abbrev pub is_inner : Kind → Bool
 is_inner Header = false
 is_inner Nodes = false
@@ -103,7 +103,7 @@ request_count ask.Del = 2
 request_count ask.Add = 3
 request_count ask.Cas = 4
 
--- the number of words of a line of the schedule
+-- the number of words of a line of the schedule that is no order
 abbrev pub line_count : LineKind → ℕ
 line_count line.Go = 2
 line_count line.Deliver = 3
@@ -115,7 +115,7 @@ line_count line.Settle = 2
 line_count line.Free = 3
 line_count line.Storm = 3
 
--- whether an order has its number of words; one without a third word never
+-- whether an order of this kind has `count` words; a short one never has its number of words
 abbrev pub has_order_count : OrderKind → ℕ → Bool
 has_order_count order.Join count = count == 5
 has_order_count order.Leave count = count == 5
@@ -125,7 +125,7 @@ has_order_count order.Repart count = count == 5
 has_order_count order.Migrate count = count == 5
 has_order_count order.Short count = false
 
--- whether a line of this kind may have so many words
+-- whether a line of this kind may have `count` words
 abbrev pub has_count : Kind → ℕ → Bool
 has_count Header count = count == 2
 has_count Nodes count = count == 2

@@ -1,4 +1,4 @@
--- Why a line is bad.
+-- The reasons why a line is bad.
 use Rattle.std.specs.Prelude.{◌≡◌, ⊤, ℕ, List, codes, Option, Some, None, Result, Ok, Err, MatchResult}
 use Rattle.sc_lines.specs.declared.reasons.LineFault.{LineFault}
 use Rattle.sc_lines.specs.declared.reasons.LineFault.TheVariants.{Bad, OutOfMemory}
@@ -26,7 +26,7 @@ reason_code MissingJournal = 16
 reason_code BadRow = 17
 reason_code FileTooLarge = 18
 
--- the words for a reason
+-- the printed text of a reason
 abbrev pub reason_text : Reason → List ℕ
 reason_text MissingHeader = codes "missing header"
 reason_text BadByte = codes "bad byte"
@@ -47,21 +47,21 @@ reason_text MissingJournal = codes "missing journal"
 reason_text BadRow = codes "bad row"
 reason_text FileTooLarge = codes "file too large"
 
--- what goes on with what was read; else the reason why nothing was
+-- the parser goes on with what was read; where nothing was, this is the reason
 abbrev pub or_reason : {X Y : Type 0} → Option X → Reason → (X → Result Y Reason) → Result Y Reason
 or_reason (Some x) reason onward = onward x
 or_reason None reason onward = Err reason
 
--- what goes on with what came out well; else the reason stays
+-- the parser goes on with a result that is no error; an error stays
 abbrev pub then_on : {X Y : Type 0} → Result X Reason → (X → Result Y Reason) → Result Y Reason
 then_on (Ok x) onward = onward x
 then_on (Err reason) onward = Err reason
 
--- what a fault says of what a line says: the reason why it says nothing; want of memory says nothing
+-- an error agrees with what a line says: a reason is the one why the line is bad, and out of memory says nothing of the line
 abbrev pub HasReason : {X : Type 0} → Result X Reason → LineFault → Type 0
 HasReason said (Bad reason) = said ≡ Err reason
 HasReason said OutOfMemory = ⊤
 
--- what a call answers of what a line says
+-- a call returns what a line says, or an error that agrees with it
 abbrev pub IsSaid : {X : Type 0} → Result X Reason → Result X LineFault → Type 0
 IsSaid said result = MatchResult result (λ x. said ≡ Ok x) (λ fault. HasReason said fault)

@@ -9,15 +9,15 @@ use Rattle.sc_lines.specs.declared.reasons.Reason.TheVariants.{BadKey, BadValue}
 use Rattle.sc_lines.specs.declared.kinds.RequestKind.{RequestKind}
 use Rattle.sc_lines.specs.declared.kinds.RequestKind.TheVariants as kind
 
--- what the second word spells as a key
+-- the parser goes on with the key that the second word spells; else the key is bad
 abbrev pub with_key : List (List ℕ) → (List ℕ → Result Op Reason) → Result Op Reason
 with_key words onward = or_reason (key_in (nth words 1)) BadKey onward
 
--- what the word at this place spells as a value
+-- the parser goes on with the value that the word at this place spells; else the value is bad
 abbrev pub with_value : List (List ℕ) → ℕ → (List ℕ → Result Op Reason) → Result Op Reason
 with_value words place onward = or_reason (value_in (nth words place)) BadValue onward
 
--- `get K`, `put K V`, `del K`, `add K V`, `cas K E V`: the key comes first
+-- the request of this kind that a line spells, `get K`, `put K V`, `del K`, `add K V` or `cas K E V`; of several bad words the first counts
 abbrev pub request_in : RequestKind → List (List ℕ) → Result Op Reason
 request_in kind.Get words = with_key words (λ key. Ok (Get key))
 request_in kind.Put words = with_key words (λ key. with_value words 2 (λ value. Ok (Put key value)))

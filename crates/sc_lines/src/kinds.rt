@@ -1,10 +1,10 @@
-//! What kind a line is of.
+//! The kinds of lines.
 ghost use Rattle.std.specs.Prelude.{◌≡◌, map};
 ghost use Rattle.sc_lines.specs.Kinds.{part_kind, request_kind, line_kind, named_order, order_kind, first_kind, kind_of, phase_of, is_inner, request_count, line_count, has_order_count, has_count};
 
 use crate::words::{is_text, nth};
 
-/// What a line is about, as its first word says.
+/// The kind of a line, which its first word gives.
 #[derive(Clone, Copy)]
 pub enum Kind {
     Header,
@@ -13,12 +13,15 @@ pub enum Kind {
     Policy,
     Client,
     End,
+    /// A request of a client, inside its section.
     Asking(RequestKind),
+    /// A line of the schedule that is no order.
     Playing(LineKind),
+    /// An order, which is a line of the schedule.
     Telling(OrderKind),
 }
 
-/// A request of a client.
+/// The kind of a request of a client.
 #[derive(Clone, Copy)]
 pub enum RequestKind {
     Get,
@@ -28,7 +31,7 @@ pub enum RequestKind {
     Cas,
 }
 
-/// A line of the schedule that is no order.
+/// The kind of a line of the schedule that is no order.
 #[derive(Clone, Copy)]
 pub enum LineKind {
     Go,
@@ -42,7 +45,7 @@ pub enum LineKind {
     Storm,
 }
 
-/// An order, as its third word says. A short one has none.
+/// The kind of an order, which its third word gives. `Short` is an order without a third word.
 #[derive(Clone, Copy)]
 pub enum OrderKind {
     Join,
@@ -163,7 +166,8 @@ fn first_kind(version: u8, word: &[u8]) -> Option<Kind>
     }
 }
 
-/// The kind of a line with these words in a scenario of this version.
+/// Returns the kind of a line with these words, in a scenario of this version, or `None` where the
+/// words give no kind.
 pub fn kind_of(version: u8, words: &[&[u8]]) -> Option<Kind>
     ensures { result ≡ kind_of version (map (λ word. word.now) words.now) }
 {
@@ -176,7 +180,8 @@ pub fn kind_of(version: u8, words: &[&[u8]]) -> Option<Kind>
     first_kind(version, nth(words, 0))
 }
 
-/// The phase of a line of this kind.
+/// Returns the phase of a line of this kind, 0 to 5. Lines of a scenario are in the order of their
+/// phases.
 pub fn phase_of(kind: Kind) -> u8
     ensures { result ≡ phase_of kind }
 {
@@ -190,7 +195,7 @@ pub fn phase_of(kind: Kind) -> u8
     }
 }
 
-/// Whether lines of this kind stand inside a client's section, and nowhere else.
+/// Returns whether a line of this kind is inside a client's section, and nowhere else.
 pub fn is_inner(kind: Kind) -> bool
     ensures { result ≡ is_inner kind }
 {
@@ -231,7 +236,7 @@ fn has_order_count(kind: OrderKind, count: usize) -> bool
     }
 }
 
-/// Whether a line of this kind may have so many words.
+/// Returns whether a line of this kind may have `count` words.
 pub fn has_count(kind: Kind, count: usize) -> bool
     ensures { result ≡ has_count kind count }
 {

@@ -1,5 +1,5 @@
-//! Lines: what a text is cut into, what kind of line its words make, which requests they spell,
-//! and the reasons why a line is bad.
+//! Lines of a text: how a text is cut into lines and words, the kinds of lines, the requests that
+//! they spell, and the reasons why a line is bad.
 #![tactic(auto)]
 
 mod kinds;

@@ -3,15 +3,16 @@ ghost use Rattle.std.specs.Prelude.{◌≡◌, ◌<◌, ◌-◌, ◌==◌, ◌�
 ghost use Rattle.sc_lines.specs.Words.{words_of};
 ghost use Rattle.sc_lines.specs.Lines.{lines_in, trimmed, is_skipped, has_bad_byte};
 
-// The place of the first line feed.
+// Returns the index of the first line feed.
 fn line_end(text: &[u8]) -> Option<usize>
     ensures { result ≡ position (λ byte. byte == 10) text.now }
 {
     text.iter().position(|byte| *byte == b'\n')
 }
 
-/// The first line of a text that is not empty, and the text behind it. None where a text with too
-/// many bytes has no more lines that a line feed ends.
+/// Returns the first line of a text that is not empty, and the text after it. `is_long` says that
+/// the text is cut from one with too many bytes: then only a line that a line feed ends counts,
+/// and `None` is returned where there is no more such line.
 #[tactic(auto, using(crate::proofs::Cuts::lines_none, crate::proofs::Cuts::lines_last))]
 pub fn next_line(is_long: bool, text: &[u8]) -> Option<(&[u8], &[u8])>
     requires { 0 < length text.now }
@@ -36,7 +37,7 @@ fn last_of(line: &[u8]) -> u8
     }
 }
 
-/// A line without the carriage return at its end.
+/// Returns the line without the carriage return at its end.
 pub fn trimmed(line: &[u8]) -> &[u8]
     ensures { result.now ≡ trimmed line.now }
 {
@@ -53,7 +54,7 @@ fn is_comment(line: &[u8]) -> bool
     !line.is_empty() && line[0] == b'#'
 }
 
-/// Whether a line with these words is a comment, or has no words.
+/// Returns whether a line with these words is a comment, or has no words.
 pub fn is_skipped(line: &[u8], words: &[&[u8]]) -> bool
     requires { map (λ word. word.now) words.now ≡ words_of line.now }
     ensures { result ≡ is_skipped line.now }
@@ -61,7 +62,7 @@ pub fn is_skipped(line: &[u8], words: &[&[u8]]) -> bool
     is_comment(line) || words.len() == 0
 }
 
-/// Whether a line has a byte that no line may have.
+/// Returns whether a line has a byte that no line may have: one outside 32 to 126 that is no tab.
 pub fn has_bad_byte(line: &[u8]) -> bool
     ensures { result ≡ has_bad_byte line.now }
 {

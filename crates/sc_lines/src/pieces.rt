@@ -1,10 +1,10 @@
-//! Texts cut into words, and words into parts.
+//! Lines cut into words, and words into parts.
 ghost use Rattle.std.specs.Prelude.{◌≡◌, map, IfOk};
 ghost use Rattle.sc_lines.specs.Words.{pieces, words_of};
 
 use std::alloc::{AllocError, Global};
 
-/// The words of a line: what stands between blanks and tabs.
+/// Returns the words of a line: the parts between blanks and tabs that are not empty.
 pub fn words_of(alloc: Global, line: &[u8]) -> Result<Vec<&[u8]>, AllocError>
     ensures { IfOk result (λ words. map (λ word. word.now) words.items ≡ words_of line.now) }
 {
@@ -13,7 +13,7 @@ pub fn words_of(alloc: Global, line: &[u8]) -> Result<Vec<&[u8]>, AllocError>
         .collect(alloc)
 }
 
-/// The pieces between dots: one more than there are dots.
+/// Returns the parts of a word between dots: one more than there are dots.
 pub fn dotted_parts(alloc: Global, word: &[u8]) -> Result<Vec<&[u8]>, AllocError>
     ensures { IfOk result (λ parts. map (λ part. part.now) parts.items ≡ pieces 46 word.now) }
 {

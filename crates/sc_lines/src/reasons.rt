@@ -1,4 +1,4 @@
-//! Why a line is bad.
+//! The reasons why a line is bad.
 ghost use Rattle.std.specs.Prelude.{◌≡◌};
 ghost use Rattle.sc_lines.specs.Reasons.{reason_code, reason_text};
 ghost use Rattle.sc_lines.specs.declared.reasons.LineFault.TheVariants.{Bad, OutOfMemory};
@@ -6,47 +6,53 @@ ghost use Rattle.sc_lines.specs.declared.reasons.LineFault.TheVariants.{Bad, Out
 use sc_base;
 use std::alloc::AllocError;
 
-/// Why a line is bad. Of the reasons of one line the one with the lowest number counts.
+/// The reason why a line is bad. If several hold of a line, the one with the lowest number counts.
+/// They are listed in docs/SCENARIOS.md.
 #[derive(Clone, Copy, Debug, PartialEq, Eq)]
 pub enum Reason {
     /// Line 1 is neither `scatter 1` nor `scatter 2`, or there is no line.
     MissingHeader,
-    /// A byte outside 32 to 126 that is no tab.
+    /// The line has a byte outside 32 to 126 that is no tab.
     BadByte,
-    /// The first word, or an order's third, is none of the grammar's.
+    /// The first word, or an order's third word, is none of the grammar's.
     UnknownWord,
-    /// A line that may not stand here.
+    /// A line of this kind may not stand here.
     OutOfPlace,
-    /// Too many or too few words.
+    /// The line has too many or too few words.
     WrongCount,
-    /// A number, a group's name or an actor that is not spelled so, or is out of its range.
+    /// A number, a group's name or an actor is not spelled as it should be, or is out of its
+    /// range.
     BadNumber,
+    /// The key is too long, or has a byte that no key may have.
     BadKey,
+    /// The value is too long, or has a byte that no value may have.
     BadValue,
-    /// A node above the number of nodes, or a client without a section.
+    /// The line names a node above the number of nodes, or a client without a section.
     UnknownName,
-    /// A client's second section, or a node twice in a group.
+    /// The line begins a client's second section, or names a node twice in a group.
     Repeated,
-    /// A group does not begin above the one before.
+    /// A group does not begin above the group of the line before.
     BadBoundary,
-    /// A group, a member or a request too many.
+    /// There is a group, a member or a request too many.
     TooMany,
     /// The text ends inside a section.
     UnendedClient,
-    /// The text ends without nodes or a group.
+    /// The text ends without the number of nodes or without a group.
     MissingPart,
-    /// The line of the first byte too many, or the first line too many.
+    /// This is the line with the byte after the last allowed one, or the line after the last
+    /// allowed one.
     TooLarge,
     /// The file of a stored journal has no line `journal`.
     MissingJournal,
-    /// A line of such a file that has to be a row's text and is none.
+    /// A line of a stored journal that should be the text of a row is none.
     BadRow,
-    /// Such a file has too many bytes.
+    /// The file of a stored journal has too many bytes.
     FileTooLarge,
 }
 
 impl Reason {
-    /// The number of the reason, from 1 to 18: up to 15 those of scenarios, then those of files.
+    /// Returns the number of the reason, 1 to 18. Numbers up to 15 are reasons of scenarios; the
+    /// others are reasons of files of stored journals.
     pub fn code(self) -> u8
         ensures { result ≡ reason_code self }
     {
@@ -72,7 +78,7 @@ impl Reason {
         }
     }
 
-    /// The words for the reason.
+    /// Returns the printed text of the reason.
     pub fn text(self) -> &'static [u8]
         ensures { result.now ≡ reason_text self }
     {
@@ -99,11 +105,12 @@ impl Reason {
     }
 }
 
-/// Why nothing was read of a line.
+/// The error of a line from which nothing was read.
 #[derive(Clone, Copy)]
 pub enum LineFault {
-    /// The line is bad.
+    /// The line is bad, for this reason.
     Bad(Reason),
+    /// There was no memory left.
     OutOfMemory,
 }
 

@@ -9,8 +9,8 @@ use crate::words::{key_in, nth, value_in};
 use sc_base::Op;
 use std::alloc::Global;
 
-/// The request of this kind that the words of a line spell; or the first that is none of its key
-/// and its values.
+/// Returns the request of this kind that a line spells. The error is `BadKey` or `BadValue`, by
+/// the first word that spells no key or value.
 pub fn request_in(alloc: Global, kind: RequestKind, words: &[&[u8]]) -> Result<Op, LineFault>
     ensures { IsSaid (request_in kind (map (λ word. word.now) words.now)) result }
 {
