@@ -9,7 +9,7 @@ use sc_base::{Key, Op, OutOfMemory, Sequence, Value};
 use sc_chance::Chance;
 use std::alloc::Global;
 
-// A byte, and the digits of a number.
+// Returns a byte followed by the digits of a number.
 fn numbered(alloc: Global, byte: u8, number: u16) -> Result<Vec<u8>, OutOfMemory>
     ensures { IfOk result (λ text. text.items ≡ byte ∷ decimal number) }
 {
@@ -20,7 +20,7 @@ fn numbered(alloc: Global, byte: u8, number: u16) -> Result<Vec<u8>, OutOfMemory
     Ok(text)
 }
 
-// The key of a text that is one: the only fault that is left is want of memory.
+// Returns the key of a text that is one, so that only memory can be missing.
 fn kept_key(alloc: Global, text: &[u8]) -> Result<Key, OutOfMemory>
     requires { text_fault longest_key text.now ≡ None }
     ensures { IfOk result (λ key. key ≡ text.now) }
@@ -31,7 +31,7 @@ fn kept_key(alloc: Global, text: &[u8]) -> Result<Key, OutOfMemory>
     }
 }
 
-// The value of a text that is one.
+// Returns the value of a text that is one, so that only memory can be missing.
 fn kept_value(alloc: Global, text: &[u8]) -> Result<Value, OutOfMemory>
     requires { text_fault longest_value text.now ≡ None }
     ensures { IfOk result (λ value. value ≡ text.now) }
@@ -56,7 +56,7 @@ fn made_value(alloc: Global, number: u16) -> Result<Value, OutOfMemory>
     kept_value(alloc, &text)
 }
 
-// A client's request of this number, by its two words.
+// Returns the client's request with this number, by its two random words.
 fn made_op(alloc: Global, words: (u32, u32), client: u16, number: u16) -> Result<Op, OutOfMemory>
     ensures { IfOk result (λ op. op ≡ made_op words client number) }
 {
@@ -71,7 +71,8 @@ fn made_op(alloc: Global, words: (u32, u32), client: u16, number: u16) -> Result
     Ok(Op::Del { key })
 }
 
-/// The requests of the client after `before` others, of whom each has `n`, of the next words.
+/// Returns the requests of the client that comes after `before` others with `n` requests each,
+/// drawn from the generator's next words.
 pub(crate) fn made_ops(
     alloc: Global,
     chance: &mut Chance,

@@ -1,4 +1,4 @@
-//! Made scenarios: ordinary use, whose requests are drawn from the words that a number seeds.
+//! Made scenarios: ordinary use, with requests drawn from the random words that a number seeds.
 #![tactic(auto)]
 
 mod drawing;

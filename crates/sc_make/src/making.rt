@@ -30,7 +30,7 @@ fn clients(alloc: Global, n: u16, seed: u64) -> Result<ClientList, OutOfMemory>
     Ok(clients)
 }
 
-// Three neighbouring nodes.
+// Returns the set of three neighbouring nodes.
 fn three(first: u16) -> Members
     requires { first ≤ 30 }
     ensures { result ≡ first ∷ (first + 1) ∷ (first + 2) ∷ [] }
@@ -72,9 +72,9 @@ fn lines(alloc: Global) -> Result<Schedule, OutOfMemory>
     Ok(lines)
 }
 
-/// The scenario of version 1 with three groups of three nodes and sixteen clients, each with `n`
-/// requests, from 1 to 1,000, which are drawn from the words that `seed` seeds. All clients start,
-/// and mail is delivered until none is pending.
+/// Returns the scenario of version 1 with three groups of three nodes and sixteen clients, each
+/// with `n` requests, 1 to 1,000, which are drawn from the random words that `seed` seeds. All
+/// clients start, and then mail is delivered until none is pending or 1,000,000 mails were.
 pub fn made_scenario(alloc: Global, n: u32, seed: u64) -> Result<Scenario, OutOfMemory>
     requires some { 1 ≤ n }
     requires few { n ≤ most_requests }
