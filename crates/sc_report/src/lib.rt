@@ -1,4 +1,5 @@
-//! The report of a run: what each request, order and group came to, and the journal's counts.
+//! The report of a run: the result of each request and order, the groups at the end, and the
+//! journal's counts.
 #![tactic(auto)]
 
 mod printed;

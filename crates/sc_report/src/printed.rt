@@ -9,7 +9,7 @@ use sc_cmd::{Route, ToldResult};
 use std::alloc::Global;
 use std::marker::Model;
 
-/// One line of output, with its line feed.
+/// A line of output, with its line feed.
 #[derive(Drop)]
 pub struct ReportLine {
     bytes: Vec<u8>,
@@ -24,14 +24,14 @@ impl Model for ReportLine {
 }
 
 impl ReportLine {
-    /// The line of these bytes, which takes no memory.
+    /// Returns the line with these bytes, without allocation.
     pub fn from_vec(bytes: Vec<u8>) -> ReportLine
         ensures { result ≡ bytes.items }
     {
         ReportLine { bytes }
     }
 
-    /// The bytes of the line, its line feed among them.
+    /// Returns the bytes of the line, its line feed included.
     pub fn bytes(&self) -> &[u8]
         ensures { result.now ≡ self.now }
     {
@@ -217,8 +217,8 @@ fn add_counts(
     Ok(())
 }
 
-/// The report's lines: the version; each request, or how many were answered; each order; each group
-/// of the ring; the counts.
+/// Returns the lines of the report: the version; each request, or how many were answered; each
+/// order; each group of the ring; the counts.
 pub fn lines(alloc: Global, summary: &Summary) -> Result<Sequence<ReportLine>, OutOfMemory>
     ensures { IfOk result (λ lines. lines ≡ report_lines summary.now) }
 {

@@ -1,18 +1,19 @@
-//! What a report tells.
+//! The content of a report.
 use sc_base::{Op, Reply, Sequence};
 use sc_cmd::{Route, ToldResult};
 
 /// How far a request came.
 #[derive(Drop)]
 pub enum Progress {
-    /// Its client has not sent it.
+    /// The client has not sent the request.
     Unsent,
-    /// It was sent, and its client has no reply.
+    /// The request was sent, and the client has no reply.
     Unanswered,
+    /// The client has this reply.
     Replied(Reply),
 }
 
-/// A client's request, by its number from 1.
+/// A client's request, with its number, counted from 1.
 #[derive(Drop)]
 pub struct Asked {
     pub client: u16,
@@ -21,26 +22,26 @@ pub struct Asked {
     pub got: Progress,
 }
 
-/// What a report tells of a run.
+/// The content of the report of a run.
 #[derive(Drop)]
 pub struct Summary {
     /// The scenario's version.
     pub version: u8,
-    /// Whether the requests are only counted.
+    /// Whether the report only counts the answered requests.
     pub brief: bool,
-    /// The requests by client and number.
+    /// The requests, by client and number.
     pub asked: Sequence<Asked>,
-    /// The first result told of each order, if one was told.
+    /// For each order, the first result that was reported of it, if one was.
     pub orders: Sequence<Option<ToldResult>>,
-    /// The groups that serve the circle, by ascending position.
+    /// The groups that serve the ring, by ascending position.
     pub ring: Sequence<Route>,
-    /// How many rows the journal has.
+    /// The number of rows of the journal.
     pub rows: u32,
-    /// How many mails were sent.
+    /// The number of mails that were sent.
     pub mail: u32,
-    /// How many deliveries there were.
+    /// The number of deliveries.
     pub delivered: u32,
-    /// How many schedule lines were skipped.
+    /// The number of skipped lines of the schedule.
     pub skipped: u64,
     /// Whether no mail is pending.
     pub quiet: bool,

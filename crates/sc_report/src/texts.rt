@@ -1,4 +1,4 @@
-//! The pieces that lines are made of.
+//! The pieces of lines.
 ghost use Rattle.std.specs.Prelude.{◌≡◌, ◌++◌, ◌∷◌, [], IfOk, OnOk};
 ghost use Rattle.std.specs.Fmt.{decimal};
 ghost use Rattle.sc_report.specs.Report.{with_nodes, count_line, op_word};
@@ -6,7 +6,7 @@ ghost use Rattle.sc_report.specs.Report.{with_nodes, count_line, op_word};
 use sc_base::{Op, OutOfMemory};
 use std::alloc::Global;
 
-/// Adds some bytes to a line.
+/// Appends bytes to a line.
 pub(crate) fn add_text(line: &mut Vec<u8>, text: &[u8]) -> Result<(), OutOfMemory>
     ensures { OnOk result (line.new.items ≡ line.old.items ++ text.now) }
 {
@@ -14,7 +14,7 @@ pub(crate) fn add_text(line: &mut Vec<u8>, text: &[u8]) -> Result<(), OutOfMemor
     Ok(())
 }
 
-/// Adds a number in decimal digits.
+/// Appends a number in decimal digits to a line.
 pub(crate) fn add_number(alloc: Global, line: &mut Vec<u8>, n: u64) -> Result<(), OutOfMemory>
     ensures { OnOk result (line.new.items ≡ line.old.items ++ decimal n) }
 {
@@ -23,7 +23,7 @@ pub(crate) fn add_number(alloc: Global, line: &mut Vec<u8>, n: u64) -> Result<()
     Ok(())
 }
 
-/// Ends a line.
+/// Appends the line feed to a line.
 pub(crate) fn add_end(line: &mut Vec<u8>) -> Result<(), OutOfMemory>
     ensures { OnOk result (line.new.items ≡ line.old.items ++ 10 ∷ []) }
 {
@@ -31,7 +31,7 @@ pub(crate) fn add_end(line: &mut Vec<u8>) -> Result<(), OutOfMemory>
     Ok(())
 }
 
-/// Adds each node after a blank.
+/// Appends each node to a line, after a blank.
 pub(crate) fn add_nodes(alloc: Global, line: &mut Vec<u8>, nodes: &[u16]) -> Result<(), OutOfMemory>
     ensures { OnOk result (line.new.items ≡ with_nodes line.old.items nodes.now) }
 {
@@ -42,7 +42,7 @@ pub(crate) fn add_nodes(alloc: Global, line: &mut Vec<u8>, nodes: &[u16]) -> Res
     Ok(())
 }
 
-/// A line of a label and a number.
+/// Returns a line of a label and a number.
 pub(crate) fn counted(alloc: Global, label: &[u8], n: u64) -> Result<Vec<u8>, OutOfMemory>
     ensures { IfOk result (λ line. line.items ≡ count_line label.now n) }
 {
@@ -52,7 +52,7 @@ pub(crate) fn counted(alloc: Global, label: &[u8], n: u64) -> Result<Vec<u8>, Ou
     Ok(line)
 }
 
-/// The word of an operation.
+/// Returns the word for an operation.
 pub(crate) fn op_word(op: &Op) -> &'static [u8]
     ensures { result.now ≡ op_word op.now }
 {
