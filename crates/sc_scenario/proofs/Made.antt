@@ -19,7 +19,7 @@ use Rattle.sc_scenario.proofs.Starts.{Lower}
 
 -- ---- clients
 
--- the client after so many others
+-- the client that comes after k others
 abbrev pub next_client : ℕ → ℕ → ℕ → Asks
 next_client seed n k = record { client = k + 1; ops = made_ops seed n k n }
 

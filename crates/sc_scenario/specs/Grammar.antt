@@ -1,4 +1,4 @@
--- Which texts are a scenario, which scenario, and else the first bad line and its reason.
+-- The grammar: which texts are a scenario, and which one; of any other text, the first bad line and the reason.
 use Rattle.std.specs.Prelude.{ℕ, ◌+◌, ◌==◌, ◌&&◌, ◌||◌, not, nat_lt, Bool, true, false, List, [], ◌∷◌, length, codes, Option, Result, Ok, Err, if◌then◌else◌, ◌≡◌, ◌⊎◌, MatchResult}
 use Rattle.std.specs.Result.{result_ok}
 use Rattle.sc_lines.specs.Definitions.{or_reason, then_on, same, nth, words_of, most_lines, is_too_long, lines_of, trimmed, is_skipped, has_bad_byte, kind_of, has_count}
@@ -19,29 +19,29 @@ use Rattle.sc_scenario.specs.declared.reading.ScenarioFault.TheVariants.{Bad, Ou
 
 -- ---- one line
 
--- nothing is read yet but the header
+-- the state of the parser after the header of this version
 abbrev pub begun : ℕ → Reading
 begun version = Outside (record { version = version; nodes = 0; groups = []; policy = false; clients = []; lines = []; orders = 0 })
 
--- whether a line has these two words
+-- whether a line has exactly these two words
 abbrev pub are_two : List (List ℕ) → List ℕ → List ℕ → Bool
 are_two words one other = (length words == 2) && same (nth words 0) one && same (nth words 1) other
 
--- line 1 is `scatter 1` or `scatter 2`
+-- the state of the parser after line 1, which must be `scatter 1` or `scatter 2`
 abbrev pub header_read : List (List ℕ) → Result Reading Reason
 header_read words =
     if are_two words (codes "scatter") (codes "1") then Ok (begun 1)
     else if are_two words (codes "scatter") (codes "2") then Ok (begun 2)
     else Err MissingHeader
 
--- what a line of a kind that may stand here says
+-- what a line of a kind says, where it may stand here and has its number of words
 abbrev pub said : Bool → Kind → List (List ℕ) → Result Statement Reason
 said in_place kind words =
     if not in_place then Err OutOfPlace
     else if not (has_count kind (length words)) then Err WrongCount
     else statement_in kind words
 
--- what the words of a line say behind what was read
+-- the state of the parser after a line with these words
 abbrev pub words_read : Reading → List (List ℕ) → Result Reading Reason
 words_read Fresh words = header_read words
 words_read (Outside draft) words =
@@ -49,13 +49,13 @@ words_read (Outside draft) words =
 words_read (Within draft asks) words =
     or_reason (kind_of draft.version words) UnknownWord (λ kind. then_on (said (is_in_place (Within draft asks) kind) kind words) (taken_within draft asks))
 
--- whether nothing is read yet
+-- whether nothing was read yet
 abbrev pub is_fresh : Reading → Bool
 is_fresh Fresh = true
 is_fresh (Outside draft) = false
 is_fresh (Within draft asks) = false
 
--- what is read after one more line, or the reason why it is bad; comments and lines without words stand from line 2 on
+-- the state of the parser after one more line, or the reason why the line is bad; from line 2 on, comments and lines without words are skipped
 abbrev pub line_read : Reading → List ℕ → Result Reading Reason
 line_read reading line =
     if not (is_fresh reading) && is_skipped line then Ok reading
@@ -64,7 +64,7 @@ line_read reading line =
 
 -- ---- all lines
 
--- a bad line, by its number
+-- the error of a bad line with this number
 abbrev pub bad : ℕ → Reason → Result Scenario ScenarioFault
 bad number reason = Err (Bad number reason)
 
@@ -80,38 +80,38 @@ scenario_by draft = record {
   version = draft.version;
 }
 
--- behind the last line, which would have this number: a header, nodes, a group, and no open section
+-- the result after the last line, where `number` is that of the line that would follow: there must be a header, nodes, a group, and no open section
 abbrev pub reading_ended : ℕ → Reading → Result Scenario ScenarioFault
 reading_ended number Fresh = bad number MissingHeader
 reading_ended number (Within draft asks) = bad number UnendedClient
 reading_ended number (Outside draft) =
     if (draft.nodes == 0) || (length draft.groups == 0) then bad number MissingPart else Ok (scenario_by draft)
 
--- the end of a text: of one with too many bytes, the line of the first byte too many
+-- the result at the end of a text; of one with too many bytes, the next line is bad
 abbrev pub text_ended : Bool → ℕ → Reading → Result Scenario ScenarioFault
 text_ended true number reading = bad number TooLarge
 text_ended false number reading = reading_ended number reading
 
--- what goes on with a good line; a bad one ends it
+-- the parser goes on with the state after a good line; a bad line ends it
 abbrev pub going_on : ℕ → (Reading → Result Scenario ScenarioFault) → Result Reading Reason → Result Scenario ScenarioFault
 going_on number onward (Ok more) = onward more
 going_on number onward (Err reason) = bad number reason
 
--- line by line, of which the first has this number: the first bad one counts
+-- the result of these lines, of which the first has this number: the first bad line counts
 abbrev pub lines_read : Bool → ℕ → Reading → List (List ℕ) → Result Scenario ScenarioFault
 lines_read is_long number reading [] = text_ended is_long number reading
 lines_read is_long number reading (line ∷ lines) =
     if nat_lt most_lines number then bad number TooLarge
     else going_on number (λ more. lines_read is_long (number + 1) more lines) (line_read reading (trimmed line))
 
--- the scenario of a text, or the first bad line
+-- the parser's result for a text: its scenario, or the first bad line and the reason
 abbrev pub verdict_of : List ℕ → Result Scenario ScenarioFault
 verdict_of text = lines_read (is_too_long text) 1 Fresh (lines_of text)
 
--- what a call answers of a text: its scenario, or its fault; or it wants memory
+-- a call returns the parser's result for a text, or that it is out of memory
 abbrev pub HasVerdict : Result Scenario ScenarioFault → Result Scenario ScenarioFault → Type 0
 HasVerdict verdict result = MatchResult result (λ scenario. verdict ≡ Ok scenario) (λ fault. (fault ≡ OutOfMemory) ⊎ (verdict ≡ Err fault))
 
--- the scenario of a text, if it is one
+-- the scenario of a text, if the text is one
 abbrev pub scenario_of : List ℕ → Option Scenario
 scenario_of text = result_ok (verdict_of text)

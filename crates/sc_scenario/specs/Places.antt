@@ -18,13 +18,13 @@ phase_so_far draft =
     else if not (draft.nodes == 0) then 1
     else 0
 
--- phases never go back; nodes and policy stand once; groups need nodes, and what comes later a group
+-- whether a line of a phase may follow one of phase `last`: phases do not go back, the lines of nodes and policy occur once, groups need nodes before them, and later phases need a group
 abbrev pub may_follow : ℕ → ℕ → Bool
 may_follow last phase =
     nat_le last phase && not (phase == 0) && not ((last == 1) && (phase == 1)) && not ((last == 3) && (phase == 3))
     && (nat_lt phase 2 || nat_le 1 last) && (nat_lt phase 3 || nat_le 2 last)
 
--- requests and `end` stand inside a section, all others outside
+-- whether a line of a kind may stand here: requests and `end` stand inside a section, and all others outside
 abbrev pub is_in_place : Reading → Kind → Bool
 is_in_place Fresh kind = false
 is_in_place (Outside draft) kind = not (is_inner kind) && may_follow (phase_so_far draft) (phase_of kind)

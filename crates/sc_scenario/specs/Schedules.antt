@@ -12,7 +12,7 @@ use Rattle.sc_scenario.specs.declared.scenarios.Asks.{Asks}
 use Rattle.sc_scenario.specs.declared.scenarios.SchedLine.{SchedLine}
 use Rattle.sc_scenario.specs.declared.scenarios.SchedLine.TheVariants.{Go, Deliver, Drop, Again, Tick, Crash, Settle, Free, Storm}
 
--- the greatest number of a mail and of a place among pending mail
+-- the greatest number of a mail, and the greatest place among pending mail
 abbrev pub most_mails : ℕ
 most_mails = 4294967295
 
@@ -32,7 +32,7 @@ last_storm = 18446744073709551615
 abbrev pub is_client : List Asks → ℕ → Bool
 is_client clients client = list_any (λ asks. asks.client == client) clients
 
--- `nN` and `cC`: a node is the actor of its number
+-- the number of the actor that a word spells, `nN` or `cC`, if it spells one; a node is the actor with its number
 abbrev pub actor_in : List ℕ → Option ℕ
 actor_in [] = None
 actor_in (letter ∷ digits) =
@@ -40,15 +40,15 @@ actor_in (letter ∷ digits) =
     else if letter == 99 then option_map (λ client. client_actor client) (count_in most_clients digits)
     else None
 
--- what a word spells as a number from 1 to the most
+-- the parser goes on with the number from 1 to `most` that a word spells; else the number is bad
 abbrev pub with_count : ℕ → List ℕ → (ℕ → Result SchedLine Reason) → Result SchedLine Reason
 with_count most word onward = or_reason (count_in most word) BadNumber onward
 
--- what the second word spells as an actor
+-- the parser goes on with the actor that the second word spells; else the number is bad
 abbrev pub with_actor : List (List ℕ) → (ℕ → Result SchedLine Reason) → Result SchedLine Reason
 with_actor words onward = or_reason (actor_in (nth words 1)) BadNumber onward
 
--- `go C`, `deliver A K`, `drop A K`, `again M`, `tick A`, `crash N`, `settle L`, `free L W`, `storm S L`
+-- the line of this kind that these words spell: `go C`, `deliver A K`, `drop A K`, `again M`, `tick A`, `crash N`, `settle L`, `free L W` or `storm S L`
 abbrev pub line_in : LineKind → List (List ℕ) → Result SchedLine Reason
 line_in kind.Go words = with_count most_clients (nth words 1) (λ client. Ok (Go client))
 line_in kind.Deliver words = with_actor words (λ who. with_count most_mails (nth words 2) (λ k. Ok (Deliver who k)))

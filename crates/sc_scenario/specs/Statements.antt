@@ -1,4 +1,4 @@
--- What the words of a line say, each line by itself.
+-- What a line says, each line by itself.
 use Rattle.std.specs.Prelude.{ℕ, List, [], drop, Result, Ok, Err}
 use Rattle.sc_base.specs.Definitions.{most_nodes, most_clients, number_of}
 use Rattle.sc_lines.specs.Definitions.{or_reason, then_on, nth, count_in, request_in}
@@ -12,14 +12,14 @@ use Rattle.sc_lines.specs.declared.kinds.Kind.TheVariants.{Header, Nodes, Group,
 use Rattle.sc_scenario.specs.declared.statements.Statement.{Statement}
 use Rattle.sc_scenario.specs.declared.statements.Statement.TheVariants.{NodeCount, NewGroup, WithPolicy, NewClient, Ask, SectionEnd, Play, Tell}
 
--- `group LO N1 .. Nk`
+-- what a line `group LO N1 .. Nk` says
 abbrev pub group_in : List (List ℕ) → Result Statement Reason
 group_in words =
     or_reason (number_of (nth words 1) last_position) BadNumber (λ lo.
     or_reason (count_in most_nodes (nth words 2)) BadNumber (λ first.
     or_reason (nodes_with [] (drop 3 words)) BadNumber (λ others. Ok (NewGroup lo first others))))
 
--- what a line of this kind says; a number comes before a key, and a key before a value
+-- what a line of this kind says; of several bad words, a number counts before a key, and a key before a value
 abbrev pub statement_in : Kind → List (List ℕ) → Result Statement Reason
 statement_in Header words = Err OutOfPlace
 statement_in Nodes words = or_reason (count_in most_nodes (nth words 1)) BadNumber (λ nodes. Ok (NodeCount nodes))

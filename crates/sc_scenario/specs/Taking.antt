@@ -1,4 +1,4 @@
--- What a line says, taken to what was read so far.
+-- How the parser adds what a line says to what was read so far.
 use Rattle.std.specs.Prelude.{ℕ, ◌+◌, ◌-◌, ◌==◌, ◌&&◌, ◌||◌, not, nat_le, nat_lt, Bool, true, List, [], ◌∷◌, ◌++◌, length, Result, Ok, Err, if◌then◌else◌}
 use Rattle.std.specs.List.{list_any, insert}
 use Rattle.sc_base.specs.Definitions.{most_requests, client_actor}
@@ -21,11 +21,11 @@ use Rattle.sc_scenario.specs.declared.scenarios.SchedLine.TheVariants.{Go, Deliv
 
 -- ---- names
 
--- a node, or a client with a section
+-- whether a number is that of a node, or of a client with a section
 abbrev pub is_actor : ℕ → List Asks → ℕ → Bool
 is_actor nodes clients who = nat_le who nodes || list_any (λ asks. client_actor asks.client == who) clients
 
--- whether an order names a node that there is
+-- whether the node that an order names exists
 abbrev pub is_order_known : ℕ → Order → Bool
 is_order_known nodes (Join node group) = nat_le node nodes
 is_order_known nodes (Leave node group) = nat_le node nodes
@@ -34,7 +34,7 @@ is_order_known nodes (Merge group) = true
 is_order_known nodes (Repart group at) = true
 is_order_known nodes (Migrate group node) = nat_le node nodes
 
--- whether a line of the schedule names nodes and clients that there are
+-- whether the nodes and clients that a line of the schedule names exist
 abbrev pub is_line_known : ℕ → List Asks → SchedLine → Bool
 is_line_known nodes clients (Go client) = is_client clients client
 is_line_known nodes clients (Deliver who k) = is_actor nodes clients who
@@ -57,11 +57,11 @@ most_groups = 16
 abbrev pub most_members : ℕ
 most_members = 9
 
--- whether a group begins above the one before
+-- whether a group begins above the one before it
 abbrev pub is_above : List GroupLine → ℕ → Bool
 is_above groups lo = (length groups == 0) || nat_lt (group_at groups (length groups - 1)).lo lo
 
--- a draft with one more group
+-- what was read, with one more group
 abbrev pub with_group_line : Draft → ℕ → List ℕ → Draft
 with_group_line draft lo members = record draft { groups = draft.groups ++ record { lo = lo; members = members } ∷ [] }
 
@@ -69,7 +69,7 @@ with_group_line draft lo members = record draft { groups = draft.groups ++ recor
 abbrev pub has_stranger : ℕ → List ℕ → Bool
 has_stranger most nodes = list_any (λ node. nat_lt most node) nodes
 
--- a group of nodes that there are, none twice, above the one before, and not too many
+-- the state of the parser after the line of a group: its nodes must exist, none twice, it must begin above the group before, and neither groups nor members may be too many
 abbrev pub group_taken : Draft → ℕ → ℕ → List ℕ → Result Reading Reason
 group_taken draft lo first others =
     if has_stranger draft.nodes (first ∷ others) then Err UnknownName
@@ -80,12 +80,12 @@ group_taken draft lo first others =
 
 -- ---- clients
 
--- a client's place among others: before the first of a greater number
+-- the place of a client among others: before the first one with a greater number
 abbrev pub client_place : ℕ → List Asks → ℕ
 client_place client [] = 0
 client_place client (other ∷ others) = if nat_lt client other.client then 0 else 1 + client_place client others
 
--- the client among the others
+-- what was read, with this client in its place
 abbrev pub with_client : Draft → Asks → Draft
 with_client draft asks = record draft { clients = insert draft.clients (client_place asks.client draft.clients) asks }
 
@@ -93,39 +93,39 @@ with_client draft asks = record draft { clients = insert draft.clients (client_p
 abbrev pub with_op : Asks → Op → Asks
 with_op asks op = record asks { ops = asks.ops ++ op ∷ [] }
 
--- a client's section begins, of which there is no other of this client
+-- the state of the parser after the first line of a section, which must be the only one of its client
 abbrev pub client_taken : Draft → ℕ → Result Reading Reason
 client_taken draft client = if is_client draft.clients client then Err Repeated else Ok (Within draft (record { client = client; ops = [] }))
 
--- a request, of which a client has so many
+-- the state of the parser after a request, of which a client has at most 1,000
 abbrev pub request_taken : Draft → Asks → Op → Result Reading Reason
 request_taken draft asks op = if nat_le most_requests (length asks.ops) then Err TooMany else Ok (Within draft (with_op asks op))
 
 -- ---- the schedule
 
--- a draft with one more line of the schedule
+-- what was read, with one more line of the schedule
 abbrev pub with_sched_line : Draft → SchedLine → Draft
 with_sched_line draft line = record draft { lines = draft.lines ++ line ∷ [] }
 
--- orders are numbered from 1 in the order of their lines
+-- the line of an order, whose number is the next one, from 1 in the order of lines
 abbrev pub telling_of : Draft → ℕ → Order → SchedLine
 telling_of draft node order = Told node (record { number = draft.orders + 1; order = order })
 
--- a draft with one more order
+-- what was read, with one more order
 abbrev pub with_order : Draft → SchedLine → Draft
 with_order draft line = record draft { lines = draft.lines ++ line ∷ []; orders = draft.orders + 1 }
 
--- a line of the schedule
+-- the state of the parser after a line of the schedule that is no order: nodes and clients in it must exist
 abbrev pub line_taken : Draft → SchedLine → Result Reading Reason
 line_taken draft line = if is_line_known draft.nodes draft.clients line then Ok (Outside (with_sched_line draft line)) else Err UnknownName
 
--- an order
+-- the state of the parser after an order: nodes in it must exist
 abbrev pub telling_taken : Draft → SchedLine → Result Reading Reason
 telling_taken draft line = if is_line_known draft.nodes draft.clients line then Ok (Outside (with_order draft line)) else Err UnknownName
 
 -- ---- all lines
 
--- what stands outside the sections
+-- the state of the parser after a statement outside the sections
 abbrev pub taken_outside : Draft → Statement → Result Reading Reason
 taken_outside draft (NodeCount nodes) = Ok (Outside (record draft { nodes = nodes }))
 taken_outside draft (NewGroup lo first others) = group_taken draft lo first others
@@ -136,7 +136,7 @@ taken_outside draft SectionEnd = Err OutOfPlace
 taken_outside draft (Play line) = line_taken draft line
 taken_outside draft (Tell node order) = telling_taken draft (telling_of draft node order)
 
--- what stands inside a section
+-- the state of the parser after a statement inside a section
 abbrev pub taken_within : Draft → Asks → Statement → Result Reading Reason
 taken_within draft asks (NodeCount nodes) = Err OutOfPlace
 taken_within draft asks (NewGroup lo first others) = Err OutOfPlace

@@ -1,4 +1,4 @@
--- Scenarios that some text is, or that are made.
+-- Scenarios that the parser accepts or `make` generates.
 use Rattle.std.specs.Prelude.{◌≡◌, ◌<◌, ◌≤◌, ℕ, ◌+◌, ◌^◌, true, List, Some, length, take, All, ◌⊎◌}
 use Rattle.std.specs.List.{AllPairs}
 use Rattle.sc_base.specs.Definitions.{IsRoster, Each, longest_key, longest_value, most_nodes, most_clients, most_requests, client_actor}
@@ -18,24 +18,24 @@ use Rattle.sc_scenario.specs.declared.scenarios.Scenario.{Scenario}
 use Rattle.sc_scenario.specs.declared.scenarios.SchedLine.{SchedLine}
 use Rattle.sc_scenario.specs.declared.scenarios.SchedLine.TheVariants.{Go, Deliver, Drop, Again, Tick, Crash, Told, Settle, Free, Storm}
 
--- some text is this scenario
+-- the parser reads this scenario from some text
 pub record IsWritten (scenario : Scenario) : Type 0 where
   pub text : List ℕ
   pub read : scenario_of text ≡ Some scenario
 
--- a scenario that may be run: some text is it, or it is made
+-- a scenario is valid: the parser accepts it from some text, or it is made
 abbrev pub IsValid : Scenario → Type 0
 IsValid scenario = IsWritten scenario ⊎ IsMade scenario
 
--- a number from 1 to the most
+-- a number is from 1 to `most`
 abbrev pub IsUpTo : ℕ → ℕ → Type 0
 IsUpTo most n = (1 ≤ n) × (n ≤ most)
 
--- a node, or a client with a section
+-- a number is that of a node, or of a client with a section
 abbrev pub IsActor : ℕ → List Asks → ℕ → Type 0
 IsActor nodes clients who = IsUpTo nodes who ⊎ ((client : ℕ) × (who ≡ client_actor client) × (is_client clients client ≡ true))
 
--- an order names a node that there is, and a position of the ring
+-- an order names a node that exists, and a position of the ring
 abbrev pub IsBoundedOrder : ℕ → Order → Type 0
 IsBoundedOrder nodes (Join node group) = IsUpTo nodes node
 IsBoundedOrder nodes (Leave node group) = IsUpTo nodes node
@@ -44,7 +44,7 @@ IsBoundedOrder nodes (Merge group) = Unit {0}
 IsBoundedOrder nodes (Repart group at) = at < 2 ^ 32
 IsBoundedOrder nodes (Migrate group node) = IsUpTo nodes node
 
--- a line of the schedule names actors that there are, orders have numbers from 1 on, and storms one of 64 bits
+-- a line of the schedule names actors that exist, its numbers are within their bounds, and an order has a number from 1 on
 abbrev pub IsBoundedLine : ℕ → List Asks → SchedLine → Type 0
 IsBoundedLine nodes clients (Go client) = is_client clients client ≡ true
 IsBoundedLine nodes clients (Deliver who k) = IsActor nodes clients who × IsUpTo most_mails k
@@ -65,17 +65,17 @@ IsShortOp (Del key) = length key ≤ longest_key
 IsShortOp (Add key value) = (length key ≤ longest_key) × (length value ≤ longest_value)
 IsShortOp (Cas key expect value) = (length key ≤ longest_key) × (length expect ≤ longest_value) × (length value ≤ longest_value)
 
--- a client's number, how many requests it has, and that each is short
+-- a client's number and the number of its requests are within their bounds, and its requests are short
 abbrev pub IsBoundedClient : Asks → Type 0
 IsBoundedClient asks = IsUpTo most_clients asks.client × (length asks.ops ≤ most_requests) × Each IsShortOp asks.ops
 
--- a group begins at a position of the ring, and has one to nine nodes that there are
+-- a group begins at a position of the ring, and has one to nine nodes that exist
 pub record IsBoundedGroup (nodes : ℕ) (line : GroupLine) : Type 0 where
   pub lo_in : line.lo < 2 ^ 32
   pub roster : IsRoster line.members
   pub members_in : All (IsUpTo nodes) line.members
 
--- one node or more, one to sixteen groups of some of them in the order of their beginnings, clients in order of number, and a schedule that names these
+-- a scenario is within its bounds: it has 1 to 32 nodes, one to sixteen groups of some of them in the order in which they begin, clients in the order of their numbers, a schedule that names these, and version 1 or 2
 pub record IsBounded (scenario : Scenario) : Type 0 where
   pub starts : List GroupLine
   pub nodes : IsUpTo most_nodes scenario.nodes
@@ -93,6 +93,6 @@ pub record IsBounded (scenario : Scenario) : Type 0 where
 abbrev pub ValidScenariosAreBounded : Type 0
 ValidScenariosAreBounded = (scenario : Scenario) → IsValid scenario → IsBounded scenario
 
--- a text comes out as its first bytes do, one more than the most that a text may have
+-- the parser's result for a text is that for its first bytes, one more than the most that a text may have
 abbrev pub FirstBytesDecide : Type 0
 FirstBytesDecide = (text : List ℕ) → verdict_of (take (most_bytes + 1) text) ≡ verdict_of text

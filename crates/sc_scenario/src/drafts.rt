@@ -12,8 +12,8 @@ pub struct GroupLine {
 /// The lines of the groups, in order.
 pub type GroupLines = Sequence<GroupLine>;
 
-/// The version, the number of nodes (0 before its line), the groups, the clients whose sections
-/// were ended, by number, the schedule, and how many orders it has.
+/// The part of a scenario that was read so far. `nodes` is 0 before its line, `clients` are those
+/// whose sections have ended, by number, and `orders` is the number of orders in `lines`.
 #[derive(Drop)]
 pub struct Draft {
     pub version: u8,
@@ -25,7 +25,9 @@ pub struct Draft {
     pub orders: u32,
 }
 
-/// Nothing; a draft; or a draft and the client whose section is open.
+/// The state of the parser: `Fresh` before the header, `Outside` all sections with what was read,
+/// and `Within` the section of a client with what was read before and the client's requests so
+/// far.
 #[derive(Drop)]
 pub enum Reading {
     Fresh,

@@ -1,4 +1,4 @@
-//! The groups' lines, and their records.
+//! The lines of groups, and the records of the groups.
 ghost use Rattle.std.specs.Prelude.{◌≡◌, ◌<◌, ◌≤◌, ◌==◌, ◌∷◌, length, map, IfOk};
 ghost use Rattle.std.specs.List.{list_any};
 ghost use Rattle.sc_scenario.specs.Groups.{nodes_with, has_repeat, joined_by, joined_by_all, set_of, group_at, name_at, place_right, place_left, link_at, way, arc_at, base_at, bases_of};
@@ -12,7 +12,7 @@ use std::alloc::Global;
 
 const MOST_NAMES: usize = 4_294_967_294;
 
-/// The nodes with those that the words spell, if each spells one.
+/// Returns the nodes followed by those that these words spell, or `None` where one spells no node.
 pub(crate) fn nodes_with(
     nodes: Sequence<u16>,
     words: &[&[u8]],
@@ -30,14 +30,14 @@ pub(crate) fn nodes_with(
     Ok(Some(so_far))
 }
 
-// Whether a node stands among others.
+// Returns whether a node is one of these.
 fn is_among(nodes: &[u16], node: u16) -> bool
     ensures { result ≡ list_any (λ other. other == node) nodes.now }
 {
     nodes.iter().any(|other| *other == node)
 }
 
-/// Whether a node stands twice.
+/// Returns whether a node occurs twice.
 pub(crate) fn has_repeat(nodes: &[u16]) -> bool
     ensures { result ≡ has_repeat nodes.now }
 {
@@ -49,7 +49,7 @@ pub(crate) fn has_repeat(nodes: &[u16]) -> bool
     false
 }
 
-/// Whether this node or one of the others stands twice.
+/// Returns whether one of this node and the others occurs twice.
 pub(crate) fn have_repeat(node: u16, others: &[u16]) -> bool
     ensures { result ≡ has_repeat (node ∷ others.now) }
 {
@@ -66,7 +66,7 @@ fn joined_by(members: Members, node: u16) -> Members
     }
 }
 
-/// The set of a node and others; a tenth is left out.
+/// Returns the set of a node and others. After nine members further nodes are left out.
 pub(crate) fn set_of(node: u16, others: &[u16]) -> Members
     ensures { result ≡ set_of node others.now }
 {
@@ -128,7 +128,8 @@ fn link_at(lines: &[GroupLine], k: usize) -> Link
     }
 }
 
-// How far it is from a position up to the next of the other.
+// Returns how far it is round the circle from one position to the next start, which is the whole
+// circle where both are the same.
 fn way(lo: u32, next: u32) -> u64
     ensures same { result ≡ way lo next }
     ensures some { 1 ≤ result }
@@ -179,7 +180,8 @@ fn base_at(alloc: Global, lines: &[GroupLine], k: usize) -> Base
     }
 }
 
-/// The records of the groups of some lines. More lines than there are names have no room in memory.
+/// Returns the records of the groups with these lines. Returns `OutOfMemory` also for more lines
+/// than there are names, which no memory holds.
 #[tactic(auto, using(crate::proofs::Records::bases_next))]
 pub fn bases_of(alloc: Global, lines: &[GroupLine]) -> Result<GroupList, OutOfMemory>
     ensures { IfOk result (λ bases. bases ≡ bases_of lines.now) }

@@ -1,4 +1,4 @@
-//! Scenarios: what is to be run, and the texts that they are read from.
+//! Scenarios: the runs to be made, and the parser of their texts.
 #![tactic(auto)]
 
 mod drafts;

@@ -1,4 +1,4 @@
-//! The orders that nodes are told.
+//! The orders to nodes.
 ghost use Rattle.std.specs.Prelude.{◌≡◌, map, IfOk};
 ghost use Rattle.sc_lines.specs.Reasons.{IsSaid};
 ghost use Rattle.sc_scenario.specs.Orders.{name_in_parts, name_in, order_in};
@@ -25,7 +25,7 @@ fn name_of(parts: &[&[u8]]) -> Option<Draw>
     Some(Draw { node, count })
 }
 
-// A group's name.
+// Returns the group's name that a word spells, if it spells one.
 fn name_in(alloc: Global, word: &[u8]) -> Result<Option<Draw>, OutOfMemory>
     ensures { IfOk result (λ name. name ≡ name_in word.now) }
 {
@@ -95,8 +95,8 @@ fn migrate_in(alloc: Global, words: &[&[u8]]) -> Result<Order, LineFault>
     })
 }
 
-/// The order of this kind that the words of a line spell; or the first that is no number of a
-/// node, a group or a position.
+/// Returns the order of this kind that a line spells. The error is `BadNumber`, where a word
+/// spells no node, group or position.
 pub(crate) fn order_in(alloc: Global, kind: OrderKind, words: &[&[u8]]) -> Result<Order, LineFault>
     ensures { IsSaid (order_in kind (map (λ word. word.now) words.now)) result }
 {

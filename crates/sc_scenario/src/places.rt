@@ -35,7 +35,7 @@ fn may_follow(last: u8, phase: u8) -> bool
         && (phase < 3 || 2 <= last)
 }
 
-/// Whether a line of this kind may stand outside the sections, behind what was read so far.
+/// Returns whether a line of this kind may stand outside the sections, after what was read so far.
 pub(crate) fn may_stand(draft: &Draft, kind: Kind) -> bool
     ensures { result ≡ is_in_place (Outside draft.now) kind }
 {

@@ -1,4 +1,4 @@
-//! The reader: line by line, up to the first bad line.
+//! The parser: line by line, up to the first bad line.
 ghost use Rattle.std.specs.Prelude.{◌≡◌, map, IfOk};
 ghost use Rattle.sc_scenario.specs.Grammar.{HasVerdict, begun, are_two, header_read, said, words_read, is_fresh, line_read, bad, scenario_by, reading_ended, lines_read, verdict_of};
 ghost use Rattle.sc_lines.specs.Reasons.{IsSaid};
@@ -20,17 +20,18 @@ use sc_lines::{
 };
 use std::alloc::Global;
 
-/// The most bytes that an input has.
+/// The most bytes of an input.
 pub const INPUT_LIMIT: u64 = 16_777_216;
 
-/// The most lines that an input has.
+/// The most lines of an input.
 pub const LINE_LIMIT: u32 = 20_000;
 
-/// Why a text is no scenario.
+/// The error of a text that is no scenario.
 #[derive(Clone, Copy, Debug, PartialEq, Eq)]
 pub enum ScenarioFault {
-    /// The first bad line, from 1, and the reason.
+    /// The first bad line, counted from 1, and the reason why it is bad.
     Bad { line: u32, why: Reason },
+    /// There was no memory left.
     OutOfMemory,
 }
 
@@ -74,7 +75,7 @@ fn header_read(alloc: Global, words: &[&[u8]]) -> Result<Reading, Reason>
     }
 }
 
-// What a line of a kind says, which may stand here or not.
+// Returns what a line of a kind says. `in_place` is whether it may stand here.
 fn said(alloc: Global, in_place: bool, kind: Kind, words: &[&[u8]]) -> Result<Statement, LineFault>
     ensures { IsSaid (said in_place kind (map (λ word. word.now) words.now)) result }
 {
@@ -127,7 +128,7 @@ fn is_fresh(reading: &Reading) -> bool
     }
 }
 
-// What is read after one more line.
+// Returns the state of the parser after one more line.
 fn line_read(alloc: Global, reading: Reading, line: &[u8]) -> Result<Reading, LineFault>
     ensures { IsSaid (line_read reading line.now) result }
 {
@@ -167,7 +168,7 @@ fn scenario_by(alloc: Global, draft: Draft) -> Result<Scenario, sc_base::OutOfMe
     })
 }
 
-// Behind the last line, which would have this number.
+// Ends the parsing after the last line. `number` is that of the line that would follow.
 fn reading_ended(alloc: Global, number: u32, reading: Reading) -> Result<Scenario, ScenarioFault>
     ensures { HasVerdict (reading_ended number reading) result }
 {
@@ -182,7 +183,7 @@ fn reading_ended(alloc: Global, number: u32, reading: Reading) -> Result<Scenari
     Ok(scenario_by(alloc, draft)?)
 }
 
-// Line by line; the first bad one ends it.
+// Parses line by line, up to the first bad one.
 fn lines_read(alloc: Global, is_long: bool, text: &[u8]) -> Result<Scenario, ScenarioFault>
     ensures { HasVerdict (lines_read is_long 1 Fresh (lines_in is_long text.now)) result }
 {
@@ -216,8 +217,9 @@ fn is_too_long(text: &[u8]) -> bool
     text.len() as u64 > INPUT_LIMIT
 }
 
-/// The scenario that a text is. `Bad` exactly where it is none: its first bad line, and the lowest
-/// reason why that line is bad.
+/// Parses a text, and returns its scenario. `Bad` is returned exactly where the text is no
+/// scenario, with its first bad line and the lowest reason why that line is bad. The grammar is
+/// described in docs/SCENARIOS.md.
 #[tactic(auto, using(crate::proofs::Verdicts::verdict_all, crate::proofs::Verdicts::verdict_cut))]
 pub fn read_scenario(alloc: Global, text: &[u8]) -> Result<Scenario, ScenarioFault>
     ensures { HasVerdict (verdict_of text.now) result }
@@ -228,14 +230,16 @@ pub fn read_scenario(alloc: Global, text: &[u8]) -> Result<Scenario, ScenarioFau
     lines_read(alloc, false, text)
 }
 
-/// What holds of every valid scenario, one that some text is or that is made: nodes, one to sixteen
-/// groups of some of them in the order in which they begin, clients in order of number with few
-/// requests, and a schedule of lines that name these.
+/// States that every scenario that the parser accepts or `make` generates is within these bounds:
+/// it has 1 to 32 nodes, one to sixteen groups of some of them in the order in which they begin,
+/// clients in the order of their numbers with at most 1,000 requests, and a schedule of lines that
+/// name these.
 pub fn valid_scenarios_are_bounded()
     ensures { ValidScenariosAreBounded }
 {}
 
-/// A text comes out as its first bytes do, one more than the most that a text may have.
+/// States that the parser's result for a text is determined by its first bytes, one more than the
+/// most that a text may have.
 pub fn first_bytes_decide()
     ensures { FirstBytesDecide }
 {}

@@ -1,15 +1,16 @@
-//! What is to be run.
+//! The scenario, which is a run to be made.
 use sc_base::{Op, Sequence};
 use sc_cmd::{Base, OrderLine};
 
-/// The requests of one client, in the order in which it makes them.
+/// The requests of one client, in the order in which it sends them.
 #[derive(Drop)]
 pub struct Asks {
     pub client: u16,
     pub ops: Sequence<Op>,
 }
 
-/// A line of the schedule. `who` is an actor's number, and `k` the place of a pending mail from 1.
+/// A line of the schedule. `who` is an actor's number, and `k` the place of a mail among the
+/// actor's pending mail, counted from 1.
 #[derive(Drop)]
 pub enum SchedLine {
     /// The client starts.
@@ -18,21 +19,23 @@ pub enum SchedLine {
     Deliver { who: u32, k: u32 },
     /// The k-th pending mail of the actor is lost.
     Drop { who: u32, k: u32 },
-    /// The mail of this number is pending once more.
+    /// One more copy of the mail with this number is pending.
     Again { mail: u32 },
+    /// The actor's clock ticks.
     Tick { who: u32 },
+    /// The node stops for good.
     Crash { node: u16 },
-    /// The node is told an order.
+    /// The node gets an order.
     Told { node: u16, line: OrderLine },
-    /// The lowest-numbered pending mail is delivered, at most so often.
+    /// The pending mail with the lowest number is delivered, at most `most` times.
     Settle { most: u32 },
-    /// Any actor's first pending mail is delivered, at most so often, by so many workers.
+    /// Any actor's first pending mail is delivered, at most `most` times, by `workers` threads.
     Free { most: u32, workers: u32 },
-    /// So many steps of the storm of this number.
+    /// `most` steps of the storm with this number are made.
     Storm { number: u64, most: u32 },
 }
 
-/// The groups that a run starts with.
+/// The groups at the start of a run.
 pub type GroupList = Sequence<Base>;
 
 /// The requests of each client.
@@ -46,7 +49,7 @@ pub type Schedule = Sequence<SchedLine>;
 pub struct Scenario {
     pub nodes: u16,
     pub groups: GroupList,
-    /// Whether leaders order reshaping by themselves.
+    /// Whether there is a policy, by which leaders order the reshaping of their groups.
     pub policy: bool,
     pub clients: ClientList,
     pub lines: Schedule,

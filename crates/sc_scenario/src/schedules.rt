@@ -15,7 +15,7 @@ const MOST_WORKERS: u32 = 16;
 
 const LAST_STORM: u64 = 18_446_744_073_709_551_615;
 
-// The number of an actor.
+// Returns the number of the actor that a word spells, if it spells one.
 fn actor_in(word: &[u8]) -> Option<u32>
     ensures { result ≡ actor_in word.now }
 {
@@ -95,7 +95,8 @@ fn storm_in(words: &[&[u8]]) -> Result<SchedLine, Reason>
     Ok(SchedLine::Storm { number, most })
 }
 
-/// The line of this kind that the words spell, if each is a number or an actor of its range.
+/// Returns the line of this kind that these words spell. The error is `BadNumber`, where one of
+/// them is no number or actor in its range.
 pub(crate) fn line_in(kind: LineKind, words: &[&[u8]]) -> Result<SchedLine, Reason>
     ensures { result ≡ line_in kind (map (λ word. word.now) words.now) }
 {

@@ -1,4 +1,4 @@
-//! What the words of a line say, each line by itself.
+//! What a line says, each line by itself.
 ghost use Rattle.std.specs.Prelude.{◌≡◌, map};
 ghost use Rattle.sc_lines.specs.Reasons.{IsSaid};
 ghost use Rattle.sc_scenario.specs.Statements.{statement_in};
@@ -16,16 +16,21 @@ use std::alloc::Global;
 /// What a line says.
 #[derive(Drop)]
 pub(crate) enum Statement {
+    /// The number of nodes.
     NodeCount(u16),
-    /// Where a group begins, its first node as it is listed, and its other nodes.
+    /// A group: where it begins, its first node as it is listed, and its other nodes.
     NewGroup(u32, u16, Sequence<u16>),
+    /// There is a policy.
     WithPolicy,
+    /// The section of this client begins.
     NewClient(u16),
+    /// A request of the client whose section it is.
     Ask(Op),
+    /// The section ends.
     SectionEnd,
     /// A line of the schedule that is no order.
     Play(SchedLine),
-    /// A node is told an order.
+    /// An order to a node.
     Tell(u16, Order),
 }
 
@@ -60,7 +65,7 @@ fn order_said(alloc: Global, kind: OrderKind, words: &[&[u8]]) -> Result<Stateme
     Ok(Statement::Tell(node as u16, order))
 }
 
-/// What a line of this kind with these words says, or the first reason why it says nothing.
+/// Returns what a line of this kind with these words says, or the first reason why it is bad.
 pub(crate) fn statement_in(
     alloc: Global,
     kind: Kind,

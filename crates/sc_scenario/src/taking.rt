@@ -1,4 +1,4 @@
-//! What a line says, taken to what was read so far.
+//! How the parser adds what a line says to what was read so far.
 ghost use Rattle.std.specs.Prelude.{◌≡◌, ◌≤◌, ◌+◌, ◌==◌, true, length, IfOk};
 ghost use Rattle.std.specs.List.{list_any};
 ghost use Rattle.sc_lines.specs.Reasons.{IsSaid};
@@ -104,7 +104,7 @@ fn group_taken(draft: Draft, lo: u32, first: u16, others: &[u16]) -> Result<Read
     Ok(Reading::Outside(more))
 }
 
-// The place of a client among others: before the first of a greater number.
+// Returns the place of a client among others: before the first one with a greater number.
 fn place_of(clients: &[Asks], client: u16) -> usize
     ensures same { result ≡ client_place client clients.now }
     ensures within { result ≤ length clients.now }
@@ -117,7 +117,7 @@ fn place_of(clients: &[Asks], client: u16) -> usize
     clients.len()
 }
 
-// The client among the others, in order of number.
+// Adds the client to the others, in the order of their numbers.
 fn with_client(draft: Draft, asks: Asks) -> Result<Draft, OutOfMemory>
     ensures { IfOk result (λ more. more ≡ with_client draft asks) }
 {
@@ -176,7 +176,7 @@ fn with_sched_line(draft: Draft, line: SchedLine) -> Result<Draft, OutOfMemory>
     Ok(more)
 }
 
-// An order, with the number after so many.
+// Adds an order to the schedule. Its number is the next one.
 fn with_order(draft: Draft, line: SchedLine, number: u32) -> Result<Draft, OutOfMemory>
     requires { number ≡ draft.orders + 1 }
     ensures { IfOk result (λ more. more ≡ with_order draft line) }
@@ -197,7 +197,7 @@ fn line_taken(draft: Draft, line: SchedLine) -> Result<Reading, LineFault>
     Ok(Reading::Outside(more))
 }
 
-// More orders than there are numbers have no room in memory.
+// More orders than there are numbers do not fit into memory.
 fn telling_taken(draft: Draft, node: u16, order: Order) -> Result<Reading, LineFault>
     ensures { IsSaid (telling_taken draft (telling_of draft node order)) result }
 {
@@ -227,7 +227,8 @@ fn with_policy(draft: Draft) -> Draft
     more
 }
 
-/// What was read, with a statement outside the sections.
+/// Returns the state of the parser after a statement outside the sections, or the reason why it is
+/// bad.
 pub(crate) fn taken_outside(
     alloc: Global,
     draft: Draft,
@@ -248,7 +249,8 @@ pub(crate) fn taken_outside(
     }
 }
 
-/// What was read, with a statement inside a client's section.
+/// Returns the state of the parser after a statement inside a client's section, or the reason why
+/// it is bad.
 pub(crate) fn taken_within(
     draft: Draft,
     asks: Asks,
