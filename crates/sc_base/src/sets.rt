@@ -147,7 +147,7 @@ impl Dup for Members {
     }
 }
 
-// Sets are compared as their lists, so that `==` tells them apart exactly.
+// Sets are compared as their lists, so that `==` is exact.
 impl PartialEq for Members {
     ghost eq = { pointwise nat_eq };
 

@@ -19,28 +19,38 @@ pub enum Body {
     Split { at: u32, child: Draw },
 }
 
-/// The coordinator's request to a participant to vote: its own name `coord`, arc and members, the
-/// participant's name `part`, and the change `body`. `by` is the node that asks.
+/// The request of a coordinator to its participant, to vote on a change.
 #[derive(Clone, Copy, PartialEq, Eq)]
 pub struct Offer {
+    /// The coordinator.
     pub coord: Draw,
+    /// The participant, which is the coordinator's successor.
     pub part: Draw,
+    /// The coordinator's arc.
     pub arc: RingArc,
+    /// The coordinator's members.
     pub members: Members,
+    /// The change that the transaction makes.
     pub body: Body,
+    /// The node of the coordinator that asks.
     pub by: u16,
 }
 
-/// The coordinator's request to a watcher, the group whose predecessor is replaced: that its
-/// predecessor `old` be replaced by `next`. `by` is the node that asks, one of the coordinator's
-/// `members`.
+/// The request of a coordinator to its watcher, to vote on the replacement of its predecessor. A
+/// watcher is a group whose predecessor a transaction replaces.
 #[derive(Clone, Copy, PartialEq, Eq)]
 pub struct Watch {
+    /// The coordinator.
     pub coord: Draw,
+    /// The coordinator's members.
     pub members: Members,
+    /// The watcher.
     pub part: Draw,
+    /// The watcher's predecessor, which is to be replaced.
     pub old: Draw,
+    /// The watcher's next predecessor.
     pub next: Link,
+    /// The node of the coordinator that asks, one of `members`.
     pub by: u16,
 }
 

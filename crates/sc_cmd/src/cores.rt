@@ -14,6 +14,7 @@ use std::alloc::Global;
 /// watcher.
 #[derive(Clone, PartialEq, Eq, Drop)]
 pub enum Lock {
+    /// The group is in no transaction.
     Free,
     /// The group has begun the transaction `tx`. `heard` is the participant's Yes, where it is
     /// recorded and the watcher's vote is still missing.
@@ -42,16 +43,21 @@ pub struct Core {
     pub id: Draw,
     /// The node that leads the group from its creation: its least member at that time.
     pub first: u16,
+    /// The group's arc of the ring.
     pub arc: RingArc,
+    /// The nodes that are members now.
     pub members: Members,
     /// The group that serves the positions from the end of this arc on.
     pub succ: Link,
     /// The group that serves the positions up to the start of this arc.
     pub pred: Link,
+    /// The transaction that binds the group, if any.
     pub lock: Lock,
     /// How many transactions the group has begun.
     pub begun: u32,
+    /// The outcomes that the group has decided as a coordinator.
     pub decided: DecidedList,
+    /// The votes that the group has cast as a participant or a watcher.
     pub voted: VotedList,
     /// The groups that this group has split off, oldest first.
     pub born: Sequence<Draw>,
@@ -62,8 +68,11 @@ pub struct Core {
 /// The whole state of a group, from which a replica starts.
 #[derive(Clone, PartialEq, Eq, Drop)]
 pub struct Base {
+    /// The group's state without pairs and client table.
     pub core: Core,
+    /// The group's keys and values.
     pub pairs: Pairs,
+    /// The group's client table.
     pub clients: SeenList,
 }
 

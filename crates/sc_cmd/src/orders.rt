@@ -8,11 +8,17 @@ use std::alloc::Global;
 /// An order to change a group. Orders are described in docs/SCENARIOS.md.
 #[derive(Clone, Copy, PartialEq, Eq)]
 pub enum Order {
+    /// The node becomes a member of the group.
     Join { node: u16, group: Draw },
+    /// The node stops being a member of the group.
     Leave { node: u16, group: Draw },
+    /// The group's part from `at` on becomes a new group.
     Split { group: Draw, at: u32 },
+    /// The group takes over its successor.
     Merge { group: Draw },
+    /// The boundary between the group and its successor moves to `at`.
     Repart { group: Draw, at: u32 },
+    /// The node leaves the group and joins its successor.
     Migrate { group: Draw, node: u16 },
 }
 
@@ -49,9 +55,13 @@ pub enum OrderRefusal {
 /// The result of an order that is reported to the desk.
 #[derive(Clone, Copy, PartialEq, Eq)]
 pub enum ToldResult {
+    /// The group has carried the order out alone.
     Done,
+    /// The transaction of the order was committed.
     Committed,
+    /// The transaction of the order was aborted.
     Aborted,
+    /// The order was refused.
     Refused(OrderRefusal),
 }
 

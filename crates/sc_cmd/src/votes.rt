@@ -38,15 +38,20 @@ pub enum No {
 /// A participant's vote.
 #[derive(Clone, PartialEq, Eq, Drop)]
 pub enum Vote {
+    /// A Yes, with the participant's record.
     Yes(Boxed<Frozen>),
+    /// A No, with its reason.
     No(No),
 }
 
 /// A vote that a group remembers having cast itself, or that the transaction has ended there.
 #[derive(Clone, Copy, PartialEq, Eq)]
 pub enum Past {
+    /// The group has voted Yes.
     Yes,
+    /// The group has voted No.
     No(No),
+    /// The transaction has ended at this group.
     Ended,
 }
 
@@ -60,11 +65,13 @@ pub struct Gift {
 /// The outcome that a coordinator has decided.
 #[derive(Clone, PartialEq, Eq, Drop)]
 pub enum Outcome {
+    /// Nothing changes.
     Abort,
     /// The participant is merged into the coordinator, whose new route is `into`.
     Merged { into: Route },
     /// The boundary is now at `at`. The participant gets a gift where it gains the arc.
     Moved { at: u32, gift: Option<Boxed<Gift>> },
+    /// The node has left the coordinator and is to join the participant.
     Migrated { node: u16 },
     /// The coordinator has split.
     Divided,

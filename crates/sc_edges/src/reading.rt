@@ -9,7 +9,9 @@ use std::alloc::{AllocError, Global};
 /// The reason why nothing was read: a read error, or out of memory.
 #[derive(Clone, Copy, Debug, PartialEq, Eq)]
 pub enum ReadFault {
+    /// A call of the source failed.
     Failed,
+    /// There was no memory left.
     OutOfMemory,
 }
 

@@ -8,11 +8,11 @@ ghost use Rattle.sc_ideal.specs.Laws.{ServesApart, MapPartsJoin, JoinedByNumber,
 use sc_base::{Dup, Op, OutOfMemory, Reply};
 use std::alloc::Global;
 
-/// An entry of a history: a client's request, and the reply to it. The number `seq` is the
-/// client's own, counted from 1.
+/// An entry of a history: a client's request, and the reply to it.
 #[derive(Clone, PartialEq, Eq, Drop)]
 pub struct Entry {
     pub client: u16,
+    /// The client's number of the request, counted from 1.
     pub seq: u32,
     pub op: Op,
     pub reply: Reply,

@@ -168,6 +168,6 @@ executed_ready (e ∷ es) place =
 abbrev pub all_ready : Place → Executed
 all_ready place = executed_ready place.0.ready place
 
--- Execute: the command is executed, and then the ready commands of the slots behind it
+-- Execute: the command is executed, and then the ready commands of the next slots
 unfoldable pub executed : Bool → Command → Place → Executed
 executed counted command place = ending (next_child command place.0) (all_ready (executed_one counted command place))

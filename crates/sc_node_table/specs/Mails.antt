@@ -1,4 +1,4 @@
--- The mails of a replica. Each is put behind those that are there.
+-- The mails of a replica. Each one is appended.
 use Rattle.std.specs.Prelude.{ℕ, ◌+◌, ◌==◌, List, [], ◌∷◌, ◌++◌, if◌then◌else◌, Option}
 use Rattle.sc_base.specs.Definitions.{client_actor}
 use Rattle.sc_base.specs.declared.names.Draw.{Draw}

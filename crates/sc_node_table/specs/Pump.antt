@@ -38,7 +38,7 @@ is_act (Finish tx outcome) = true
 is_act (Watched tx watch) = true
 is_act (RecordWatch tx vote by) = true
 
--- whether requests are served under this lock
+-- whether a group with this lock serves requests
 abbrev pub serves_calls : Lock → Bool
 serves_calls Free = true
 serves_calls (Watching tx watch) = true

@@ -33,6 +33,7 @@ pub enum ReplicaInput {
 /// children.
 #[derive(Drop)]
 pub struct Made {
+    /// The first states of the new groups of which the node is a member.
     pub children: Sequence<Base>,
 }
 
@@ -41,6 +42,7 @@ pub struct Made {
 pub struct Before {
     /// Whether the group is its own successor.
     pub alone: bool,
+    /// The group's successor.
     pub succ: Link,
     /// The number of the order of the transaction that the group coordinates, or 0 where a policy
     /// ordered it or the group coordinates none.

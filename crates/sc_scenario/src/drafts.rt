@@ -25,12 +25,13 @@ pub struct Draft {
     pub orders: u32,
 }
 
-/// The state of the parser: `Fresh` before the header, `Outside` all sections with what was read,
-/// and `Within` the section of a client with what was read before and the client's requests so
-/// far.
+/// The state of the parser.
 #[derive(Drop)]
 pub enum Reading {
+    /// Nothing was read: the header is missing.
     Fresh,
+    /// No section is open. It has what was read.
     Outside(Draft),
+    /// The section of a client is open. It has what was read before, and its requests so far.
     Within(Draft, Asks),
 }
