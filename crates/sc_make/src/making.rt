@@ -74,7 +74,7 @@ fn lines(alloc: Global) -> Result<Schedule, OutOfMemory>
 
 /// Returns the scenario of version 1 with three groups of three nodes and sixteen clients, each
 /// with `n` requests, 1 to 1,000, which are drawn from the random words that `seed` seeds. All
-/// clients start, and then mail is delivered until none is pending or 1,000,000 mails were.
+/// clients start, and then mail is delivered, at most 1,000,000 times, until none is pending.
 pub fn made_scenario(alloc: Global, n: u32, seed: u64) -> Result<Scenario, OutOfMemory>
     requires some { 1 ≤ n }
     requires few { n ≤ most_requests }

@@ -186,11 +186,11 @@ impl<V: Drop> Leader<V> {
         Ok(())
     }
 
-    /// Counts a vote for the proposal in flight at a slot (Paxos Made Simple, section 2.2, phase
-    /// 2b). Only a vote in this leader's ballot counts; that of a member is kept, once, and that
-    /// of another node is not. Returns `Chosen`, and removes the proposal, exactly where the kept
-    /// voters are now a majority of the members. Returns `NotYet` with their number otherwise, 0
-    /// where nothing is in flight there in that ballot. At most nine votes are kept for a slot.
+    /// Counts a vote for the proposal in flight at a slot (Paxos Made Simple, section 2.3). Only a
+    /// vote in this leader's ballot counts; that of a member is kept, once, and that of another
+    /// node is not. Returns `Chosen`, and removes the proposal, exactly where the kept voters are
+    /// now a majority of the members. Returns `NotYet` with their number otherwise, 0 where nothing
+    /// is in flight there in that ballot. At most nine votes are kept for a slot.
     pub fn on_accepted(
         &mut self,
         from: u16,

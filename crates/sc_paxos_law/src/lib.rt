@@ -9,7 +9,7 @@ ghost use Rattle.sc_paxos_law.specs.Example.{three, first, example_steps};
 ghost use Rattle.sc_paxos_law.specs.Laws.{OneValuePerSlot, LogsAgree, LogIsLongest, LogOnlyGrows, LeastBallotStands, AcceptorsAreLawful, LeadersAreLawful, StrangersDoNotCount};
 
 /// States that no two values are chosen at one slot, and that any two logs agree as far as both go
-/// (Paxos Made Simple, section 2.2, safety).
+/// (Paxos Made Simple, section 2.2).
 pub fn one_value_per_slot<V>()
     ensures value { OneValuePerSlot V }
     ensures logs { LogsAgree V }

@@ -1,4 +1,4 @@
--- How a leader counts votes (Paxos Made Simple, section 2.2, phase 2b).
+-- How a leader counts votes (Paxos Made Simple, section 2.3).
 use Rattle.std.specs.Prelude.{ℕ, Bool, ◌==◌, ◌||◌, List, [], ◌∷◌, length, Option, Some, None, if◌then◌else◌}
 use Rattle.sc_base.specs.declared.names.Ballot.{Ballot}
 use Rattle.sc_base.specs.Definitions.{is_member, with_member, is_majority, same_ballot}
