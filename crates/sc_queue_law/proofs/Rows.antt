@@ -72,7 +72,7 @@ unfolding promise_row
 promise_row_keeps from ballot reports (r, mails) k =
     either_way Keeps (leads ballot r) _ _ (pumped_keeps (record r { leader = (promise_counted from ballot reports r.leader).1 }, mails) k) k
 
--- .. with the children that a row made
+-- what is kept of a replica with its mail and the children that a row made
 abbrev KeepsAfter : Executed → Type 0
 KeepsAfter step = Keeps step.0
 
