@@ -126,7 +126,7 @@ module _ (ahead : Ahead) (bases : List Base) where
     pub requests : client.requests ≡ asks.ops
     -- it waits for the reply after those that it has, if for any
     pub waits : IsNextOf client.waiting (length client.replies)
-    -- each reply that it has is told by a log
+    -- each reply that it has is one by a log
     pub replies : (k : ℕ) (reply : Reply) → slice_get client.replies k ≡ Some reply → IsAnswered h asks.client (k + 1) reply
 
   -- a client stays as the steps say after more of them
