@@ -20,7 +20,7 @@ use Rattle.sc_hist_law.proofs.QuietLaw.{first_notes, first_told}
 use Rattle.sc_hist_law.proofs.QuietWorlds.{notes_grow, tables_grow}
 use Rattle.std.proofs.lemmas.Option.{none-some}
 
--- what holds after each entry: the history tells what all groups hold, and what their own logs made them note
+-- what holds after each entry: the history matches what all groups hold, and what their own logs made them note
 record IsMoved (request : RequestOf) (world : StoreWorld) : Type 0 where
   holds : TellsHoldings request world.history (holdings_in world)
   notes : (name : Draw) (group : Group) → named_group name world.groups ≡ Some group → HasNotes world.history group.clients
