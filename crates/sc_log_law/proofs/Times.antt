@@ -43,7 +43,7 @@ past_rows ahead bases place before (row ∷ rows) at e =
     (λ _ k. (let same : length before + 1 ≡ at = cc in omega (arith, same)))
     (λ _ k. (let later = past_rows ahead bases place (before ++ row ∷ []) rows at k in let longer = length_push before row in omega (arith, later, longer))) e
 
--- an earlier entry is told no later
+-- an earlier entry is decided no later
 pub told_in_order : (ahead : Ahead) (bases : List Base) (place other : ℕ) → place ≤ other → (before rows : Rows) (at then : ℕ) → told_from ahead bases place before rows ≡ Some at → told_from ahead bases other before rows ≡ Some then → at ≤ then
 told_in_order ahead bases place other le before [] at then first second = cc
 told_in_order ahead bases place other le before (row ∷ rows) at then first second =
