@@ -14,7 +14,7 @@ use Rattle.sc_names_law.specs.Definitions.{Opt}
 use Rattle.sc_names_law.proofs.Lemmas.{opt_find, opt_map, opt_either, opt_slot, opt_choice}
 use Rattle.sc_law_lemmas.proofs.Lemmas.{either_way}
 
--- one more at the front, and one more at the end
+-- one more at the start, and one more at the end
 counted_in : (b : Bool) (command : Command) (others : List Command) → length (cond b (command ∷ others) others) ≡ length others + length (cond b (command ∷ []) [])
 counted_in true command others = omega arith
 counted_in false command others = omega arith

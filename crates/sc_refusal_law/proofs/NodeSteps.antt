@@ -118,7 +118,7 @@ ticked_parts node after on drawer (r ∷ replicas) mails f =
     let behind : (ticked on names replicas (tick_row on drawer (r, mails)).1).1 ≡ mails ++ (part ++ others.0) = others.1 ∙ ap (λ (p : Place). p.1 ++ others.0) own ∙ append_assoc mails part others.0 in
     (part ++ others.0, behind, (part, others.0, refl, sent, others.2))
 
--- .. and of the replicas
+-- what holds of each replica in its own step holds of the replicas at a tick
 ticked_replicas : (T : ReplicaState → Type 0) (on : Bool) (drawer : Drawer) (replicas : List ReplicaState) (mails : List Mail) → ((r : ReplicaState) → Among r replicas → (names : Drawer) → T (tick_row on names (r, [])).0)
     → Each T (ticked on drawer replicas mails).0
 unfolding ticked
