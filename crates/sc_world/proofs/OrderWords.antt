@@ -11,11 +11,11 @@ pub told-append : (number : ℕ) (xs ys : List Mail) → told_of number (xs ++ y
 told-append number [] ys = refl
 told-append number (x ∷ xs) ys = ap (either (told_in_mail number x.body)) (told-append number xs ys) ∙ sym (either_assoc (told_in_mail number x.body) (told_of number xs) (told_of number ys))
 
--- what one more mail tells of an order
+-- what one more mail reports of an order
 pub told-last : (number : ℕ) (xs : List Mail) (x : Mail) → told_of number (xs ++ x ∷ []) ≡ either (told_of number xs) (told_in_mail number x.body)
 told-last number xs x = told-append number xs (x ∷ []) ∙ ap (either (told_of number xs)) (either_none (told_in_mail number x.body))
 
--- so many are made of so many numbers
+-- a list made of a number of numbers has that length
 pub length-numbered : {X : Type 0} (f : ℕ → X) (from count : ℕ) → length (map f (numbers_from from count)) ≡ count
 length-numbered f from zero = refl
 length-numbered f from (suc count) = ap suc (length-numbered f (from + 1) count)
