@@ -17,9 +17,13 @@ use std::alloc::Global;
 /// phase 2b).
 #[derive(Clone, Drop)]
 pub struct Acceptance {
+    /// The node that accepted.
     pub node: u32,
+    /// The ballot in which it accepted.
     pub ballot: Ballot,
+    /// The slot at which it accepted.
     pub slot: u32,
+    /// The command that it accepted.
     pub command: Command,
 }
 
