@@ -82,7 +82,7 @@ pub record TellsStore (ahead : Ahead) (bases : List Base) (rows : List (Row Mail
   pub pairs : HasMap (world_at ahead bases rows) arc scan
   pub logs : (shown : Shown) → Among shown scan → IsOfItsLog ahead bases rows shown
 
--- a scan of rows that make one map is what the arc holds
+-- a scan of rows that make one map, and whose entries are the logs of their groups, is what the arc holds
 abbrev pub ScansTell : Type 0
 ScansTell = (ahead : Ahead) (bases : List Base) (rows : List (Row Mail OrderLine)) → IsOneMap (world_at ahead bases rows) → AreItsLogs ahead bases rows
     → (arc : Arc) → IsArc arc → arc.lo < 2 ^ 32 → TellsStore ahead bases rows arc (scan_at ahead bases rows arc)

@@ -14,10 +14,10 @@ pub fn entries_count_logs()
     ensures { EntriesCountLogs }
 {}
 
-/// Shows that a scan of rows that make one map is right: its parts share the arc out; the pairs of
-/// all parts are those of the map after the history whose keys the arc holds, each key once; and
-/// each part is what its group's log gives at its slot, with the outcome of a decided transaction
-/// that the log lacks.
+/// Shows that a scan of rows that make one map, and whose entries are the logs of their groups, is
+/// right: its parts share the arc out; the pairs of all parts are those of the map after the
+/// history whose keys the arc holds, each key once; and each part is what its group's log gives at
+/// its slot, with the outcome of a decided transaction that the log lacks.
 pub fn scans_tell()
     ensures { ScansTell }
 {

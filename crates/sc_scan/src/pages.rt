@@ -5,6 +5,8 @@ use sc_base::{Key, Value};
 /// page.
 #[derive(Drop)]
 pub struct Page {
+    /// The pairs of the page, in the order of the list.
     pub pairs: Vec<(Key, Value)>,
+    /// The last key of the page, where more pairs follow.
     pub next: Option<Key>,
 }
