@@ -26,14 +26,18 @@ pub const SCENARIO: &[u8] =
 /// (`sc_world`), which is a node or a client.
 #[derive(Drop)]
 pub struct Hand<A: Actor> {
+    /// Node 1.
     pub first: A,
+    /// Node 2.
     pub second: A,
+    /// Client 1.
     pub client: A,
+    /// The rows of what they did, and the mail on the wire.
     pub log: Log<A::Mail, A::Order>,
 }
 
 impl<A: Actor> Hand<A> {
-    /// Returns these two nodes, numbered 1 and 2, and this client, numbered 1, with an empty log.
+    /// Returns a `Hand` with these actors as node 1, node 2 and client 1, and with an empty log.
     pub fn new(alloc: Global, first: A, second: A, client: A) -> Hand<A>
         ensures first { result.first ≡ first }
         ensures second { result.second ≡ second }
@@ -108,8 +112,8 @@ impl<A: Actor<Mail = Mail, Order = OrderLine>> Hand<A> {
     /// lawful journal of a scenario; each prefix of them is then sound, and each refusal has its
     /// cause. The scenario has to be valid, and rows and their mails fewer than 2^31 each.
     ///
-    /// Errors: `BadRow` names the first row that is not lawful, from 1; else the memory was
-    /// exhausted.
+    /// Errors: `BadRow` names the first row that is not lawful, from 1; `OutOfMemory` may come for
+    /// any rows.
     pub fn audited<'a>(
         &'a self,
         alloc: Global,

@@ -12,7 +12,9 @@ use std::alloc::Global;
 /// with the number n stands at place n - 1.
 #[derive(Drop)]
 pub struct Log<M, O> {
+    /// The rows, in the order in which they were made.
     pub rows: Journal<M, O>,
+    /// The mail of all rows, by number.
     pub wire: Sequence<M>,
 }
 
