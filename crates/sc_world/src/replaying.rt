@@ -67,8 +67,7 @@ fn taken(
 /// each prefix of them is then sound, and each refusal has its cause. The scenario has to be valid,
 /// and rows and their mails fewer than 2^31 each.
 ///
-/// Errors: `BadRow` names the first row that is not lawful, exactly where there is one; else the
-/// memory was exhausted.
+/// Errors: `BadRow` names the first row that is not lawful; `OutOfMemory` may come for any rows.
 pub fn replay_rows<'a>(
     alloc: Global,
     scenario: &'a Scenario,

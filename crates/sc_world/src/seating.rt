@@ -34,6 +34,7 @@ fn node_seat(
     })
 }
 
+/// Returns the route that a client is given to a group at its birth.
 pub(crate) fn route_of(base: &Base) -> Route
     ensures { result ≡ route_of base.now }
 {
