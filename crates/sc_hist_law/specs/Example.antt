@@ -14,10 +14,11 @@ use Rattle.sc_hist_law.specs.Telling.{MayAllBeTold}
 use Rattle.sc_hist_law.specs.Worlds.{BeginBare}
 use Rattle.sc_hist_law.specs.Moves.{Holding, Holdings, Move, DividedAt, GivenFrom, ServedBy, RequestOf, AreBare, MayMakeAll, history_by, with_holding}
 
--- the names of the group and of its child
+-- the name of the group
 abbrev pub parent : Draw
 parent = record { node = 0; count = 1 }
 
+-- the name of the child
 abbrev pub offspring : Draw
 offspring = record { node = 1; count = 1 }
 
@@ -29,13 +30,15 @@ bare_ring = record { arc = record { lo = 0; len = 2 ^ 32 }; pairs = empty; clien
 abbrev pub lone_holdings : Holdings
 lone_holdings = with_holding parent (Some bare_ring) (λ name. None)
 
--- the two requests: client 1 puts x at a, whose position is 1627389952, and client 2 gets it
+-- the put of client 1: x at the key a, whose position is 1627389952
 abbrev pub put_a : Op
 put_a = Put (97 ∷ []) (120 ∷ [])
 
+-- the get of client 2, at the key a
 abbrev pub get_a : Op
 get_a = Get (97 ∷ [])
 
+-- the operation of each request: client 1 puts, any other client gets
 abbrev pub two_requests : RequestOf
 two_requests client seq = if client == 1 then put_a else get_a
 
@@ -79,16 +82,19 @@ lone_base = record {
   clients = [];
 }
 
--- the entries of the example: the group serves the put and is split at 1610612736, and the child serves the get
+-- the entry of the put, in the log of the group
 abbrev pub put_entry : LogEntry
 put_entry = record { group = parent; slot = 1; command = Call 1 1 put_a }
 
+-- the entry by which the group is split at 1610612736
 abbrev pub split_entry : LogEntry
 split_entry = record { group = parent; slot = 2; command = Split 1610612736 offspring 1 }
 
+-- the entry of the get, in the log of the child
 abbrev pub get_entry : LogEntry
 get_entry = record { group = offspring; slot = 1; command = Call 2 1 get_a }
 
+-- the three entries, in the order in which they are decided
 abbrev pub example_log : List LogEntry
 example_log = put_entry ∷ split_entry ∷ get_entry ∷ []
 

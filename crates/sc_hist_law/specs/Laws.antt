@@ -18,7 +18,7 @@ pub record HoldsNothing (group : Group) : Type 0 where
   pub pairs : group.pairs ≡ empty
   pub clients : group.clients ≡ empty
 
--- a group's table notes the number of an entry's client at this entry's number or a greater one
+-- a group's table notes a number of the entry's client that is at least the entry's
 pub record IsNoted (group : Group) (entry : Entry) : Type 0 where
   pub noted : Noted
   pub found : get group.clients entry.client ≡ Some noted

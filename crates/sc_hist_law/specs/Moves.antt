@@ -192,7 +192,7 @@ pub record AreDisjoint (holdings : Holdings) : Type 0 where
   pub only : (p : ℕ) (group other : Draw) (holding another : Holding) → holdings group ≡ Some holding → holdings other ≡ Some another
       → IsTrue (holds holding.arc p) → IsTrue (holds another.arc p) → group ≡ other
 
--- a table notes the number of an entry's client at this entry's number or a greater one
+-- a table notes a number of the entry's client that is at least the entry's
 pub record IsNotedIn (clients : ClientTable) (entry : Entry) : Type 0 where
   pub noted : Noted
   pub found : get clients entry.client ≡ Some noted

@@ -85,7 +85,7 @@ pub record MayHearWatcher (world : StoreWorld) (group : Group) (tx : Draw) (vote
   pub division : (at : ℕ) (child : Draw) (order : ℕ) (heard : Option Heard) → group.core.lock ≡ Coordinating tx (At.Split at child) order heard → vote ≡ Cast.Yes
       → (at < 2 ^ 32) × IsNewChild world group child × ((name : Draw) (other : Group) (offer : Offer) → named_group name world.groups ≡ Some other → other.core.lock ≡ Promised tx offer → ⊥)
 
--- what an end needs: the outcome is the one that was decided, and a party that is given something has a range
+-- what an end needs where its group is locked in the transaction: the outcome is the one that was decided, and a group that is given something has a range
 pub record MayFinish (world : StoreWorld) (group : Group) (tx : Draw) (outcome : Outcome) : Type 0 where
   pub decided : locked_in group.core.lock ≡ Some tx → decision tx world.transactions ≡ Some outcome
   pub cut : locked_in group.core.lock ≡ Some tx → (at : ℕ) (gift : Gift) → outcome ≡ Moved at (Some gift) → HasCut world group.core.id
