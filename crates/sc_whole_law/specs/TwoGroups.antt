@@ -5,10 +5,11 @@ use Rattle.sc_scenario.specs.declared.scenarios.SchedLine.TheVariants as line
 use Rattle.sc_scenario.specs.declared.scenarios.Scenario.{Scenario}
 use Rattle.sc_sound.specs.Definitions.{ballot, put_it, mail, row}
 
--- the names of the two groups
+-- the name of the first group
 abbrev pub one : Draw
 one = record { node = 0; count = 1 }
 
+-- the name of the second group
 abbrev pub two : Draw
 two = record { node = 0; count = 2 }
 

@@ -32,21 +32,25 @@ pub fn members_stay_rosters()
 {}
 
 /// Shows that each row of a lawful journal decides in turn, whatever its groups order, split, merge
-/// and move: the logs go on, each entry is allowed by the stories that the entries before the row
-/// leave, and a group that a row creates begins with no entry. So a replica queues no command, and
-/// sends no mail of a transaction, that the logs of the groups before it did not make allowed.
+/// and move, where the scenario begins well (`BeginsWell`) and what its orders queue is allowed
+/// (`OrdersAreAllowed`): the logs go on, each entry is allowed by the stories that the entries
+/// before the row leave, and a group that a row creates begins with no entry. So a replica queues
+/// no command, and sends no mail of a transaction, that the logs of the groups before it did not
+/// make allowed.
 pub fn lawful_journals_decide_in_turn()
     ensures { LawfulJournalsDecideInTurn }
 {}
 
-/// Shows that, in a lawful journal, each group has one value per slot, each replica has executed a
-/// prefix of its group's log, each call was issued before the row that decides it, and each reply
-/// that a client keeps was decided before the row in which the client takes it.
+/// Shows that, in a lawful journal of a scenario that begins well, where what its orders queue is
+/// allowed, each group has one value per slot, each replica has executed a prefix of its group's
+/// log, each call was issued before the row that decides it, and each reply that a client keeps was
+/// decided before the row in which the client takes it.
 pub fn lawful_journals_hold_beside()
     ensures { LawfulJournalsHoldBeside }
 {}
 
-/// Shows that each prefix of a lawful journal is sound, whatever its groups order.
+/// Shows that each prefix of a lawful journal is sound, whatever its groups order, where the
+/// scenario begins well with groups that hold nothing, and what its orders queue is allowed.
 pub fn lawful_journals_are_sound()
     ensures { LawfulJournalsAreSound }
 {}
