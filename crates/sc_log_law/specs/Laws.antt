@@ -1,4 +1,4 @@
--- What follows where each row of a journal decides in turn, whatever its groups order, split and merge.
+-- What follows where each row of a journal decides in turn, from groups in place, whatever its groups order, split and merge.
 use Rattle.std.specs.Prelude.{◌≡◌, ℕ, List, [], ◌∷◌, ◌++◌, Some, slice_get}
 use Rattle.sc_base.specs.Definitions.{Among}
 use Rattle.sc_base.specs.declared.names.Draw.{Draw}
