@@ -33,12 +33,12 @@ pub record AllDecided (K : Draw → Type 0) (ahead : Ahead) (scenario : Scenario
   pub groups : Each (λ (base : Base). CoreNames K base.core) (groups_at ahead scenario.groups rows)
   pub logs : (base : Base) → Each (CommandNames K) (decided_log ahead base rows)
 
--- in a lawful journal each name is of the scenario or was drawn: in mail, in what players keep, in logs and in groups
+-- in a lawful journal, whose groups begin with no name that nodes draw, each name is of the scenario or was drawn: in mail, in what players keep, in logs and in groups
 abbrev pub NamesAreDrawn : Type 0
 NamesAreDrawn = (ahead : Ahead) (words : ℕ → ℕ → ℕ × ℕ) (scenario : Scenario) → Each BeginsUndrawn scenario.groups → (rows : Rows) → Lawful ahead words scenario rows
     → AllNames (IsUsed ahead scenario rows) ahead scenario rows × AllDecided (IsUsed ahead scenario rows) ahead scenario rows
 
--- a name that a row of a lawful journal draws was nowhere before the row
+-- a name that a row draws after a lawful journal, whose groups begin with no name that nodes draw, was nowhere before the row
 abbrev pub DrawnNamesAreNew : Type 0
 DrawnNamesAreNew = (ahead : Ahead) (words : ℕ → ℕ → ℕ × ℕ) (scenario : Scenario) → Each BeginsUndrawn scenario.groups → (before : Rows) → Lawful ahead words scenario before
     → (row : Row Mail OrderLine) (owned : Owned) → Among owned (drawn_at ahead scenario before row) → AllNames (λ name. name ≡ owned.name → ⊥) ahead scenario before × AllDecided (λ name. name ≡ owned.name → ⊥) ahead scenario before

@@ -82,7 +82,7 @@ abbrev pub OrdersAreQueued : Type 0
 OrdersAreQueued = (drawer : Drawer) (line : OrderLine) (r : ReplicaState) (mails : List Mail) → untaken drawer line r ≡ None
     → ordered_row drawer line (r, mails) ≡ pumped (record r { calls = r.calls ++ ordered_command (next_name drawer) line.number line.order ∷ [] }, mails)
 
--- the command that is queued for an order is allowed in the log of the order's group, whatever the stories are, by the owners of any journal that continues these rows
+-- the command that is queued for an order, which names no place or a position of the ring, is allowed in the log of the order's group, whatever the stories are, by the owners of any journal that continues these rows
 abbrev pub TakenOrdersAreAllowed : Type 0
 TakenOrdersAreAllowed = (ahead : Ahead) (scenario : Scenario) (before : Rows) (row : Row Mail OrderLine) (later : Rows) (line : OrderLine) (node : NodeState) (r : ReplicaState)
     → TakesOrder ahead scenario before row line node r → IsAtPosition line.order → (request : ℕ → ℕ → Op) (stories : Stories)
@@ -104,7 +104,7 @@ pub record TakesWish (ahead : Ahead) (scenario : Scenario) (before : Rows) (row 
   pub wished : wished_at node.policy r ≡ Some line
   pub taken : untaken (names_after_ticks node.policy node.draws older) line (waited r) ≡ None
 
--- the command that is queued for what a policy orders is allowed in the log of its replica's group, whatever the stories are, by the owners of any journal that continues these rows
+-- the command that is queued for what a policy orders, which names no place or a position of the ring, is allowed in the log of its replica's group, whatever the stories are, by the owners of any journal that continues these rows
 abbrev pub TakenWishesAreAllowed : Type 0
 TakenWishesAreAllowed = (ahead : Ahead) (scenario : Scenario) (before : Rows) (row : Row Mail OrderLine) (later : Rows) (line : OrderLine) (node : NodeState) (older newer : List ReplicaState) (r : ReplicaState)
     → TakesWish ahead scenario before row line node older newer r → IsAtPosition line.order → (request : ℕ → ℕ → Op) (stories : Stories)

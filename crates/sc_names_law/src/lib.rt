@@ -36,10 +36,10 @@ pub fn counters_part_names()
 {}
 
 /// Shows that the command that a replica queues for an order that it takes is allowed in the log of
-/// its group: the child of a split or the transaction that is begun has a name that the group owns,
-/// and a boundary is a position of the ring. The command is queued last, and the pump follows. The
-/// command that a tick queues for what a policy orders is allowed as well, and its boundary is a
-/// position of the ring.
+/// its group, where the order names a position of the ring, if it names one: the child of a split
+/// or the transaction that is begun has a name that the group owns. The command is queued last, and
+/// the pump follows. The command that a tick queues for what a policy orders is allowed in the same
+/// sense, and what a policy orders names a position of the ring, if it names one.
 pub fn orders_are_allowed()
     ensures allowed { TakenOrdersAreAllowed }
     ensures wishes { TakenWishesAreAllowed }
@@ -47,18 +47,19 @@ pub fn orders_are_allowed()
     ensures queued { OrdersAreQueued }
 {}
 
-/// Shows that in a lawful journal each name (of a group, a child or a transaction) is of the
-/// scenario or was drawn, wherever it stands: in a mail, in what a node or a client keeps, in a
-/// log, or in a group's birth record. A name that a row draws was nowhere before it.
+/// Shows that in a lawful journal, whose groups begin with no name that nodes draw, each name (of a
+/// group, a child or a transaction) is of the scenario or was drawn, wherever it stands: in a mail,
+/// in what a node or a client keeps, in a log, or in a group's birth record. A name that a row
+/// draws was nowhere before it.
 pub fn drawn_names_are_new()
     ensures drawn { NamesAreDrawn }
     ensures new { DrawnNamesAreNew }
 {}
 
-/// Shows that a Begin or a Split that is allowed in the log of a group brings a name that a node
-/// drew for this group, so no group of a scenario has it, and no other group's log. Where it stands
-/// in a log after some rows, it was drawn in these rows, not later. What is allowed by the owners
-/// of some rows is allowed by those of more rows.
+/// Shows that a Begin or a Split that is allowed in the log of a group, by the owners of names,
+/// brings a name that a node drew for this group, so no group of a scenario has it, and no other
+/// group's log. Where it stands in a log of a lawful journal, it was drawn in the journal's rows,
+/// not later. What is allowed by the owners of some rows is allowed by those of more rows.
 pub fn logs_name_what_was_drawn()
     ensures allowed { AllowedNamesAreDrawn }
     ensures logged { LoggedNamesAreDrawn }
