@@ -1,4 +1,4 @@
--- Entries that make moves tell a legal history.
+-- Entries that make moves make a legal history.
 use Rattle.std.proofs.Common.{◌≡◌, List, [], ◌∷◌, ◌++◌, Option, Some, inl, inr, sym, ap, ◌∙◌, subst}
 use Rattle.std.specs.FinMap.{empty, get, get-empty}
 use Rattle.std.specs.Option.{option_map, option_and_then}

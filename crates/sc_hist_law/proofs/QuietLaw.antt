@@ -1,4 +1,4 @@
--- Several groups that begin bare, and quiet entries: what they tell.
+-- Several groups that begin with nothing held, and quiet entries (requests, joins and leaves): what they make of the history.
 use Rattle.std.proofs.Common.{◌≡◌, ◌%◌, ◌^◌, List, [], ◌∷◌, map, Some, inl, inr, refl, sym, ap, ◌∙◌, subst}
 use Rattle.std.specs.FinMap.{empty}
 use Rattle.std.specs.Option.{option_map}
