@@ -1,4 +1,4 @@
--- What rows that decide in turn tell: the groups, the entries, and one map.
+-- What rows that decide in turn show: the groups, the entries, and one map.
 use Rattle.std.proofs.Common.{◌≡◌, suc, List, [], ◌∷◌, ◌++◌, Option, Some, None, inl, inr, refl, sym, ◌∙◌, ap, subst, append-nil, append_assoc}
 use Rattle.std.specs.Option.{option_map}
 use Rattle.sc_base.specs.Definitions.{Among}

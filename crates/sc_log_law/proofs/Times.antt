@@ -1,4 +1,4 @@
--- Places of the history and the rows that tell them, in order; and where a request is issued, with more rows.
+-- Places of the history and the rows that decide them, in order; and where a request is issued, with more rows.
 use Rattle.std.proofs.Common.{◌≡◌, ℕ, suc, ◌+◌, ◌<◌, ◌≤◌, nat_lt, List, [], ◌∷◌, ◌++◌, length, Some, inl, inr, sym, ◌∙◌, ap, arith}
 use Rattle.std.specs.Prelude.{slice_get}
 use Rattle.std.specs.List.{AllPairs}
@@ -34,7 +34,7 @@ one_place entries once place other one another at there who number =
         (ap (λ (x : Entry). x.client) (get_or_from_slice_get entries i a a at_i) ∙ who ∙ sym (ap (λ (x : Entry). x.client) (get_or_from_slice_get entries j b a at_j)))
         (ap (λ (x : Entry). x.seq) (get_or_from_slice_get entries i a a at_i) ∙ number ∙ sym (ap (λ (x : Entry). x.seq) (get_or_from_slice_get entries j b a at_j)))
 
--- ---- the rows that tell
+-- ---- the rows that decide
 
 past_rows : (ahead : Ahead) (bases : List Base) (place : ℕ) (before rows : Rows) (at : ℕ) → told_from ahead bases place before rows ≡ Some at → length before + 1 ≤ at
 past_rows ahead bases place before [] at e = cc
