@@ -118,7 +118,7 @@ module _ (ahead : Ahead) (bases : List Base) where
       let more = grown base among in
       (base, among, subst (λ s. IsReplyAt ahead base s client seq reply) (sym more.1) (grown_reply ahead base more.0 (h base) client seq reply at))
 
-  -- a client as the steps say: its requests, and replies that the logs tell
+  -- a client as the steps say: its requests, and replies by the logs
   pub record IsClient (h : Base → Steps) (asks : Asks) (client : Client) : Type 0 where
     -- it has its number
     pub me : client.me ≡ asks.client

@@ -278,7 +278,7 @@ module _ (ahead : Ahead) (base : Base) (made : Command → Type 0) (heard : Mail
       (λ _. fine_elected ahead base made heard me older before (record r { hint = Some r.me }) mails (hinted_place r (Some r.me) mails f))
       (λ _. hinted_place r (Some (least_of (members r))) mails f))
 
-  -- a replica that looks for a policy's deed keeps what holds
+  -- a replica that looks for what a policy orders keeps what holds
   pub looked_place : (place : Place) → Ok place → Ok (looked place)
   unfolding looked
   looked_place (r, mails) f = cond_both r.running _ _ Ok (λ _. f) (λ _. looked_for_place r.group.core.gone r mails f)
