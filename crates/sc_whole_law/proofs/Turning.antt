@@ -72,7 +72,7 @@ module _ (sources : Sources) (ahead : Ahead) (words : ℕ → ℕ → ℕ × ℕ
     found : AreFound ahead scenario.groups rows
     found = groups_are_found sources ahead scenario.groups start rows h.turn
 
-    -- what the entries of their logs tell
+    -- what the entries of their logs record
     told : Told sources ahead scenario.groups rows
     told = told_rows sources ahead scenario.groups start rows h.turn
 
