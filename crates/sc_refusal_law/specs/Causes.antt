@@ -235,7 +235,7 @@ pub record AnswersInTurn (r : ReplicaState) (input : Input Mail OrderLine) (afte
 abbrev pub ends_queued : Draw → List Command → ℕ
 ends_queued tx acts = length (filter (is_giving_up tx) acts)
 
--- a settled coordinator gives up at a tick: with this tick it has counted `patience` ticks, and no GiveUp of the transaction is queued, in flight or ready
+-- a settled coordinator gives up at a tick: with this tick it has counted at least `patience` ticks, and no GiveUp of the transaction is queued, in flight or ready
 pub record IsImpatient (ticks : ℕ) (r : ReplicaState) (input : Input Mail OrderLine) (tx : Draw) : Type 0 where
   pub tick : input ≡ Tick
   pub leads : settled r ≡ true

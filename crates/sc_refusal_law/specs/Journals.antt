@@ -69,7 +69,7 @@ pub record RowHasCauses (ahead : Ahead) (scenario : Scenario) (rows : Rows) (row
   pub answers : (seat : Seat Player) (before after : NodeState) (input : Input Mail OrderLine) → Acts ahead scenario rows row seat (Node before) (Node after) input → AnswersHaveCauses before input after row.sent
   -- a replica that runs takes a request that is brought to it
   pub requests : (seat : Seat Player) (before after : NodeState) (input : Input Mail OrderLine) → Acts ahead scenario rows row seat (Node before) (Node after) input → TakesRequests before input row.sent
-  -- a coordinator gives up only after `patience` ticks of its leadership under that lock, or where a GiveUp goes back from a flight
+  -- a new GiveUp is queued only at a tick that is at least the `patience`-th of the coordinator's leadership under that lock; else it goes back from a flight
   pub acts : (seat : Seat Player) (before after : NodeState) (input : Input Mail OrderLine) → Acts ahead scenario rows row seat (Node before) (Node after) input → ActsHaveCauses (ticks_in seat rows) before input after
   -- a client asks in turn
   pub turns : (seat : Seat Player) (before after : ClientState) (input : Input Mail OrderLine) → Acts ahead scenario rows row seat (Client before) (Client after) input → KeepsTurn before after input row.sent
