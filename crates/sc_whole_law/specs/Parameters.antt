@@ -10,7 +10,7 @@ use Rattle.sc_log_law.specs.Definitions.{IsIssuedIn, Rows}
 abbrev pub stories_at : Ahead → List Base → Rows → Stories
 stories_at ahead bases rows = stories_of bases (entries_at ahead bases rows)
 
--- a mail of a transaction is true where what it lets its receiver queue is allowed: an offer its Prepared, a vote its RecordVote, an outcome its Finish; one that only names another node is always true
+-- a mail is true where what it lets its receiver queue is allowed: an offer its Prepared, a question to a watcher its Watched, a vote its RecordVote or RecordWatch, an outcome its Finish; any other mail is true
 abbrev pub IsHeard : Sources → Stories → MailBody → Type 0
 IsHeard sources stories (TxPrepare tx offer) = IsAllowed sources stories offer.part (Prepared tx offer)
 IsHeard sources stories (TxVote tx coord part vote) = IsVoteCast stories tx vote
