@@ -36,8 +36,9 @@ pub fn quiet_entries_tell_a_legal_history()
     ensures { QuietEntriesTell }
 {}
 
-/// Shows that entries of which each moves what the effective records hold, as one of the moves
-/// does, make a legal history; the parts of the map and the notes of all logs match it.
+/// Shows that entries, each of which makes a move of what the effective records hold, make a legal
+/// history that matches what all groups hold. A range's group has its part of the map where its
+/// record has the range's arc, and the notes of all logs stay in the history.
 pub fn entries_that_move_tell_a_legal_history()
     ensures { EntriesThatMoveTell }
 {}
@@ -65,8 +66,8 @@ pub fn an_example_of_moves()
 /// Shows that entries of every kind (requests, orders, votes, decisions and ends) each make a move
 /// of what the effective records hold, where what they need holds: a transaction is its
 /// coordinator's and not yet committed, its participant is as it handed over and has the next arc,
-/// a child is new. So they make a legal history, and each range's record has the map after it on
-/// that range.
+/// a child is new. So they make a legal history, and a range's record has the map after it on that
+/// range where it has the range's arc.
 pub fn told_entries_tell_a_legal_history()
     ensures each { EntriesMakeMoves }
     ensures all { EntriesThatMayBeToldTell }
