@@ -7,10 +7,10 @@ ghost use Rattle.sc_log_law.specs.Example.{ExampleInTurn};
 ghost use Rattle.sc_log_law.specs.Laws.{AllowedStaysAllowed, EntriesAreAllowed, EntriesAreLogs, EntriesTellOneMap, FrontsAllow, GroupsAllowOthers, GroupsAreFound, GroupsAreOldOrNew, HistoryIsTold, JournalsInTurnAreSound, RowsDecideForOne, RowsGoOn, StatesAllow, ToldRowsStay};
 ghost use Rattle.sc_log_law.specs.OneMap.{AllowedEntriesMakeOneMap};
 
-/// Shows that after every list of allowed entries from groups that hold nothing the ring covers, a
-/// group that serves a key is that of its range, the requests that took effect are one legal
-/// history, and the map after it is the pairs of the ranges' groups, each on its range. What any
-/// group's log ever made it note has its entry in the history.
+/// Shows that after every list of allowed entries, from groups in place that hold nothing, the ring
+/// covers, a group that serves a key is that of its range, the requests that took effect are one
+/// legal history, and the map after it is the pairs of the ranges' groups, each on its range. What
+/// any group's log ever made it note has its entry in the history.
 pub fn allowed_entries_make_one_map()
     ensures { AllowedEntriesMakeOneMap }
 {}
