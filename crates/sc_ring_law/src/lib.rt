@@ -8,17 +8,18 @@ ghost use Rattle.sc_ring_law.specs.Laws.{AllowedEntriesStayAllowed, AllowedLists
 ghost use Rattle.sc_ring_law.specs.Laws.{DrawsAreOfOneLog};
 ghost use Rattle.sc_ring_law.specs.Example.{MergeIsAllowed, SplitIsAllowed};
 
-/// Shows that after every list of allowed entries the ring covers; that the effective record of
-/// each range's group is not gone, has the range's arc and names its two neighbours, itself where
-/// it is alone; and that a group that serves a key is the group of the range that holds the key's
-/// position.
+/// Shows that after every list of allowed entries, from groups in place (`BeginInPlace`), the ring
+/// covers; that the effective record of each range's group is not gone, has the range's arc and
+/// names its two neighbours, itself where it is alone; and that a group that serves a key is the
+/// group of the range that holds the key's position.
 pub fn entries_keep_the_ring()
     ensures { EntriesKeepTheRing }
 {}
 
-/// Shows that after every list of allowed entries each lock, vote and decision is as the stories
-/// record it: a coordinator is as it was at the entry that began its transaction until it decides,
-/// a participant is as it was frozen from its Yes to the end, and a watcher watches.
+/// Shows that after every list of allowed entries, from groups in place, each lock, vote and
+/// decision is as the stories record it: a coordinator is as it was at the entry that began its
+/// transaction until it decides, a participant is as it was frozen from its Yes to the end, and a
+/// watcher watches.
 pub fn entries_keep_the_promises()
     ensures { EntriesKeepThePromises }
 {}
@@ -29,7 +30,7 @@ pub fn draws_are_of_one_log()
 {}
 
 /// Shows that what allows an entry only grows: an entry that is allowed stays allowed after more
-/// allowed entries.
+/// allowed entries, from groups in place.
 pub fn allowed_entries_stay_allowed()
     ensures { AllowedEntriesStayAllowed }
 {}
