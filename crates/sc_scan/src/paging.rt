@@ -7,8 +7,8 @@ use crate::pages::Page;
 use sc_base::{Dup, Key, OutOfMemory, Value};
 use std::alloc::Global;
 
-// Returns the number of pairs up to and with the first one of a key: all where no pair has the key,
-// and none where no key is given.
+// Returns the number of pairs up to and with the first one of a key: the length of the list where
+// no pair has the key, and 0 where no key is given.
 fn place_after(all: &[(Key, Value)], after: Option<&Key>) -> usize
     ensures within { result ≤ length all.now }
     ensures rest { drop result all.now ≡ after_key (option_copied after.entry) all.now }
