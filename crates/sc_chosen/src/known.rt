@@ -118,8 +118,7 @@ fn grow(known: &mut Known, command: Command) -> Result<bool, OutOfMemory>
     Ok(childless)
 }
 
-// Returns the slot after the log. Past the last slot that a number can name it reports out of
-// memory.
+// Returns the slot after the log. Where a `u32` does not hold its number, it reports out of memory.
 fn next_slot(log: &[Command]) -> Result<u32, OutOfMemory>
     ensures { IfOk result (λ slot. slot ≡ length log.now + 1) }
 {
@@ -232,9 +231,9 @@ fn take(alloc: Global, known: &mut Known, acceptance: &Acceptance) -> Result<boo
     Ok(is_still_chosen(known, slot))
 }
 
-/// Adds an acceptance for the group with this name, where that is the known group; else changes
-/// nothing. Where it returns true, what is kept is what the rows with the accepting row show, and
-/// the log creates the same children as before. The only error is out of memory.
+/// Takes in an acceptance for the group with this name, where that is the known group. Where it
+/// returns true, what is kept is what the rows with the accepting row show, and the log creates the
+/// same children as before. The only error is out of memory.
 pub fn take_in(
     alloc: Global,
     known: &mut Known,
