@@ -33,20 +33,20 @@ pub record HasOneLog (ahead : Ahead) (bases : List Base) (base : Base) (rows mor
   -- with more rows the log of the group with this name continues the decided log
   pub grows : Continues (decided_log ahead base rows) (log_at ahead bases (rows ++ more) base.core.id)
 
--- (b) A replica has executed a prefix of its group's log, holds the entries of it that it has not forgotten, and its group is the state after it.
+-- (b) A replica's state is that after a prefix of its group's log, which it has executed or taken over as a state; it holds the entries of the prefix that it has not forgotten.
 pub record HasRun (ahead : Ahead) (base : Base) (rows : List (Row Mail OrderLine)) (r : ReplicaState) : Type 0 where
-  -- the number of entries that the replica has executed
+  -- the number of entries of the prefix
   pub count : ℕ
   -- the decided log has at least these entries
   pub within : count ≤ length (decided_log ahead base rows)
-  -- the slot that the replica waits for is the next one
+  -- the slot that the replica waits for is the one after the prefix
   pub next_is : next r ≡ count + 1
-  -- it holds the executed entries after those that it has forgotten
+  -- it holds the entries of the prefix after those that it has forgotten
   pub entries : r.log.entries ≡ drop r.log.base (take count (decided_log ahead base rows))
-  -- its group is the state after the executed entries
+  -- its group is the state after the prefix
   pub group_is : r.group ≡ state_after (group_of base) (take count (decided_log ahead base rows))
 
--- each replica of each node is of a group of the journal, and has executed a prefix of the group's log
+-- each replica of each node is of a group of the journal, and its state is that after a prefix of the group's log
 abbrev pub AllHaveRun : Ahead → Scenario → List (Row Mail OrderLine) → Type 0
 AllHaveRun ahead scenario rows = (number : ℕ) → 1 ≤ number → number ≤ scenario.nodes
     → (node : NodeState) → value player_table (node_seat ahead scenario.groups scenario.policy number) rows ≡ ANode node
@@ -108,7 +108,7 @@ pub record IsSound (ahead : Ahead) (scenario : Scenario) (rows more : List (Row 
   -- the entries of all logs make of each group its state after its own log
   pub states : (base : Base) → Among base (groups_at ahead scenario.groups rows)
       → named_group base.core.id (world_at ahead scenario.groups rows).groups ≡ state_at ahead scenario.groups rows base.core.id
-  -- (b) each replica has executed a prefix of its group's log
+  -- (b) each replica's state is that after a prefix of its group's log
   pub have_run : AllHaveRun ahead scenario rows
   -- (c), (d), (e) the groups together are one map
   pub whole : IsOneMap (world_at ahead scenario.groups rows)
