@@ -17,23 +17,27 @@ use sc_scenario::Scenario;
 use sc_world::{ReplayFault, World, replay_rows};
 use std::alloc::Global;
 
-/// What `Hand::run` plays: a group of two nodes, and a client that puts once. The client starts,
-/// and pending mail is delivered, the lowest-numbered first.
+/// The scenario that `Hand::run` plays: a group of two nodes, and a client that puts once. The
+/// client starts, and pending mail is delivered, the lowest-numbered first.
 pub const SCENARIO: &[u8] =
     b"scatter 1\nnodes 2\ngroup 0 1 2\nclient 1\nput a x\nend\ngo 1\nsettle 1000\n";
 
-/// Two nodes and a client, and what they did. They are actors of one type, as `Party` (`sc_world`)
-/// is, which is a node or a client.
+/// Two nodes and a client, and what they did. They are actors of one type, such as `Party`
+/// (`sc_world`), which is a node or a client.
 #[derive(Drop)]
 pub struct Hand<A: Actor> {
+    /// Node 1.
     pub first: A,
+    /// Node 2.
     pub second: A,
+    /// Client 1.
     pub client: A,
+    /// The rows of what they did, and the mail on the wire.
     pub log: Log<A::Mail, A::Order>,
 }
 
 impl<A: Actor> Hand<A> {
-    /// These two nodes, numbered 1 and 2, and this client, numbered 1, as nothing was done yet.
+    /// Returns a `Hand` with these actors as node 1, node 2 and client 1, and with an empty log.
     pub fn new(alloc: Global, first: A, second: A, client: A) -> Hand<A>
         ensures first { result.first ≡ first }
         ensures second { result.second ≡ second }
@@ -49,7 +53,8 @@ impl<A: Actor> Hand<A> {
         }
     }
 
-    // The mail at a place goes to whom it is for. For another, as for the desk, there is no row.
+    // Delivers the mail at a place of the wire to its receiver. For any other receiver, such as the
+    // desk, nothing happens.
     fn serve(&mut self, alloc: Global, place: usize) -> Result<(), OutOfMemory>
         requires place { place < length self.old.log.wire }
         requires few { place + 1 < 2 ^ 32 }
@@ -71,7 +76,7 @@ impl<A: Actor> Hand<A> {
         }
     }
 
-    // The client starts.
+    // Starts the client.
     fn begin(&mut self, alloc: Global) -> Result<(), OutOfMemory>
         requires carried { self.old.log.wire ≡ mails self.old.log.rows }
         ensures deed { OnOk result (self.new ≡ after_deed A.table self.old (client_actor 1, Go)) }
@@ -80,10 +85,10 @@ impl<A: Actor> Hand<A> {
         start(alloc, client_number(1), &mut self.client, &mut self.log)
     }
 
-    /// The client starts, and the first `most` mails are delivered in the order in which they are
-    /// sent, each to whom it is for, until none is left. What is for another, as for the desk, is
-    /// not delivered. Each delivery is a step of its actor by its table, and a row. After want of
-    /// memory all may only be dropped.
+    /// Starts the client, and then delivers the first `most` mails in the order in which they are
+    /// sent, each to its receiver, until none is left. A mail for any other receiver, such as the
+    /// desk, is not delivered. Each delivery is a step of its actor by its table, and a row. The
+    /// only error is out of memory, after which all may only be dropped.
     pub fn run(&mut self, alloc: Global, most: u32) -> Result<(), OutOfMemory>
         requires carried { self.old.log.wire ≡ mails self.old.log.rows }
         ensures deeds { OnOk result
@@ -103,10 +108,12 @@ impl<A: Actor> Hand<A> {
 }
 
 impl<A: Actor<Mail = Mail, Order = OrderLine>> Hand<A> {
-    /// Audits the rows, however they were made: the world that they leave, where they are a lawful
-    /// journal of a scenario, of which each first part is then sound; else which row, from 1, is
-    /// the first that is not lawful. The scenario is one that some text is, or that is made, and
-    /// rows and their mails are fewer than 2^31 each.
+    /// Audits the rows, however they were made. Returns the world that they leave, where they are a
+    /// lawful journal of a scenario; each prefix of them is then sound, and each refusal has its
+    /// cause. The scenario has to be valid, and rows and their mails fewer than 2^31 each.
+    ///
+    /// Errors: `BadRow` names the first row that is not lawful, from 1; `OutOfMemory` may come for
+    /// any rows.
     pub fn audited<'a>(
         &'a self,
         alloc: Global,

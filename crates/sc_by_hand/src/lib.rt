@@ -1,6 +1,6 @@
-//! An example for those who take the step machines into a program of their own: two nodes and a
+//! An example for those who use the step machines in a program of their own: two nodes and a
 //! client, stepped by hand under a transport that is a list, with a row for each step, and an audit
-//! of the rows. `docs/LIBRARY.md` goes through it.
+//! of the rows. `docs/LIBRARY.md` explains it.
 #![tactic(auto)]
 
 mod hand;

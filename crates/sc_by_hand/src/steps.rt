@@ -1,4 +1,4 @@
-//! One step of an actor, the row of it, and what is on the wire afterwards.
+//! One step of an actor, its row, and the mail on the wire after it.
 ghost use Rattle.std.specs.Prelude.{◌≡◌, ◌<◌, ◌+◌, ◌++◌, ◌^◌, ◌∷◌, [], length, OnOk, OnErr};
 ghost use Rattle.sc_actor.specs.Mail.{mails};
 ghost use Rattle.sc_actor.specs.Replay.{acted, input_of};
@@ -8,16 +8,18 @@ use sc_actor::{Actor, Event, Input, Journal, Row, journals_grow};
 use sc_base::{Dup, OutOfMemory, Sequence};
 use std::alloc::Global;
 
-/// The rows of what actors did, and the wire: copies of all mail that the rows have sent, of which
-/// the mail of number n stands at place n - 1.
+/// The rows of what actors did, and the wire: copies of all mail that the rows have sent. The mail
+/// with the number n stands at place n - 1.
 #[derive(Drop)]
 pub struct Log<M, O> {
+    /// The rows, in the order in which they were made.
     pub rows: Journal<M, O>,
+    /// The mail of all rows, by number.
     pub wire: Sequence<M>,
 }
 
 impl<M, O> Log<M, O> {
-    /// Nothing was done yet.
+    /// Returns a log without rows and mail.
     pub fn new(alloc: Global) -> Log<M, O>
         ensures { (result.rows ≡ []) × (result.wire ≡ []) }
     {
@@ -28,7 +30,7 @@ impl<M, O> Log<M, O> {
     }
 }
 
-// The wire is given copies of mails that were sent.
+// Appends copies of the mail that was sent to the wire.
 fn hand_over<M: Dup + Drop>(
     alloc: Global,
     sent: &[M],
@@ -42,9 +44,9 @@ fn hand_over<M: Dup + Drop>(
     Ok(())
 }
 
-/// The actor with a number takes the input of an event by its table. What it sends is put on the
-/// wire, and the row of it is added. After want of memory no row is, and the actor and the log may
-/// only be dropped.
+/// Has the actor take the input of an event by its table, appends what it sends to the wire, and
+/// appends its row. `who` is the actor's number. The only error is out of memory: then no row is
+/// added, and the actor and the log may only be dropped.
 pub fn act<A: Actor>(
     alloc: Global,
     who: u32,
@@ -66,8 +68,9 @@ pub fn act<A: Actor>(
     log.rows.push(Row { who, event, sent })
 }
 
-/// The actor with a number gets the mail at a place of the wire, whose number is one more. After
-/// want of memory no row is added, and the actor and the log may only be dropped.
+/// Delivers the mail at a place of the wire, whose number is `place + 1`, to the actor, and appends
+/// its row. `who` is the actor's number. The only error is out of memory: then no row is added, and
+/// the actor and the log may only be dropped.
 pub fn deliver<A: Actor>(
     alloc: Global,
     who: u32,
@@ -93,8 +96,8 @@ pub fn deliver<A: Actor>(
     act(alloc, who, actor, event, &Input::Got(mail), log)
 }
 
-/// The actor with a number starts. After want of memory no row is added, and the actor and the log
-/// may only be dropped.
+/// Starts the actor, and appends its row. `who` is the actor's number. The only error is out of
+/// memory: then no row is added, and the actor and the log may only be dropped.
 pub fn start<A: Actor>(
     alloc: Global,
     who: u32,

@@ -157,7 +157,7 @@ still_chosen h base kept kept2 log members state behind acceptance index told ch
     ∙ check found ms (index told.found told.indexed) (ap (slice_get members) place ∙ told.members_are k (slice_get_within log k v is))
     ∙ ap (slice_get log) place ∙ is
 
--- no entry is told yet
+-- no entry is recorded yet
 pub told_first : (h : List (Step Command)) (base : Base) (kept : ℕ → List Acceptance) (found : List Acceptance) (log : List Command) (members : List (List ℕ)) (state behind : Group)
     → log ≡ [] → members ≡ [] → steps_of found ≡ h → IsIndexed kept found → state ≡ group_of base → behind ≡ group_of base → Tells h base kept log members state behind
 told_first h base kept found log members state behind no_log no_members accepted indexed state_is behind_is =

@@ -99,7 +99,7 @@ turned slot (a ∷ found) =
         ∙ rest
         ∙ ap reverse (sym (left_out slot a found e))
 
--- what is chosen at a slot is told by the acceptances at it
+-- what is chosen at a slot depends on the acceptances at it alone
 pub chosen_here : (members : List ℕ) (slot : ℕ) (found : List Acceptance) → chosen_at members (steps_of found) slot ≡ chosen_at members (steps_of (acceptances_at slot found)) slot
 chosen_here members slot found =
     let here : steps_of (acceptances_at slot found) ≡ steps_in (acceptances_at slot (reverse found)) = newest (acceptances_at slot found) ∙ ap steps_in (sym (turned slot found)) in

@@ -14,7 +14,7 @@ use Rattle.sc_sound.specs.Logs.{rule_of}
 use Rattle.sc_chosen.specs.Known.{Agrees, NothingFollows, IsKnown, StaysKnown}
 use Rattle.sc_chosen.specs.declared.known.Known.{Known}
 
--- what agrees with all that was accepted for a group tells it
+-- what agrees with all that was accepted for a group determines it
 pub known_is : (rows : List (Row Mail OrderLine)) (base : Base) (known : Known) → Agrees (accepts base.core.id rows) known → known.base ≡ base → NothingFollows (rule_of as_nodes known.base) (accepts base.core.id rows) known.log.items
     → IsKnown rows known
 known_is rows base known agrees is ends =

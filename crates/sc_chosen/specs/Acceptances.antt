@@ -1,4 +1,4 @@
--- The acceptances that code reads off a journal, as steps.
+-- The acceptances that code reads off a journal, as steps of acceptors.
 use Rattle.std.specs.Prelude.{◌≡◌, ℕ, ⊤, Bool, true, false, ◌==◌, ◌&&◌, List, [], ◌∷◌, map, reverse, if◌then◌else◌, Option, Some, None}
 use Rattle.sc_base.specs.Same.{same_draw, same_ballot}
 use Rattle.sc_base.specs.declared.names.Ballot.{Ballot}
@@ -10,7 +10,7 @@ use Rattle.sc_paxos_law.specs.Decided.{voters_of, lesser_of}
 use Rattle.sc_paxos_law.specs.Steps.{Step, Accepted}
 use Rattle.sc_chosen.specs.declared.accepting.Acceptance.{Acceptance}
 
--- an acceptance, as a step
+-- an acceptance as a step
 abbrev pub step_of : Acceptance → Step Command
 step_of acceptance = Accepted acceptance.node acceptance.ballot acceptance.slot acceptance.command
 
@@ -18,12 +18,12 @@ step_of acceptance = Accepted acceptance.node acceptance.ballot acceptance.slot 
 abbrev pub steps_of : List Acceptance → List (Step Command)
 steps_of acceptances = reverse (map step_of acceptances)
 
--- what was accepted of a group, by what a row accepted and for which group, if it did
+-- the steps that a row adds to a group's: what the row accepted, if it did so for this group
 abbrev pub steps_by : Draw → Option (Draw × Acceptance) → List (Step Command)
 steps_by group None = []
 steps_by group (Some accepted) = if same_draw accepted.0 group then step_of accepted.1 ∷ [] else []
 
--- an acceptance as the report of it
+-- an acceptance as a report of it
 abbrev pub report_of : Acceptance → Report Command
 report_of acceptance = record { slot = acceptance.slot; ballot = acceptance.ballot; value = acceptance.command }
 
@@ -31,12 +31,12 @@ report_of acceptance = record { slot = acceptance.slot; ballot = acceptance.ball
 abbrev pub is_vote : Ballot → ℕ → ℕ → Acceptance → Bool
 is_vote ballot slot node here = (here.node == node) && (same_ballot here.ballot ballot && (here.slot == slot))
 
--- a majority of the members accepted at the slot in the ballot of what is found, if anything is
+-- a majority of the members accepted at the slot in the ballot of the acceptance that was found, if one was
 abbrev pub IsFoundChosen : List ℕ → List (Step Command) → ℕ → Option Acceptance → Type 0
 IsFoundChosen members h slot None = ⊤
 IsFoundChosen members h slot (Some found) = is_majority members (voters_of h found.ballot slot) ≡ true
 
--- the lesser of a report and the one found, where it is chosen
+-- where the flag holds, the given report or the one found, whichever has the lesser ballot; else the one found
 abbrev pub with_chosen : Bool → Report Command → Option (Report Command) → Option (Report Command)
 with_chosen true here least = Some (lesser_of here least)
 with_chosen false here least = least

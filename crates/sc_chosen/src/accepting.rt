@@ -1,4 +1,4 @@
-//! Which rows accept a command.
+//! What rows accept, and for which group.
 ghost use Rattle.std.specs.Prelude.{◌≡◌, map, ◌++◌, ◌&&◌, IfOk, OnOk};
 ghost use Rattle.std.specs.List.{list_any};
 ghost use Rattle.std.specs.Option.{option_copied};
@@ -13,12 +13,17 @@ use sc_cmd::{Command, OrderLine};
 use sc_mail::{Mail, MailBody};
 use std::alloc::Global;
 
-/// A node accepted a command at a slot in a ballot (Paxos Made Simple, section 2.2).
+/// One acceptance: a node accepted a command at a slot in a ballot (Paxos Made Simple, section 2.2,
+/// phase 2b).
 #[derive(Clone, Drop)]
 pub struct Acceptance {
+    /// The node that accepted.
     pub node: u32,
+    /// The ballot in which it accepted.
     pub ballot: Ballot,
+    /// The slot at which it accepted.
     pub slot: u32,
+    /// The command that it accepted.
     pub command: Command,
 }
 
@@ -52,7 +57,8 @@ fn says_accepted(group: Draw, ballot: Ballot, slot: u32, sent: &[Mail]) -> bool
     false
 }
 
-// Whether a row accepts what an accept of some group asks.
+// Returns whether a row that delivers an Accept of one group (`of`) accepts it for another name
+// (`group`): the names are the same, and the row sends that it accepted.
 fn is_taken(group: Draw, of: Draw, ballot: Ballot, slot: u32, row: &Row<Mail, OrderLine>) -> bool
     ensures { result ≡ (same_draw of group &&
         list_any (λ mail. is_accepted of ballot slot mail.body) row.now.sent) }
@@ -63,7 +69,7 @@ fn is_taken(group: Draw, of: Draw, ballot: Ballot, slot: u32, row: &Row<Mail, Or
     says_accepted(of, ballot, slot, row.sent.as_slice())
 }
 
-// What a row accepts that delivers a mail, for the group that it is accepted for.
+// Returns what a row accepts when it delivers a mail, with the group that it is accepted for.
 fn accepted_by(
     alloc: Global,
     row: &Row<Mail, OrderLine>,
@@ -94,7 +100,8 @@ fn accepted_by(
     }
 }
 
-/// What a row accepts, and for which group, where these mails were sent before it.
+/// Returns what a row accepts, with the group that it is accepted for. `sent` is the mail that was
+/// sent before the row, in order. The only error is out of memory.
 pub fn accepted_in(
     alloc: Global,
     sent: &[&Mail],
@@ -177,7 +184,7 @@ fn note_row(
     }
 }
 
-/// The mails that were sent so far, with more of them behind.
+/// Appends the mail of one more row to the mail that was sent so far.
 pub fn add_mails<'a>(sent: &mut Vec<&'a Mail>, more: &'a [Mail]) -> Result<(), OutOfMemory>
     ensures { OnOk result (map (λ mail. mail.now) sent.new.items ≡
         map (λ mail. mail.now) sent.old.items ++ more.now) }
@@ -188,8 +195,8 @@ pub fn add_mails<'a>(sent: &mut Vec<&'a Mail>, more: &'a [Mail]) -> Result<(), O
     Ok(())
 }
 
-/// What the rows of a journal accept for a group, in the order of the rows: each row that delivers
-/// an accept of the group and sends that it accepted. Refused only for want of memory.
+/// Returns what the rows of a journal accept for a group, in the order of the rows: each row that
+/// delivers an Accept of the group and sends that it accepted. The only error is out of memory.
 pub(crate) fn accepts(
     alloc: Global,
     group: Draw,

@@ -10,21 +10,21 @@ use crate::accepting::Acceptance;
 use sc_base::{Ballot, Members, same_ballot};
 use sc_cmd::Command;
 
-// Whether an acceptance is a node's at a slot in a ballot.
+// Returns whether an acceptance is a node's at a slot in a ballot.
 fn is_vote(here: &Acceptance, ballot: Ballot, slot: u32, node: u16) -> bool
     ensures { result ≡ is_vote ballot slot node here.now }
 {
     here.node == node as u32 && (same_ballot(here.ballot, ballot) && here.slot == slot)
 }
 
-// Whether a node accepted at a slot in a ballot.
+// Returns whether a node accepted at a slot in a ballot.
 fn has_accepted(found: &[Acceptance], ballot: Ballot, slot: u32, node: u16) -> bool
     ensures { result ≡ is_member (voters_of (steps_of found.now) ballot slot) node }
 {
     found.iter().any(|here| is_vote(here, ballot, slot, node))
 }
 
-// Whether a majority of the members accepted at a slot in a ballot.
+// Returns whether a majority of the members accepted at a slot in a ballot.
 #[tactic(auto, using(crate::proofs::Votes::votes_so_far))]
 fn is_majority(members: &[u16], found: &[Acceptance], ballot: Ballot, slot: u32) -> bool
     requires { length members.now ≤ 9 }
@@ -42,9 +42,9 @@ fn is_majority(members: &[u16], found: &[Acceptance], ballot: Ballot, slot: u32)
     false
 }
 
-// The acceptance, where it is at the slot, a majority accepted in its ballot, and that is not above
-// the ballot of the one found. The one found is chosen: so of a later ballot no vote is counted, and
-// of the same ballot neither.
+// Returns the acceptance `here` where it is at the slot, a majority accepted in its ballot, and its
+// ballot is not above that of `least`; else `least`. A majority accepted in the ballot of `least`,
+// so votes are counted neither for a later ballot nor for the same one.
 #[tactic(auto, using(crate::proofs::Better::better_elsewhere, crate::proofs::Better::better_later, crate::proofs::Better::better_chosen, crate::proofs::Better::better_none, crate::proofs::Better::same_chosen))]
 fn better_of<'a>(
     members: &[u16],
@@ -78,8 +78,8 @@ fn better_of<'a>(
     least
 }
 
-// Of the acceptances at a slot in ballots in which a majority of the members accepted there, the
-// one with the least ballot.
+// Returns, of the acceptances at a slot in ballots in which a majority of the members accepted
+// there, one with the least ballot.
 fn find_at<'a>(members: &[u16], found: &'a [Acceptance], slot: u32) -> Option<&'a Acceptance>
     requires { length members.now ≤ 9 }
     ensures { option_map report_of (option_copied result) ≡
@@ -92,7 +92,7 @@ fn find_at<'a>(members: &[u16], found: &'a [Acceptance], slot: u32) -> Option<&'
     best
 }
 
-/// The command chosen at a slot, if one is.
+/// Returns the command that is chosen at a slot, if one is (Paxos Made Simple, section 2.3).
 pub(crate) fn chosen_at<'a>(
     members: &Members,
     found: &'a [Acceptance],

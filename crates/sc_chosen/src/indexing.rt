@@ -10,10 +10,10 @@ use sc_base::OutOfMemory;
 use std::alloc::Global;
 use std::collections::BTreeMap;
 
-/// The acceptances of each slot, in their order.
+/// The acceptances of each slot, in the order in which they were found.
 pub type BySlot = BTreeMap<u32, Vec<Acceptance>>;
 
-/// One more acceptance.
+/// Adds an acceptance behind the others of its slot.
 pub(crate) fn add(
     alloc: Global,
     index: &mut BySlot,
@@ -34,7 +34,7 @@ pub(crate) fn add(
     Ok(())
 }
 
-/// The acceptances by their slots.
+/// Returns the acceptances by their slots.
 pub(crate) fn by_slot(alloc: Global, found: Vec<Acceptance>) -> Result<BySlot, OutOfMemory>
     ensures { IfOk result (λ index.
         IsIndexed (λ slot. listed_in (λ kept. kept.items) (get_by (nat_cmp slot) index))
@@ -47,7 +47,7 @@ pub(crate) fn by_slot(alloc: Global, found: Vec<Acceptance>) -> Result<BySlot, O
     Ok(index)
 }
 
-/// The acceptances of a slot.
+/// Returns the acceptances of a slot; none where the slot has none.
 pub(crate) fn at_slot(index: &BySlot, slot: u32) -> &[Acceptance]
     ensures { result.now ≡ listed_in (λ kept. kept.items) (get_by (nat_cmp slot) index.now) }
 {

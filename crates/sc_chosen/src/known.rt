@@ -1,4 +1,4 @@
-//! What is kept of a group: its decided log, and what it is told from.
+//! What is kept of a group: its decided log, and what the log is computed from.
 ghost use Rattle.std.specs.Prelude.{◌≡◌, ◌&&◌, ◌+◌, ◌-◌, ◌<◌, ◌++◌, ◌∷◌, [], ℕ, List, true, length, take, slice_get, Option, Some, None, IfOk, OnOk};
 ghost use Rattle.sc_cmd.specs.declared.commands.Command.{Command};
 ghost use Rattle.sc_machine_table.specs.Group.{Group, group_of};
@@ -34,31 +34,32 @@ use sc_mail::Mail;
 use sc_node_table::OPEN_SLOTS;
 use std::alloc::Global;
 
-/// A group as its rows tell it.
+/// What rows show of one group.
 #[derive(Drop)]
 pub struct Known {
-    /// How it is born.
+    /// The group's birth record.
     pub base: Base,
-    /// What was accepted for it.
+    /// What was accepted for the group, by slot.
     pub index: BySlot,
-    /// Its decided log.
+    /// The group's decided log.
     pub log: Vec<Command>,
     /// The members of each slot of the log.
     pub members: Vec<Members>,
-    /// The group after the log.
+    /// The group's state after the log.
     pub state: Machine,
-    /// The group that the members of the next slot come from.
+    /// The group's state that gives the members of the next slot: that after all but the last
+    /// entries of the log, as many of them as there are open slots less one.
     pub behind: Machine,
 }
 
-// Whether both hold.
+// Returns whether both hold.
 fn both(one: bool, other: bool) -> bool
     ensures { result ≡ (one && other) }
 {
     one && other
 }
 
-// One more entry is executed.
+// Executes one more entry.
 fn execute(machine: &mut Machine, command: &Command) -> Result<(), OutOfMemory>
     ensures { OnOk result (machine.new ≡ (applied machine.old command.now).0) }
 {
@@ -66,8 +67,8 @@ fn execute(machine: &mut Machine, command: &Command) -> Result<(), OutOfMemory>
     Ok(())
 }
 
-// The log grows by one entry, and the state that decides the members of its next slot by the entry
-// that is then so far behind.
+// Appends an entry to the log, and executes in `behind` the entry by which the state reaches the
+// one that gives the members of the next slot.
 fn lengthen(
     behind: &mut Machine,
     log: &mut Vec<Command>,
@@ -87,7 +88,7 @@ fn lengthen(
     Ok(())
 }
 
-// The group executes one more entry. Whether the entry makes no child.
+// Executes one more entry in the group's state. Returns whether the entry creates no child.
 fn step(state: &mut Machine, command: &Command) -> Result<bool, OutOfMemory>
     ensures { IfOk result (λ childless. (state.new ≡ (applied state.old command.now).0) ×
         (childless ≡ true → children_of state.old (command.now ∷ []) ≡ [])) }
@@ -101,7 +102,8 @@ fn step(state: &mut Machine, command: &Command) -> Result<bool, OutOfMemory>
     }
 }
 
-// The next command of the log was chosen. Whether it makes no child.
+// Adds the next command, which was chosen, to all that is kept. Returns whether it creates no
+// child.
 fn grow(known: &mut Known, command: Command) -> Result<bool, OutOfMemory>
     ensures { IfOk result (λ childless. (h : List (Step Command)) → Agrees h known.old →
         chosen_at (members_of (rule_of as_nodes known.old.base) known.old.log.items
@@ -116,7 +118,7 @@ fn grow(known: &mut Known, command: Command) -> Result<bool, OutOfMemory>
     Ok(childless)
 }
 
-// The slot after the log.
+// Returns the slot after the log. Where a `u32` does not hold its number, it reports out of memory.
 fn next_slot(log: &[Command]) -> Result<u32, OutOfMemory>
     ensures { IfOk result (λ slot. slot ≡ length log.now + 1) }
 {
@@ -126,7 +128,7 @@ fn next_slot(log: &[Command]) -> Result<u32, OutOfMemory>
     Ok(log.len() as u32 + 1)
 }
 
-// The command that is chosen next, if one is.
+// Returns the command that is chosen at the slot after the log, if one is.
 fn next_of(alloc: Global, known: &Known) -> Result<Option<Command>, OutOfMemory>
     ensures { IfOk result (λ next. (h : List (Step Command)) → Agrees h known.now →
         chosen_at (members_of (rule_of as_nodes known.now.base) known.now.log.items
@@ -140,7 +142,8 @@ fn next_of(alloc: Global, known: &Known) -> Result<Option<Command>, OutOfMemory>
     }
 }
 
-// The log goes on as far as commands are chosen. Whether none of the new entries makes a child.
+// Lengthens the log as far as commands are chosen. Returns whether none of the new entries creates
+// a child.
 fn advance(alloc: Global, known: &mut Known) -> Result<bool, OutOfMemory>
     ensures { IfOk result (λ childless. (h : List (Step Command)) → Agrees h known.old →
         Agrees h known.new × (known.new.base ≡ known.old.base) ×
@@ -161,7 +164,7 @@ fn advance(alloc: Global, known: &mut Known) -> Result<bool, OutOfMemory>
     Err(OutOfMemory)
 }
 
-/// What rows tell of a group that is born like this.
+/// Returns what rows show of a group with this birth record. The only error is out of memory.
 pub fn known_of(
     alloc: Global,
     base: Base,
@@ -189,7 +192,7 @@ pub fn known_of(
     Ok(known)
 }
 
-// Whether the command of the log at a slot is still what is chosen there.
+// Returns whether the log's command at a slot is still the one that is chosen there.
 fn is_still_chosen(known: &Known, slot: u32) -> bool
     requires { (0 < slot) × (slot < length known.now.log.items + 1) }
     ensures { result ≡ true → (found : List Acceptance) (members : List ℕ) →
@@ -208,8 +211,8 @@ fn is_still_chosen(known: &Known, slot: u32) -> bool
     }
 }
 
-// A group takes one more acceptance in. Whether its log only goes on, by entries that make no
-// child.
+// Adds one more acceptance for the group. Returns true only where what was known stays true, the
+// log going on by entries that create no child.
 fn take(alloc: Global, known: &mut Known, acceptance: &Acceptance) -> Result<bool, OutOfMemory>
     ensures { IfOk result (λ calm. calm ≡ true → (rows after : List (Row Mail OrderLine)) →
         accepts known.old.base.core.id after ≡
@@ -228,8 +231,9 @@ fn take(alloc: Global, known: &mut Known, acceptance: &Acceptance) -> Result<boo
     Ok(is_still_chosen(known, slot))
 }
 
-/// A group takes in what was accepted, if it was accepted for it. Whether its log only goes on, by
-/// entries that make no child.
+/// Takes in an acceptance for the group with this name, where that is the known group. Where it
+/// returns true, what is kept is what the rows with the accepting row show, and the log creates the
+/// same children as before. The only error is out of memory.
 pub fn take_in(
     alloc: Global,
     known: &mut Known,

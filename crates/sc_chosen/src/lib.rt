@@ -1,6 +1,6 @@
-//! What rows tell of one group: what was accepted for it, which commands are chosen by that, and
-//! its decided log, which goes on with one more acceptance. Read from the mail that the rows
-//! deliver and send, never from what an actor holds.
+//! What rows show of one group: what was accepted for it, which commands that chooses, and its
+//! decided log, which one more acceptance may lengthen. It is read off the mail that the rows
+//! deliver and send, never off what an actor holds.
 #![tactic(auto)]
 
 mod accepting;

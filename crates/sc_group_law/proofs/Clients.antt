@@ -118,7 +118,7 @@ module _ (ahead : Ahead) (bases : List Base) where
       let more = grown base among in
       (base, among, subst (λ s. IsReplyAt ahead base s client seq reply) (sym more.1) (grown_reply ahead base more.0 (h base) client seq reply at))
 
-  -- a client as the steps say: its requests, and replies that the logs tell
+  -- a client as the steps say: its requests, and replies by the logs
   pub record IsClient (h : Base → Steps) (asks : Asks) (client : Client) : Type 0 where
     -- it has its number
     pub me : client.me ≡ asks.client
@@ -126,7 +126,7 @@ module _ (ahead : Ahead) (bases : List Base) where
     pub requests : client.requests ≡ asks.ops
     -- it waits for the reply after those that it has, if for any
     pub waits : IsNextOf client.waiting (length client.replies)
-    -- each reply that it has is told by a log
+    -- each reply that it has is one by a log
     pub replies : (k : ℕ) (reply : Reply) → slice_get client.replies k ≡ Some reply → IsAnswered h asks.client (k + 1) reply
 
   -- a client stays as the steps say after more of them

@@ -190,7 +190,7 @@ module _ (ahead : Ahead) (base : Base) (made : Command → Type 0) (heard : Mail
       stays at (inr (inl (g, a, e))) = inr (inl (still_flying slot voters r.leader.flights at g a e))
       stays at (inr (inr t)) = inr (inr t)
 
-  -- .. with the children that a row made
+  -- what holds of a replica with its mail and the children that a row made
   abbrev OkAfter : Executed → Type 0
   OkAfter step = Ok step.0
 

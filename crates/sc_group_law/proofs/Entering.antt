@@ -1,4 +1,4 @@
--- The first part of an execution: the entry of the next slot lengthens the log, and what is old is forgotten.
+-- The start of an execution: the entry of the next slot lengthens the log, and what is old is forgotten.
 use Rattle.std.proofs.Common.{◌≡◌, ℕ, suc, ◌+◌, ◌<◌, ◌≤◌, List, [], ◌∷◌, ◌++◌, length, inl, inr, sym, ◌∙◌, ap, subst, arith}
 use Rattle.std.proofs.lemmas.List.{length_push, take-append-le, take_all}
 use Rattle.sc_node_table.specs.Values.{Command, Base}

@@ -129,7 +129,7 @@ module _ (ahead : Ahead) (base : Base) (made : Command → Type 0) (heard : Mail
   told_place counted slot d g (Some answer) c r mails p m t = p
   told_place counted slot d g None c r mails p m t = p
 
-  -- what an order came to is told
+  -- what an order came to is reported
   result_place : (counted : Bool) (slot : ℕ) (d : Command) (g : Group) (o : Option ToldResult) (number : ℕ) (r : ReplicaState) (mails : List Mail) → Past counted slot d g (r, mails) → Past counted slot d g (r, told_result r.me o number mails)
   unfolding told_order says
   result_place counted slot d g None number r mails p = p
@@ -258,7 +258,7 @@ module _ (ahead : Ahead) (base : Base) (made : Command → Type 0) (heard : Mail
         record { own = l.own; low = l.low; first_is = l.first_is; votes = l.votes; promisers = l.promisers; reports = l.reports; made = l.made; offers = l.offers });
   }
 
-  -- ... nor of what holds in the middle of a row
+  -- a hint is no part of what holds in the middle of a row
   pub hinted_place : (r : ReplicaState) (hint : Option ℕ) (mails : List Mail) → Ok (r, mails) → Ok (record r { hint = hint }, mails)
   hinted_place r hint mails f = turn ahead base made heard me older before r (record r { hint = hint }) mails f (hint_replica (f.newer ++ before) r hint f.replica)
 
@@ -278,7 +278,7 @@ module _ (ahead : Ahead) (base : Base) (made : Command → Type 0) (heard : Mail
       (λ _. fine_elected ahead base made heard me older before (record r { hint = Some r.me }) mails (hinted_place r (Some r.me) mails f))
       (λ _. hinted_place r (Some (least_of (members r))) mails f))
 
-  -- a replica that looks for a policy's deed keeps what holds
+  -- a replica that looks for what a policy orders keeps what holds
   pub looked_place : (place : Place) → Ok place → Ok (looked place)
   unfolding looked
   looked_place (r, mails) f = cond_both r.running _ _ Ok (λ _. f) (λ _. looked_for_place r.group.core.gone r mails f)
@@ -335,12 +335,12 @@ module _ (ahead : Ahead) (base : Base) (made : Command → Type 0) (heard : Mail
   next_ready_among r c e =
       cond_both (r.running && has_room r) (at_slot r.ready (next r)) None (λ o. o ≡ Some c → Among (next r, c) r.ready) (λ _ k. slot_among r.ready (next r) c k) (λ _ k. cc) e
 
-  -- ... and then the replica runs
+  -- a replica runs where a ready command is executed next
   pub next_ready_runs : (r : ReplicaState) (c : Command) → next_ready r ≡ Some c → r.running ≡ true
   next_ready_runs r c e =
       cond_both (r.running && has_room r) (at_slot r.ready (next r)) None (λ o. o ≡ Some c → r.running ≡ true) (λ t k. (and_parts r.running (has_room r) t).0) (λ _ k. cc) e
 
-  -- .. with the children that are made
+  -- what holds of a replica with its mail and the children that are made
   abbrev OkAfter : Executed → Type 0
   OkAfter step = Ok step.0
 

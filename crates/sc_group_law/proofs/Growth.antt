@@ -21,7 +21,7 @@ pub record IsLearnt {V : Type 0} (rule : Rule V) (h : List (Step V)) (slot : ℕ
 pub later_learnt : {V : Type 0} (rule : Rule V) (s : Step V) (h : List (Step V)) (slot : ℕ) (v : V) → IsLearnt rule h slot v → IsLearnt rule (s ∷ h) slot v
 later_learnt rule s h slot v l = record { log = l.log; is_log = later_log rule s h l.log l.is_log; chosen = later_after rule s h l.log slot v l.chosen }
 
--- ... after more steps
+-- what is learnt stays learnt after more steps
 pub grown_learnt : {V : Type 0} (rule : Rule V) (newer h : List (Step V)) (slot : ℕ) (v : V) → IsLearnt rule h slot v → IsLearnt rule (newer ++ h) slot v
 grown_learnt rule [] h slot v l = l
 grown_learnt rule (s ∷ newer) h slot v l = later_learnt rule s (newer ++ h) slot v (grown_learnt rule newer h slot v l)

@@ -145,7 +145,7 @@ module _ (ahead : Ahead) (base : Base) where
     pub ready : Each (λ e. IsLearnt rule h e.0 e.1) r.ready
     pub leads : r.running ≡ true → IsLeader h me (length whole + 1) r
 
-  -- ... of its own log
+  -- the next slot of a replica is the one after its own log
   pub next_after : (made : Command → Type 0) (h : Steps) (me : ℕ) (r : ReplicaState) (k : IsReplica made h me r) → next r ≡ length k.whole + 1
   next_after made h me r k = next_is made h k.whole r.log r.group k.log_is
 

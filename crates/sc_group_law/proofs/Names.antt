@@ -126,7 +126,7 @@ absent_named heard elsewhere bases me from (TxWatch tx watch) one mail (inl e) =
 absent_named heard elsewhere bases me from (TxWatch tx watch) one mail (inr n) = absurd n
 absent_named heard elsewhere bases me from _ one mail a = absurd a
 
--- ... and true
+-- what is sent where there is no replica is true
 pub absent_true : (heard : MailBody → Type 0) → ((body : MailBody) → heard body → (tx coord : Draw) (hint : Option ℕ) → heard (TxElsewhere tx coord hint)) → (bases : List Base) (ahead : Ahead) (base : Base) (made : Command → Type 0) (h : Steps) (me from : ℕ) (body : MailBody)
     → IsNamedIn heard bases body → (mail : Mail) → Among mail (absent me from body) → IsTrue ahead base made heard h mail mail.body
 absent_true heard elsewhere bases ahead base made h me from (Request group client seq op) one mail (inl e) = subst (λ (m : Mail). IsTrue ahead base made heard h m m.body) e (λ _. tt)

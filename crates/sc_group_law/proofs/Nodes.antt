@@ -109,7 +109,7 @@ module _ (ahead : Ahead) (base : Base) (made : Command → Type 0) (heard : Mail
       let same : coord ≡ group = (let one : coord ≡ named = cc in one ∙ is) in
       by_fine event (TxWatched tx coord part vote) _ (fine_watched_row ahead base made heard me [] before speaks some mail.from tx coord part vote r [] (start [] r k) t same) refl
 
-  -- the children that a mail makes are those of fronts of the log
+  -- the children that a mail makes are those of prefixes of the log
   mailed_kids : (mail : Mail) (body : MailBody) (r : ReplicaState) → IsReplica ahead base made before me r → (g : Draw) → group_of_mail body ≡ Some g → g ≡ group
       → IsTrue ahead base made heard before mail body → Each (IsChildOf ahead base made me before) (mailed mail.from body (r, [])).1
   unfolding mailed start
@@ -268,7 +268,7 @@ module _ (ahead : Ahead) (bases : List Base) (made : Base → Command → Type 0
         ] in
         record { newer = p.newer; are = p.are; by = p.by; lawful_is = p.lawful_is; requested_is = p.requested_is; holds = holds; mails = p.mails }
 
-    -- a child is born, unless its replica is there
+    -- a child is created, unless its replica is there
     born_one : (after : Base → Steps) (child : Base) (node : NodeState) (sent : List Mail) → IsNewborn child → NodeEnded after (node, sent) → NodeEnded after (with_born child node, sent)
     born_one after child node sent new e = by (replica_of child.core.id node.replicas) refl
       where

@@ -1,4 +1,4 @@
--- The children that a mail makes at a node: each is the child of a front of the log, by a command that the row executes.
+-- The children that a mail makes at a node: each is the child of a prefix of the log, by a command that the row executes.
 use Rattle.std.proofs.Common.{◌≡◌, ℕ, ◌+◌, ◌&&◌, nat_lt, Bool, true, false, eqb, List, [], ◌∷◌, ◌++◌, length, Option, Some, None, refl, sym, subst}
 use Rattle.std.proofs.lemmas.Bool.{eqb-true, and_parts, cond_both}
 use Rattle.sc_node_table.specs.Values.{Ballot, Command, Base, Mail, MailBody, Counted}
@@ -20,7 +20,7 @@ use Rattle.sc_group_law.proofs.Entering.{entered_has}
 use Rattle.sc_group_law.proofs.Executing.{fine_executed_one, learnt_made, next_ready_among, next_ready_runs}
 use Rattle.sc_group_law.proofs.Counting.{ready_place, set_is, count_is}
 
--- the child of a front of the log at a node: the log begins so, and the command that comes next makes it
+-- the child of a prefix of the log at a node: the log begins so, and the command that comes next makes it
 pub record IsChildOf (ahead : Ahead) (base : Base) (made : Command → Type 0) (me : ℕ) (h : Steps) (child : Base) : Type 0 where
   pub front : List Command
   pub command : Command

@@ -1,4 +1,4 @@
--- The orders that are told in a lawful journal are those of its schedule.
+-- The orders that nodes get in a lawful journal are those of its schedule.
 use Rattle.std.proofs.Common.{◌≡◌, ℕ, zero, suc, ◌+◌, ◌%◌, List, [], ◌∷◌, ◌++◌, length, Bool, true, false, cond, eqb, find, sym, ◌∙◌, ap, subst, append_assoc, append-nil, Option, None, Some}
 use Rattle.std.specs.Prelude.{slice_get}
 use Rattle.std.specs.List.{flat_map}
@@ -18,7 +18,7 @@ given true o y e = cc
 given false o y e = e
 
 module _ {O : Type 0} (Q : ℕ → O → Type 0) where
-  -- an event that tells this actor only such orders
+  -- an event that brings this actor only such orders
   abbrev pub IsToldSo : ℕ → Event O → Type 0
   IsToldSo who (Told order) = Q who order
   IsToldSo who (Deliver mail) = Unit {0}
@@ -28,7 +28,7 @@ module _ {O : Type 0} (Q : ℕ → O → Type 0) where
   IsToldSo who (Drop mail) = Unit {0}
   IsToldSo who (Again mail) = Unit {0}
 
-  -- a line that tells only such orders
+  -- a line that brings only such orders
   abbrev pub TellsSo : Line O → Type 0
   TellsSo (ToldLine who order) = Q who order
   TellsSo (GoLine who) = Unit {0}
@@ -117,7 +117,7 @@ module _ {O : Type 0} (Q : ℕ → O → Type 0) where
           acts_so p.0 Tick row tt (given (has_crashed rows p.0) (acts s rows p.0 Tick) row p.2)
       storm_row_so (suc (suc (suc more))) v row e = let p = and_then-some (delivery s rows) (picked s rows v) row e in delivery_so p.0 row p.2
 
-      -- what a task allows tells only such orders
+      -- what a task allows brings only such orders
       pub allows_so : (task : Task O) (row : Row M O) → IsTaskSo task → Allows s rows task row → IsToldSo row.who row.event
       allows_so (Once line) row q e = row_so line row q e
       allows_so (Settles left) row q e = let p = and_then-some (delivery s rows) (kth (waiting s rows None) 1) row e in delivery_so p.0 row p.2
@@ -128,7 +128,7 @@ module _ {O : Type 0} (Q : ℕ → O → Type 0) where
       may_add_so [] row q e = absurd e
       may_add_so (task ∷ tasks) row q e = allows_so task row q.0 e
 
-    -- ---- induction over lawful journals, where only such orders are told
+    -- ---- induction over lawful journals, where nodes get only such orders
 
     module _ (P : List (Row M O) → Type 0) (keeps : (rows : List (Row M O)) (row : Row M O) → P rows → IsToldSo row.who row.event → IsStep s rows row → P (rows ++ row ∷ [])) where
       walk_told : (place : WalkPlace M O) (rows : List (Row M O)) → Each IsTaskSo place.tasks → P place.rows → IsWalk s place rows → P (place.rows ++ rows)

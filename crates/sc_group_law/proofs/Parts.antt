@@ -52,7 +52,7 @@ pub Each-without_call : (P : Command → Type 0) (cs : List Command) (client : �
 Each-without_call P [] client e = tt
 Each-without_call P (c ∷ cs) client e = cond_both (is_call_of client c) cs (c ∷ without_call cs client) (Each P) (λ _. e.1) (λ _. (e.0, Each-without_call P cs client e.1))
 
--- one is left out in front and one put behind
+-- one is left out at the start and one put at the end
 pub rest_length : {X : Type 0} (xs : List X) (x : X) → 1 ≤ length xs → length (rest_of xs ++ x ∷ []) ≡ length xs
 rest_length [] x le = absurd (omega (arith, le))
 rest_length (y ∷ xs) x le = (let e = length_push xs x in omega (arith, e))

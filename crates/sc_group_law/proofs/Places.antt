@@ -37,6 +37,6 @@ issue-push client seq rows row =
 
 -- ---- a log that goes on
 
--- a list is its front and the rest
+-- a list is a prefix and the rest
 pub split_at : (n : ℕ) (log longer : List Command) → take n longer ≡ log → longer ≡ log ++ drop n longer
 split_at n log longer e = sym (take-append-drop n longer) ∙ ap (λ l. l ++ drop n longer) e

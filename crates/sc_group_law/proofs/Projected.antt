@@ -67,7 +67,7 @@ module _ {V : Type 0} (rule : Rule V) (h : List (Step V)) where
       either rest None = refl
       either rest (Some v) = rest v
 
-  -- the decided log is told by acceptances alone
+  -- the decided log depends on acceptances alone
   pub log_only : log_of rule (only h) ≡ log_of rule h
   log_only = ap (λ n. with_next_entries rule (only h) n []) (top_only h) ∙ longer_only (top_slot h) []
 
@@ -106,7 +106,7 @@ after_from_only rule h log slot v c = record {
 pub log_from_only : {V : Type 0} (rule : Rule V) (h : List (Step V)) (log : List V) → IsLog rule (only h) log → IsLog rule h log
 log_from_only rule h log l k v e = after_from_only rule h _ (k + 1) v (l k v e)
 
--- ... and the other way
+-- a log of all steps is one of the acceptances
 pub log_to_only : {V : Type 0} (rule : Rule V) (h : List (Step V)) (log : List V) → IsLog rule h log → IsLog rule (only h) log
 log_to_only rule h log l k v e = let c = l k v e in record {
   known = c.known;

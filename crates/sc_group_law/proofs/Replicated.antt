@@ -1,4 +1,4 @@
--- What the steps of one group say of its decided log: one value per slot, a log that only grows, and replicas that have executed a front of it.
+-- What the steps of one group say of its decided log: one value per slot, a log that only grows, and replicas that have executed a prefix of it.
 use Rattle.std.proofs.Common.{◌≡◌, ℕ, ◌+◌, List, ◌++◌, length, drop, sym, ◌∙◌, ap, subst}
 use Rattle.std.proofs.lemmas.List.{take-append-drop}
 use Rattle.sc_node_table.specs.Values.{Command, Base}
@@ -43,13 +43,13 @@ module _ (ahead : Ahead) (base : Base) (rows : Journal) (lawful : IsLawfulHistor
   pub is_log : IsLog (rule ahead base) (accepts base.core.id rows) log
   is_log = subst (λ g. IsLog (rule ahead base) g log) accepted_are (log_to_only (rule ahead base) h log steps_log)
 
-  -- each other log is a front of it
+  -- each other log is a prefix of it
   pub longest : (other : List Command) → IsLog (rule ahead base) (accepts base.core.id rows) other → Continues other log
   longest other is =
       let front = front_is ahead base rows lawful other (log_of_steps other is) in
       (drop (length other) log, sym (take-append-drop (length other) log) ∙ ap (λ xs. xs ++ drop (length other) log) front.1)
 
-  -- a replica has executed a front of it
+  -- a replica has executed a prefix of it
   pub executed_is : (made : Command → Type 0) (n : ℕ) (r : ReplicaState) → IsReplica ahead base made h n r → HasRun ahead base rows r
   executed_is made n r is =
       let front = front_is ahead base rows lawful is.whole is.log_is.is_log in

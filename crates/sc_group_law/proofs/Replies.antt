@@ -12,6 +12,6 @@ module _ (ahead : Ahead) (base : Base) (rows : Journal) (lawful : IsLawfulHistor
   abbrev log : List Command
   log = decided_log ahead base rows
 
-  -- a log of the steps is a front of the decided one
+  -- a log of the steps is a prefix of the decided one
   pub front_is : (l : List Command) → IsLog (rule ahead base) (h_of rows base) l → (length l ≤ length log) × (take (length l) log ≡ l)
   front_is l is = subst (λ whole. (length l ≤ length whole) × (take (length l) whole ≡ l)) (sym (decided_is ahead base rows)) (front_of_log (rule ahead base) (first ahead base) (h_of rows base) lawful l is)

@@ -85,7 +85,7 @@ module _ (ahead : Ahead) (base : Base) (made : Command → Type 0) (heard : Mail
   abbrev pub IsDull : AnswerBody → Type 0
   IsDull answer = (h : Steps) (to seq : ℕ) → IsTrueAnswer ahead base h to seq answer
 
-  -- an answer that tells of no entry keeps what holds
+  -- an answer that names no entry keeps what holds
   pub answered_one : (r : ReplicaState) (mails : List Mail) (group : Draw) (answer : AnswerBody) → group ≡ base.core.id → IsDull answer → (c : Command) → Ok (r, mails) → Ok (r, answered r.me group answer c mails)
   unfolding answered
   answered_one r mails group answer named dull (Call client seq op) f =
@@ -97,7 +97,7 @@ module _ (ahead : Ahead) (base : Base) (made : Command → Type 0) (heard : Mail
   answered_each r mails group answer named dull [] f = f
   answered_each r mails group answer named dull (c ∷ cs) f = answered_each r (answered r.me group answer c mails) group answer named dull cs (answered_one r mails group answer named dull c f)
 
-  -- ---- what is told of orders
+  -- ---- the reports of orders
 
   pub told_one : (r : ReplicaState) (mails : List Mail) (number : ℕ) (result : ToldResult) → Ok (r, mails) → Ok (r, told_order r.me number result mails)
   unfolding told_order

@@ -58,7 +58,7 @@ module _ (ahead : Ahead) (words : ℕ → ℕ → ℕ × ℕ) (scenario : Scenar
   abbrev M : Journal → Row Mail OrderLine → Type 0
   M = Moved ahead scenario firsts bases route made_by heard_by
 
-  -- what an order asks for may be queued at its group, if one is told and taken, and what policies order at a tick
+  -- what an order asks for may be queued at its group, if a node gets one and takes it, and what policies order at a tick
   abbrev pub MayTell : Journal → ℕ → Event OrderLine → Type 0
   MayTell rows n (Told line) =
       1 ≤ n → n ≤ scenario.nodes → (node : NodeState) → value player_table (nseat n) rows ≡ ANode node → (b : Base) → Among b bases → group_of_order line.order ≡ b.core.id

@@ -1,4 +1,4 @@
--- A journal of three nodes and one client: a value is accepted by two nodes, another node is elected, and it offers that value again.
+-- A worked journal of three nodes and one client: two nodes accept a value, another node is elected, and it offers that value again.
 use Rattle.std.specs.Prelude.{ℕ, false, List, [], ◌∷◌}
 use Rattle.sc_node_table.specs.Values.{Command, Call, Base, OrderLine, Mail, MailBody, Request, Prepare, Promise, Accept, Accepted, Row, Deliver, Tick, Go}
 use Rattle.sc_scenario.specs.Definitions.{lone_name, lone_group}
@@ -7,11 +7,11 @@ use Rattle.sc_scenario.specs.declared.scenarios.Scenario.{Scenario}
 use Rattle.sc_paxos_law.specs.Definitions.{first, second}
 use Rattle.sc_sound.specs.Definitions.{put_it, mail, row}
 
--- one group of the nodes 1 to 3, which holds all positions
+-- one group of the nodes 1 to 3, which has the whole ring
 abbrev pub three_nodes : Base
 three_nodes = lone_group 0 (1 ∷ 2 ∷ 3 ∷ [])
 
--- one client puts a value
+-- the scenario: one client puts a value
 abbrev pub election_scenario : Scenario
 election_scenario = record {
   nodes = 3;
@@ -27,11 +27,11 @@ election_scenario = record {
 abbrev pub example_call : Command
 example_call = Call 1 1 put_it
 
--- the same mail to the three nodes
+-- the same mail to each of the three nodes
 abbrev pub to_each : ℕ → MailBody → List Mail
 to_each from body = record { from = from; to = 1; body = body } ∷ record { from = from; to = 2; body = body } ∷ record { from = from; to = 3; body = body } ∷ []
 
--- the nodes 2 and 3 accept, and with that the call is decided; node 1 never hears of it. Then node 2 is elected by node 3 and itself
+-- the rows: nodes 2 and 3 accept, which decides the call, and node 1 never learns of it; then node 2 is elected by node 3 and itself, and offers the call again
 abbrev pub election_example : List (Row Mail OrderLine)
 election_example =
     row 33 Go (mail 33 1 (Request lone_name 1 1 put_it))

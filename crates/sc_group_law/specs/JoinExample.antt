@@ -1,4 +1,4 @@
--- A journal of two nodes: the one member of a group is told that the other joins, decides it, and sends the state.
+-- A worked journal of two nodes: the one member of a group gets the order that the other joins, decides it, and sends the state.
 use Rattle.std.specs.Prelude.{false, List, [], ◌∷◌}
 use Rattle.sc_node_table.specs.Values.{Ballot, Command, Join, OrderLine, Mail, Accept, Accepted, Install, Told as ToldMail, Row, Deliver}
 use Rattle.sc_cmd.specs.declared.orders.Order.TheVariants as An
@@ -10,7 +10,7 @@ use Rattle.sc_scenario.specs.declared.scenarios.SchedLine.TheVariants as line
 use Rattle.sc_scenario.specs.declared.scenarios.Scenario.{Scenario}
 use Rattle.sc_sound.specs.Definitions.{alone, mail, row}
 
--- node 2 joins the group
+-- the order that node 2 joins the group
 abbrev pub join_order : OrderLine
 join_order = record { number = 1; order = An.Join 2 lone_name }
 
@@ -18,7 +18,7 @@ join_order = record { number = 1; order = An.Join 2 lone_name }
 abbrev pub join : Command
 join = Join 2 1
 
--- one order, and the deliveries that carry it out
+-- the scenario: one order, and the deliveries that carry it out
 abbrev pub join_scenario : Scenario
 join_scenario = record {
   nodes = 2;
@@ -38,7 +38,7 @@ leading = record { round = 1; node = 1 }
 abbrev pub both : Group
 both = with_node (group_of alone) 2
 
--- the new member decides from the fifth slot on
+-- the rows of the journal; the new member counts for the fifth slot and later ones
 abbrev pub join_example : List (Row Mail OrderLine)
 join_example =
     row 1 (Told join_order) (mail 1 1 (Accept lone_name leading 1 join))

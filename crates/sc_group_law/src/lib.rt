@@ -1,7 +1,7 @@
 //! What every lawful journal says of each of its groups: its steps are a lawful history of Paxos,
-//! its replicas have executed fronts of its log, and what they and the clients hold and send is
-//! true of it. The laws are lemmas, which the law of all groups together takes; what is called here
-//! are journals that show that there are such. Definitions and laws, no logic.
+//! its replicas have executed prefixes of its log, and what they and the clients hold and send is
+//! true of it. These laws are lemmas, which the law of all groups together uses; the two functions
+//! here compute journals to which they apply. Definitions and laws; no code that runs.
 #![tactic(auto)]
 
 ghost use Rattle.std.specs.Prelude.{◌≡◌, [], ◌∷◌, Some};
@@ -14,8 +14,9 @@ ghost use Rattle.sc_sound.specs.Players.{Lawful};
 ghost use Rattle.sc_group_law.specs.Example.{three_nodes, election_scenario, election_example, example_call};
 ghost use Rattle.sc_group_law.specs.JoinExample.{join_scenario, join_example, join};
 
-/// The law is about something: a lawful journal of three nodes, in which a request is decided by
-/// two of them, and another node is elected and offers it again.
+/// Shows a lawful journal of three nodes in which two of them decide a request, and then another
+/// node is elected and offers it again: so the law of one group applies to some journal with an
+/// election.
 pub fn a_journal_with_an_election()
     ensures lawful { Lawful four no_words election_scenario election_example }
     ensures log { decided_log four three_nodes election_example ≡ example_call ∷ [] }
@@ -23,8 +24,8 @@ pub fn a_journal_with_an_election()
     ensures issued { issue_row 1 1 election_example ≡ Some 1 }
 {}
 
-/// The law is about groups that change: a lawful journal in which the one member of a group decides
-/// that another joins, and sends it the state.
+/// Shows a lawful journal in which the one member of a group decides that another joins, and sends
+/// it the state: so the law of one group applies to some journal whose members change.
 pub fn a_journal_with_a_join()
     ensures lawful { Lawful four no_words join_scenario join_example }
     ensures log { decided_log four alone join_example ≡ join ∷ [] }

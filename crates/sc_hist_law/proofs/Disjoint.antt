@@ -34,7 +34,7 @@ pub record HoldsAt (found : Option Holding) (p : ℕ) : Type 0 where
   pub is : found ≡ Some holding
   pub at : holds holding.arc p ≡ true
 
--- the holding, if there is one, is told of, with an arc of the ring
+-- the holding, if there is one, matches the history, with an arc of the ring
 abbrev pub IsGood : List Entry → Option Holding → Type 0
 IsGood history found = (holding : Holding) → found ≡ Some holding → IsOnRing holding.arc × IsToldOf history holding
 
@@ -98,7 +98,7 @@ module _ (history : List Entry) (holdings : Holdings) (group other : Draw) (mine
   only_at p name second (Third ne not is) (Second f its) h k = absurd (stranger name p ne not (at_same _ _ p is h) (share.theirs_from p (at_same _ _ p its k)))
   only_at p name second (Third ne not is) (Third nf nor its) h k = owner holdings disjoint p name second (at_same _ _ p is h) (at_same _ _ p its k)
 
-  -- all are disjoint and told of as before
+  -- all are disjoint and match the history as before
   pub shared_disjoint : AreDisjoint shared
   shared_disjoint = record {
     arcs = λ name holding found. (good_at name (place name) holding found).0;

@@ -1,4 +1,4 @@
--- Entries of every kind make moves, where they may be told, and so they tell a legal history.
+-- Entries of every kind make moves, where they may be applied, and so they make a legal history.
 use Rattle.std.proofs.Common.{◌≡◌, List, [], ◌∷◌, Option, Some, None, inl, inr, refl, sym, append-nil}
 use Rattle.sc_base.specs.declared.names.Draw.{Draw}
 use Rattle.sc_cmd.specs.declared.commands.Command.{Command}

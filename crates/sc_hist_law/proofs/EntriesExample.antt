@@ -1,4 +1,4 @@
--- Entries that may be told from a bare start, with their history.
+-- Entries that may be applied from an empty start, with their history.
 use Rattle.std.proofs.Common.{◌≡◌, ℕ, ◌^◌, ◌<◌, [], ◌∷◌, Option, Some, None, inl, inr, refl, sym, ap, ◌∙◌, subst, arith}
 use Rattle.std.specs.Prelude.{IsTrue}
 use Rattle.std.specs.Cmp.{nat_cmp_total}
@@ -82,7 +82,7 @@ get_is_new = ap (λ (o : Option Noted). served_by_note o newborn 2 1 get_a) noth
 second_is : told first put_entry ≡ second
 second_is = ap (λ (result : Group × Effect). with_result first start (Call 1 1 put_a) result) (ap (λ (o : Option Noted). served_by_note o start 1 1 put_a) (get-empty nat_cmp 1))
 
--- ---- each entry may be told
+-- ---- each entry may be applied
 
 may_put : MayBeTold two_requests first put_entry
 may_put group found = subst (λ g. MayCall two_requests first g 1 1 put_a) (same_Some start group found) (record { asked = refl; cut = λ serves. (lone_base.core.arc, refl) })

@@ -1,4 +1,4 @@
--- A group after entries of all logs is as its own log makes it, and each front of the log comes with some first entries.
+-- A group after entries of all logs is as its own log makes it, and each prefix of the log comes with some prefix of the entries.
 use Rattle.std.proofs.Common.{◌≡◌, List, [], ◌∷◌, ◌++◌, map, Option, Some, None, inl, inr, refl, sym, ap, ◌∙◌, append_assoc}
 use Rattle.std.specs.List.{filter}
 use Rattle.std.specs.Option.{option_to_list}

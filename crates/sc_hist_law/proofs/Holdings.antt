@@ -1,4 +1,4 @@
--- Parts of what a group holds, and two holdings as one: each is told of by the history that told of what it was made of.
+-- Parts of what a group holds, and two holdings as one: each matches the history where what it was made of did.
 use Rattle.std.proofs.Common.{◌≡◌, ℕ, ◌<◌, ◌^◌, true, ◌&&◌, List, ◌⊎◌, inl, inr, sym, ap, ◌∙◌}
 use Rattle.std.proofs.lemmas.Bool.{and_from, both_ways, or_cases}
 use Rattle.std.specs.FinMap.{empty, entries}

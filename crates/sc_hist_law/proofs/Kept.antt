@@ -15,7 +15,7 @@ get-among [] k d lt = absurd (omega (arith, lt))
 get-among (e ∷ es) zero d lt = inl refl
 get-among (e ∷ es) (suc k) d lt = inr (get-among es k d (omega (arith, lt)))
 
--- ... as std says it
+-- no two entries are of one client and number, as std says it
 pub all_pairs : (es : List Entry) → IsApart es → AllPairs AreApart es
 all_pairs [] a i j d below inside = absurd (omega (arith, inside))
 all_pairs (e ∷ es) a i zero d below inside = absurd (omega (arith, below))

@@ -142,7 +142,7 @@ recorded_same (Coordinating locked body order heard) group tx vote =
     (cond_either (λ x. IsSameGroup x.core group.core) (asks_watcher body heard) (watch_answered vote body heard group tx) (group, NoEffect tx) (watch_same vote body heard group tx) (refl, refl))
     (refl, refl)
 
--- and so does an outcome
+-- an outcome keeps the name
 abbrev KeepsNameIn : Group → Option Group → Type 0
 KeepsNameIn group None = Unit {0}
 KeepsNameIn group (Some after) = IsSameGroup after.core group.core

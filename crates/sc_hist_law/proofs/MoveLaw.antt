@@ -1,4 +1,4 @@
--- Entries that make moves tell a legal history.
+-- Entries that make moves make a legal history.
 use Rattle.std.proofs.Common.{◌≡◌, List, [], ◌∷◌, ◌++◌, Option, Some, inl, inr, sym, ap, ◌∙◌, subst}
 use Rattle.std.specs.FinMap.{empty, get, get-empty}
 use Rattle.std.specs.Option.{option_map, option_and_then}
@@ -20,7 +20,7 @@ use Rattle.sc_hist_law.proofs.QuietLaw.{first_notes, first_told}
 use Rattle.sc_hist_law.proofs.QuietWorlds.{notes_grow, tables_grow}
 use Rattle.std.proofs.lemmas.Option.{none-some}
 
--- what holds after each entry: the history tells what all groups hold, and what their own logs made them note
+-- what holds after each entry: the history matches what all groups hold, and what their own logs made them note
 record IsMoved (request : RequestOf) (world : StoreWorld) : Type 0 where
   holds : TellsHoldings request world.history (holdings_in world)
   notes : (name : Draw) (group : Group) → named_group name world.groups ≡ Some group → HasNotes world.history group.clients

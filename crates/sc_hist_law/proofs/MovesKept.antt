@@ -1,4 +1,4 @@
--- Each move keeps what the history tells of what all groups hold, and so do all moves one after another.
+-- Each move keeps that the history matches what all groups hold, and so do all moves one after another.
 use Rattle.std.proofs.Common.{◌≡◌, List, [], ◌∷◌, ◌++◌, Option, refl, sym, ap, ◌∙◌, subst, append-nil, append_assoc, arith}
 use Rattle.std.specs.FinMap.{empty, get, get-empty}
 use Rattle.std.specs.Ordering.{nat_cmp}
@@ -45,7 +45,7 @@ move_kept request history holdings (GivenFrom group at next) told may =
 move_kept request history holdings (TakenUpTo group at next) told may =
     shared_kept request history holdings group next _ _ told (taken history holdings told.disjoint (all_good request history holdings told) group at next may)
 
--- holdings that are the same at each name are told of the same
+-- holdings that are the same at each name match the same history
 pub same_told : (request : RequestOf) (history : List Entry) (holdings others : Holdings) → ((name : Draw) → others name ≡ holdings name) → TellsHoldings request history holdings → TellsHoldings request history others
 same_told request history holdings others same told = record {
   legal = told.legal;
@@ -79,7 +79,7 @@ history_front holdings (move ∷ front) more =
 
 -- ---- from a bare start
 
--- a bare start tells nothing
+-- at an empty start nothing is in the history
 pub bare_told : (request : RequestOf) (holdings : Holdings) → AreBare holdings → TellsHoldings request [] holdings
 bare_told request holdings bare = record {
   legal = record { replay = tt; once = λ i j d below inside. absurd (omega arith) };

@@ -10,7 +10,7 @@ use Rattle.sc_log_entries.specs.declared.Cut.{Cut}
 use Rattle.sc_log_entries.specs.declared.Transaction.{Transaction}
 use Rattle.sc_hist_law.specs.Definitions.{LeavesWhole}
 
--- no group is born
+-- no group is created
 pub no_birth : (group : Group) (c : Command) (effect : Effect) → LeavesWhole c → birth_of group c effect ≡ None
 no_birth group Noop effect keeps = refl
 no_birth group (Call client seq op) effect keeps = refl

@@ -1,4 +1,4 @@
--- Several groups that begin bare, and quiet entries: what they tell.
+-- Several groups that begin with nothing held, and quiet entries (requests, joins and leaves): what they make of the history.
 use Rattle.std.proofs.Common.{◌≡◌, ◌%◌, ◌^◌, List, [], ◌∷◌, map, Some, inl, inr, refl, sym, ap, ◌∙◌, subst}
 use Rattle.std.specs.FinMap.{empty}
 use Rattle.std.specs.Option.{option_map}
@@ -82,7 +82,7 @@ module _ (bases : List Base) (begin : BeginBare bases) where
         });
   }
 
-  -- what is told at the start
+  -- what holds at the start
   pub first_told : (request : RequestOf) → TellsHoldings request [] (holdings_in (first_world bases))
   first_told request = bare_told request (holdings_in (first_world bases)) first_bare
 
@@ -98,9 +98,9 @@ module _ (bases : List Base) (begin : BeginBare bases) where
   pub first_notes : (request : RequestOf) (name : Draw) (group : Group) → named_group name (map group_of bases) ≡ Some group → HasNotes [] group.clients
   first_notes request = own_notes request bases (first_world bases) (first_quiet request)
 
--- ---- what is told
+-- ---- what the entries make of the history
 
--- the cut of a group that is told of has its arc
+-- a group whose holding matches the history has the arc of its range
 cut_arc : (world : StoreWorld) → Covers world.ring → (cut : Cut) → Among cut world.ring → (arc : Arc) → arc_in cut.group world.ring ≡ Some arc → cut.arc ≡ arc
 cut_arc world covers cut a arc e =
     let other = cut_of cut.group world.ring arc e in

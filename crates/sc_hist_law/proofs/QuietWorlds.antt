@@ -112,7 +112,7 @@ module _ (request : RequestOf) (bases : List Base) (world : StoreWorld) (quiet :
   own_holding : holdings_in world group.core.id ≡ Some (holding_of group)
   own_holding = before_is group.core.id ∙ ap (option_map holding_of) (own_group world name group found c result id_is unborn)
 
-  -- with what is told of it
+  -- with what the history says of it
   quiet_with : TellsHoldings request after.history (holdings_in after) → IsQuietWorld request bases after
   quiet_with told = record { transactions = transactions_are; ring = ring_is ∙ quiet.ring; cuts = cuts_are; told = told }
 

@@ -178,7 +178,7 @@ module _ (request : RequestOf) (history : List Entry) (holdings : Holdings) (tol
   asked_now e (inr (inl same)) = subst (λ (x : Entry). x.op ≡ request x.client x.seq) same may.asked
   asked_now e (inr (inr n)) = absurd n
 
-  -- the history with the new entry tells what all groups hold
+  -- the history with the new entry matches what all groups hold
   tells_served : TellsHoldings request (history ++ new ∷ []) changed
   tells_served = record {
     legal = record {

@@ -1,4 +1,4 @@
--- What each command adds to what the log tells.
+-- What each command adds to what the log makes of the store.
 use Rattle.std.proofs.Common.{◌≡◌, ℕ, zero, suc, ◌<◌, ◌≤◌, cond, eqb, nat_lt, List, [], ◌∷◌, ◌++◌, Option, Some, None, ◌⊎◌, inl, inr, refl, sym, ◌∙◌, ap, subst, append-nil, append_assoc, arith}
 use Rattle.std.specs.Cmp.{nat_cmp_total, unsigned_tied}
 use Rattle.std.specs.Ordering.{nat_cmp}
@@ -35,7 +35,7 @@ pub after_push : (contents : Contents) (entries : List Entry) (e : Entry) → co
 after_push contents [] e = refl
 after_push contents (x ∷ xs) e = after_push (after x.op contents) xs e
 
--- what is told, with the other form of its entries being apart
+-- what the log makes of the store, with the other form of its entries being apart
 pub record IsTold (entries : List Entry) (group : Group) : Type 0 where
   pub replay : HasStoreReplies empty entries
   pub apart : IsApart entries
@@ -273,7 +273,7 @@ one_place group (c ∷ log) a (suc place) (suc other) client seq d f =
     ap suc (one_place (applied group c).0 log (apart_right (entry_of c (applied group c).1) (done_by (applied group c).0 log) a) place other client seq
     (record { op = d.op; reply = d.reply; call = d.call; effect = d.effect }) (record { op = f.op; reply = f.reply; call = f.call; effect = f.effect }))
 
--- each log of calls, joins and leaves tells a history
+-- each log of calls, joins and leaves makes a history
 pub log_tells : LogsTellHistories
 log_tells group none log keeps =
     let told = told_on [] group log keeps (at_start group none) in

@@ -1,4 +1,4 @@
--- The definitions of this crate that others cite, under one name.
+-- Re-exports of the definitions of this crate that others cite.
 pub use Rattle.sc_hist_law.specs.Example.{ExampleOfEntries, answers_with, example_log, get_a, get_entry, lone_base, offspring, put_a, put_entry, split_entry, two_requests, ExampleOfMoves, bare_ring, example_moves, lone_holdings, parent}
 pub use Rattle.sc_hist_law.specs.Fronts.{log_in, FrontsAnswerByHistory, LogsMakeStates}
 pub use Rattle.sc_hist_law.specs.Laws.{IsReplied, LeavesWhole, HoldsNothing, IsNoted, IsDone, LogsTellHistories}

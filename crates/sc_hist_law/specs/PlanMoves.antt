@@ -10,27 +10,27 @@ use Rattle.sc_cmd.specs.declared.votes.Outcome.{Outcome}
 use Rattle.sc_machine_table.specs.Definitions.{gained_group, lost_group, party_freed, watcher_after, welcomed_group, Group, group_of, done, with_node, without_node, closing_group, frozen_of, giving_group, merged_group, migrated_group, part_gift, taking_group, child_of, left_group, decided_group}
 use Rattle.sc_hist_law.specs.Moves.{holding_of, part_before, part_from, with_next, with_previous, with_request}
 
--- a split: the group keeps the part before the boundary, and its child has the rest
+-- a split: the group keeps the part before the boundary, and its child gets the rest
 pub record DividesHolding (group : Group) (at : ℕ) (child : Draw) : Type 0 where
   pub own : holding_of (left_group group at child) ≡ part_before at (holding_of group)
   pub rest : holding_of (group_of (child_of group at child)) ≡ part_from at (holding_of group)
 
--- a merge, of the whole ring or not: the coordinator has both holdings
+-- a merge, of the whole ring or not: the coordinator gets both holdings
 pub record JoinsHoldings (group next : Group) : Type 0 where
   pub merged : holding_of (merged_group group (frozen_of next)) ≡ with_next (holding_of group) (holding_of next)
   pub closing : holding_of (closing_group group (frozen_of next)) ≡ with_next (holding_of group) (holding_of next)
 
--- a boundary that moves into the coordinator's arc: what was offered is its arc, and its gift is the part from there on
+-- a boundary that moves into the coordinator's arc, which is the arc that was offered: the participant gets the part from the boundary on
 pub record GivesHolding (group next : Group) (offer : Offer) (at : ℕ) : Type 0 where
   pub own : holding_of (giving_group group at (frozen_of next)) ≡ part_before at (holding_of group)
   pub gained : holding_of (gained_group next offer at (part_gift group at)) ≡ with_previous (holding_of next) (part_from at (holding_of group))
 
--- a boundary that moves into the participant's arc
+-- a boundary that moves into the participant's arc: the coordinator gets the part before the boundary
 pub record TakesHolding (group next : Group) (at : ℕ) : Type 0 where
   pub own : holding_of (taking_group group at (frozen_of next)) ≡ with_next (holding_of group) (part_before at (holding_of next))
   pub lost : holding_of (lost_group next at) ≡ part_from at (holding_of next)
 
--- what leaves all that is held: a member that comes, leaves or moves on, another neighbour, a lock, and what is remembered of transactions
+-- what leaves a holding as it was: a member that joins, leaves or is handed over, another neighbour, a released lock, and what is remembered of transactions
 pub record KeepsHolding (group : Group) : Type 0 where
   pub joined : (node : ℕ) → holding_of (with_node group node) ≡ holding_of group
   pub left : (node : ℕ) → holding_of (without_node group node) ≡ holding_of group

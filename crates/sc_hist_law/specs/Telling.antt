@@ -1,4 +1,4 @@
--- What has to hold of a world for an entry to move what groups hold as a move says: facts of its group, of its transaction and of the other party.
+-- What has to hold of a world for an entry to make a move of what groups hold: facts about its group, its transaction and the other party.
 use Rattle.std.specs.Prelude.{◌≡◌, ◌≢◌, ℕ, ◌<◌, ◌^◌, true, false, IsTrue, List, [], ◌∷◌, Option, Some, None}
 use Rattle.sc_base.specs.Definitions.{Arc, CanJoin}
 use Rattle.sc_base.specs.declared.names.Draw.{Draw}
@@ -27,7 +27,7 @@ use Rattle.sc_log_entries.specs.Definitions.{decision, transaction_in, is_commit
 use Rattle.sc_hist_law.specs.Moves.{RequestOf, TellsHoldings}
 use Rattle.sc_hist_law.specs.Worlds.{BeginBare, MakesMove, TellByMoves, holdings_in}
 
--- a group has a cut of the ring
+-- a group has a range of the ring
 abbrev pub HasCut : StoreWorld → Draw → Type 0
 HasCut world name = (arc : Arc) × (arc_in name world.ring ≡ Some arc)
 
@@ -35,30 +35,30 @@ HasCut world name = (arc : Arc) × (arc_in name world.ring ≡ Some arc)
 abbrev pub IsUncommitted : StoreWorld → Draw → Type 0
 IsUncommitted world tx = (outcome : Outcome) → decision tx world.transactions ≡ Some outcome → is_commit outcome ≡ false
 
--- a call is the request of its client and number, and a group that serves its key has a cut
+-- a call is the request of its client and number, and its group has a range where it serves the call's key
 pub record MayCall (request : RequestOf) (world : StoreWorld) (group : Group) (client seq : ℕ) (op : Op) : Type 0 where
   pub asked : op ≡ request client seq
   pub cut : IsTrue (serves group (key_of op)) → HasCut world group.core.id
 
--- a group that is split at once has a cut, and its child is new
+-- a group that is split at once has a range, and its child has neither a record nor a range yet
 pub record IsNewChild (world : StoreWorld) (group : Group) (child : Draw) : Type 0 where
   pub cut : HasCut world group.core.id
   pub unborn : named_group child world.groups ≡ None
   pub uncut : arc_in child world.ring ≡ None
 
--- a split names a position, and where it is made at once, a new child
+-- a split is at a position of the ring, and where the group makes it at once, its child is new
 pub record MaySplit (world : StoreWorld) (group : Group) (at : ℕ) (child : Draw) : Type 0 where
   pub fits : at < 2 ^ 32
   pub fresh : is_alone group.core ≡ true → group.core.gone ≡ None → locked_in group.core.lock ≡ None → has_named group.core child ≡ false → IsNewChild world group child
 
--- a coordinator: the transaction is its own, and is not committed
+-- a group coordinates a transaction, which is not committed
 pub record IsItsOwn (world : StoreWorld) (group : Group) (tx : Draw) : Type 0 where
   pub transaction : Transaction
   pub is : transaction_in tx world.transactions ≡ Some transaction
   pub coordinator : transaction.coordinator ≡ group.core.id
   pub uncommitted : IsUncommitted world tx
 
--- a party by whose vote a coordinator commits: its successor, which alone has promised, was offered the coordinator's arc, and is as it handed over
+-- the participant by whose Yes a coordinator commits: the coordinator's successor, which alone has promised, was offered the coordinator's arc, and is as it handed over
 pub record IsParty (world : StoreWorld) (group : Group) (tx : Draw) (frozen : Frozen) : Type 0 where
   pub next : Group
   pub found : named_group group.core.succ.group world.groups ≡ Some next
@@ -72,25 +72,25 @@ pub record IsParty (world : StoreWorld) (group : Group) (tx : Draw) (frozen : Fr
   pub next_cut : HasCut world group.core.succ.group
   pub meet : CanJoin group.core.arc next.core.arc
 
--- a participant's vote: the coordinator's transaction is its own, of a Yes the participant is as it was, and a boundary is moved to a position
+-- what a participant's vote needs: the transaction is its coordinator's own, after a Yes the participant is as it handed over, and a boundary moves to a position of the ring
 pub record MayHear (world : StoreWorld) (group : Group) (tx : Draw) (vote : Vote) : Type 0 where
   pub own : is_coordinating group.core.lock tx ≡ true → IsItsOwn world group tx
   pub party : is_coordinating group.core.lock tx ≡ true → (frozen : Frozen) → vote ≡ Says.Yes frozen → IsParty world group tx frozen
   pub fits : (at order : ℕ) (heard : Option Heard) → group.core.lock ≡ Coordinating tx (At.Repart at) order heard → at < 2 ^ 32
 
--- a watcher's vote: the transaction is the coordinator's own; of a Yes to a merge the participant that was heard is as it was, and of a Yes to a split the child is new, and nobody has promised
+-- what a watcher's vote needs: the transaction is its coordinator's own; after a Yes to a merge the participant that was heard is as it handed over; after a Yes to a split the child is new, and no group has promised
 pub record MayHearWatcher (world : StoreWorld) (group : Group) (tx : Draw) (vote : Past) : Type 0 where
   pub own : is_coordinating group.core.lock tx ≡ true → IsItsOwn world group tx
   pub party : (order : ℕ) (heard : Heard) → group.core.lock ≡ Coordinating tx At.Merge order (Some heard) → vote ≡ Cast.Yes → IsParty world group tx heard.frozen
   pub division : (at : ℕ) (child : Draw) (order : ℕ) (heard : Option Heard) → group.core.lock ≡ Coordinating tx (At.Split at child) order heard → vote ≡ Cast.Yes
       → (at < 2 ^ 32) × IsNewChild world group child × ((name : Draw) (other : Group) (offer : Offer) → named_group name world.groups ≡ Some other → other.core.lock ≡ Promised tx offer → ⊥)
 
--- a party is told what was decided; one that is given something has a cut
+-- what an end needs where its group is locked in the transaction: the outcome is the one that was decided, and a group that is given something has a range
 pub record MayFinish (world : StoreWorld) (group : Group) (tx : Draw) (outcome : Outcome) : Type 0 where
   pub decided : locked_in group.core.lock ≡ Some tx → decision tx world.transactions ≡ Some outcome
   pub cut : locked_in group.core.lock ≡ Some tx → (at : ℕ) (gift : Gift) → outcome ≡ Moved at (Some gift) → HasCut world group.core.id
 
--- what has to hold for a command of a group
+-- what has to hold of a world for its group to execute a command
 abbrev pub MayExecute : RequestOf → StoreWorld → Group → Command → Type 0
 MayExecute request world group Noop = Unit {0}
 MayExecute request world group (Call client seq op) = MayCall request world group client seq op
@@ -105,19 +105,19 @@ MayExecute request world group (Finish tx outcome) = MayFinish world group tx ou
 MayExecute request world group (Watched tx watch) = Unit {0}
 MayExecute request world group (RecordWatch tx vote by) = MayHearWatcher world group tx vote
 
--- and for an entry, of the group that it is of
+-- what has to hold of a world for an entry, by the group that the entry is of
 abbrev pub MayBeTold : RequestOf → StoreWorld → LogEntry → Type 0
 MayBeTold request world entry = (group : Group) → named_group entry.group world.groups ≡ Some group → MayExecute request world group entry.command
 
--- each entry may be told when it is
+-- each entry may be applied when its turn comes
 abbrev pub MayAllBeTold : RequestOf → StoreWorld → List LogEntry → Type 0
 MayAllBeTold request world [] = Unit {0}
 MayAllBeTold request world (entry ∷ entries) = MayBeTold request world entry × MayAllBeTold request (told world entry) entries
 
--- where a history tells what all groups hold, an entry that may be told makes a move
+-- where the history matches what all groups hold, an entry that may be applied makes a move
 abbrev pub EntriesMakeMoves : Type 0
 EntriesMakeMoves = (request : RequestOf) (world : StoreWorld) (entry : LogEntry) → TellsHoldings request world.history (holdings_in world) → MayBeTold request world entry → MakesMove request world entry
 
--- so entries of every kind tell a legal history, where each may be told
+-- entries of every kind that may be applied one after another from an empty start make a history that matches what all groups hold
 abbrev pub EntriesThatMayBeToldTell : Type 0
 EntriesThatMayBeToldTell = (request : RequestOf) (bases : List Base) → BeginBare bases → (entries : List LogEntry) → MayAllBeTold request (first_world bases) entries → TellByMoves request bases entries

@@ -1,4 +1,4 @@
--- What the entries of all logs tell of what all groups hold.
+-- What the entries of all logs make of what all groups hold.
 use Rattle.std.specs.Prelude.{◌≡◌, ◌⊎◌, List, [], ◌∷◌, ◌++◌, map, Some}
 use Rattle.std.specs.FinMap.{empty}
 use Rattle.std.specs.Option.{option_map, option_and_then}
@@ -15,7 +15,7 @@ use Rattle.sc_log_entries.specs.Definitions.{effective, HoldsItsPart, Covers, ar
 use Rattle.sc_hist_law.specs.Laws.{LeavesWhole}
 use Rattle.sc_hist_law.specs.Moves.{Holding, Holdings, Move, RequestOf, HasNotes, MayMake, TellsHoldings, entries_by, holding_of, holdings_after}
 
--- what each group with a cut holds, by its effective record
+-- what each group with a range holds, by its effective record
 abbrev pub holdings_in : StoreWorld → Holdings
 holdings_in world name = option_and_then (λ arc. option_map holding_of (effective world name)) (arc_in name world.ring)
 
@@ -24,12 +24,12 @@ pub record BeginsBare (base : Base) : Type 0 where
   pub pairs : base.pairs ≡ []
   pub clients : base.clients ≡ []
 
--- the groups of a scenario: their arcs make the ring, and they hold nothing
+-- the groups of a scenario begin empty: their arcs cover the ring, and they hold nothing
 pub record BeginBare (bases : List Base) : Type 0 where
   pub covers : Covers (map first_cut bases)
   pub bare : (base : Base) → Among base bases → BeginsBare base
 
--- a call is the request of its client and number
+-- a call is the request of its client and number; any other command is allowed
 abbrev pub IsAskedCall : RequestOf → Command → Type 0
 IsAskedCall request (Call client seq op) = op ≡ request client seq
 IsAskedCall request Noop = Unit {0}
@@ -44,7 +44,7 @@ IsAskedCall request (Finish tx outcome) = Unit {0}
 IsAskedCall request (Watched tx watch) = Unit {0}
 IsAskedCall request (RecordWatch tx vote by) = Unit {0}
 
--- an entry that divides no group and is of no transaction; a call is the request of its client and number
+-- an entry divides no group and is of no transaction, and a call is the request of its client and number
 pub record IsQuiet (request : RequestOf) (entry : LogEntry) : Type 0 where
   pub whole : LeavesWhole entry.command
   pub asked : IsAskedCall request entry.command
@@ -54,32 +54,32 @@ abbrev pub LogNotesStay : List Base → List LogEntry → Type 0
 LogNotesStay bases entries = (front more : List LogEntry) → entries ≡ front ++ more → (name : Draw) (group : Group) → named_group name (world_of bases front).groups ≡ Some group
     → HasNotes (world_of bases entries).history group.clients
 
--- a world whose history is legal and tells what all groups hold, cut by cut
+-- the history of a world is legal and matches what all groups hold, and each range's group has its part of the map
 pub record IsToldWorld (request : RequestOf) (world : StoreWorld) : Type 0 where
   pub legal : Legal world.history
   pub told : TellsHoldings request world.history (holdings_in world)
   pub parts : (cut : Cut) → Among cut world.ring → HoldsItsPart world cut
 
--- whatever requests, joins and leaves the groups of a scenario execute, the requests that took effect, whichever group served them, are one legal history; the cuts stay, and the effective record of each cut's group has the map after it on that cut
+-- after such entries the history of the requests that took effect is legal and matches what all groups hold, the ranges are those of the start, and the notes of all logs stay in the history
 pub record TellQuietly (request : RequestOf) (bases : List Base) (entries : List LogEntry) : Type 0 where
   pub world : IsToldWorld request (world_of bases entries)
   pub ring : (world_of bases entries).ring ≡ map first_cut bases
   pub notes : LogNotesStay bases entries
 
--- the law of several groups
+-- requests, joins and leaves from an empty start, in any number of groups, make one legal history that matches what all groups hold
 abbrev pub QuietEntriesTell : Type 0
 QuietEntriesTell = (request : RequestOf) (bases : List Base) → BeginBare bases → (entries : List LogEntry) → Each (IsQuiet request) entries → TellQuietly request bases entries
 
 -- ---- entries of every kind
 
--- the table of a group by its own log: empty, or as it was before an entry, or what the group holds after it
+-- the table of a group by its own log is empty, or as it was before an entry, or what the group holds after the entry
 abbrev pub HasKnownTable : StoreWorld → StoreWorld → Draw → Group → Type 0
 HasKnownTable before after name group =
     (group.clients ≡ empty)
     ⊎ ((old : Group) × (named_group name before.groups ≡ Some old) × (old.clients ≡ group.clients))
     ⊎ ((holding : Holding) × (holdings_in after name ≡ Some holding) × (holding.clients ≡ group.clients))
 
--- one world comes of another by a move of what all groups hold: the move may be made, the history grows by what it adds, and afterwards each group holds what it says
+-- one world follows another by a move of what all groups hold: the move may be made, the history grows by the entries that it adds, and afterwards each group holds what the move gives it
 pub record IsMoveTo (request : RequestOf) (before after : StoreWorld) : Type 0 where
   pub move : Move
   pub may : MayMake request (holdings_in before) move
@@ -91,21 +91,21 @@ pub record IsMoveTo (request : RequestOf) (before after : StoreWorld) : Type 0 w
 abbrev pub MakesMove : RequestOf → StoreWorld → LogEntry → Type 0
 MakesMove request world entry = IsMoveTo request world (told world entry)
 
--- each entry makes a move when it is told
+-- each entry makes a move when its turn comes
 abbrev pub AllMakeMoves : RequestOf → StoreWorld → List LogEntry → Type 0
 AllMakeMoves request world [] = Unit {0}
 AllMakeMoves request world (entry ∷ entries) = MakesMove request world entry × AllMakeMoves request (told world entry) entries
 
--- the effective record of a cut's group has the arc of the cut
+-- the effective record of a range's group has the arc of the range
 abbrev pub HasCutArc : StoreWorld → Cut → Type 0
 HasCutArc world cut = (group : Group) → effective world cut.group ≡ Some group → group.core.arc ≡ cut.arc
 
--- the history tells what all groups hold, cut by cut where the records have the arcs of the cuts, and the notes of all logs stay in it
+-- the history matches what all groups hold, each range's group has its part of the map where its record has the range's arc, and the notes of all logs stay in the history
 pub record TellByMoves (request : RequestOf) (bases : List Base) (entries : List LogEntry) : Type 0 where
   pub told : TellsHoldings request (world_of bases entries).history (holdings_in (world_of bases entries))
   pub parts : (cut : Cut) → Among cut (world_of bases entries).ring → HasCutArc (world_of bases entries) cut → HoldsItsPart (world_of bases entries) cut
   pub notes : LogNotesStay bases entries
 
--- whatever the entries are, where each of them makes a move
+-- entries of which each makes a move, from an empty start, make a history that matches what all groups hold
 abbrev pub EntriesThatMoveTell : Type 0
 EntriesThatMoveTell = (request : RequestOf) (bases : List Base) → BeginBare bases → (entries : List LogEntry) → AllMakeMoves request (first_world bases) entries → TellByMoves request bases entries

@@ -1,4 +1,4 @@
--- What a walk through the queue of calls finds, and what it leaves of them.
+-- What a walk through the queue of requests finds, and what it leaves of them.
 use Rattle.std.proofs.Common.{◌≡◌, ℕ, Bool, false, List, [], ◌∷◌, Option, Some, None, refl}
 use Rattle.std.proofs.lemmas.Bool.{cond_both}
 use Rattle.sc_node_table.specs.Values.{Command, Core, AnswerBody, Mail}

@@ -36,7 +36,7 @@ idle_ready (e ∷ es) place stopped =
     ap (λ (o : Option Command). elim o [ None ↦ childless place | Some command ↦ ending (next_child command place.0) (executed_ready es (executed_one true command place)) ])
     (ap (λ b. cond (b && has_room place.0) (at_slot place.0.ready (next place.0)) None) stopped)
 
--- .. and its pump offers nothing
+-- the pump of a replica that does not run offers nothing
 pub idle_pump : (place : Place) → place.0.running ≡ false → pumped place ≡ place
 unfolding pumped
 idle_pump place stopped = ap (λ b. cond b (pumped_from (next place.0) place.0.sets place) place) (all_false place.0.running stopped)

@@ -11,7 +11,7 @@ abbrev pub cleared : ℕ → Place → Place
 cleared slot (r, mails) = (record r { leader = without_flight_at slot r.leader; ready = without_slot r.ready slot }, mails)
 
 module _ (F : Place → Type 0) where
-  -- .. with the children that are made
+  -- what holds of a replica with its mail and the children that are made
   abbrev FAfter : Executed → Type 0
   FAfter step = F step.0
 

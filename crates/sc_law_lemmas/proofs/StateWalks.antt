@@ -25,7 +25,7 @@ pub record StateParts (me : ℕ) (P : ReplicaState → Type 0) : Type 0 where
   pub queues : (r : ReplicaState) (acts calls : List Command) → P r → P (record r { acts = acts; calls = calls })
   pub waited : (waits : ℕ) (r : ReplicaState) → P r → P (record r { waits = waits })
 
--- .. and where it begins
+-- where an invariant that says nothing of mail begins
 pub record StateBirths (me : ℕ) (P : ReplicaState → Type 0) : Type 0 where
   pub born : (base : Base) → P (born_replica slots_ahead me base)
   pub made : (slot : ℕ) (base : Base) (sets : List (List ℕ)) → P (installed_replica me slot base sets)

@@ -161,7 +161,7 @@ module _ (w : Walk) where
   state_sent node (r, mails) k = (k.0, one_sent w r.me k.0.0.0 node (Install (name_of r) (next r - 1) (base_of r.group) r.sets) mails (w.mails.installs node r k.0.1) k.1)
 
   module _ (b : Bool) where
-    -- .. where it runs, or does not
+    -- what holds of a replica with its mail, where the replica runs as the flag says
     abbrev At : Place → Type 0
     At place = Before w place × (place.0.running ≡ b)
 

@@ -21,7 +21,7 @@ ended_replica hint r = record r { running = false; leader = new_leader r.leader.
 abbrev pub IsReported : (Ballot → Type 0) → (ℕ → Command → Type 0) → Report Command → Type 0
 IsReported Round Entry report = Round report.ballot × Entry report.slot report.value
 
--- What holds of the node's replicas, early in a row, before one elects itself, and late; of what they say to whom; of the ballots, the commands at slots, the slots of votes and the states that they are told; of a ballot that they are asked to promise, and of a slot of which they are told before its own; and of a command that is offered.
+-- What holds of the node's replicas: early in a row, before one elects itself, and late; of what they say to whom; of the ballots, the commands at slots, the slots of votes and the states that they receive; of a ballot that they are asked to promise, and of a slot that they learn before its own; and of a command that is offered.
 pub record Facts : Type 1 where
   pub me : ℕ
   pub Early : ReplicaState → Type 0
@@ -98,14 +98,14 @@ pub record Walk : Type 1 where
   pub states : States facts
   pub mails : Mails facts
 
--- .. where it holds at a group's birth, and where a replica is made of a state
+-- Where the invariant holds at a group's birth, and where a replica is made of a state.
 pub record Births (f : Facts) : Type 0 where
   pub born : (base : Base) → f.Late (born_replica slots_ahead f.me base)
   pub made : (slot : ℕ) (base : Base) (sets : List (List ℕ)) → length sets ≡ slots_ahead → f.State slot base → f.Early (installed_replica f.me slot base sets)
-  -- .. and what is asked for where there is none
+  -- what a node asks for where it has no replica
   pub wants_all : (to : ℕ) (group : Draw) → f.Says to (Ask group 0)
 
--- .. and through ticks
+-- That ticks keep the invariant.
 pub record Ticks (f : Facts) : Type 0 where
   pub waited : (waits : ℕ) (r : ReplicaState) → f.Late r → f.Late (record r { waits = waits })
   pub reasks : (to slot : ℕ) (command : Command) (r : ReplicaState) → r.me ≡ f.me → r.running ≡ true → flying r slot ≡ Some command → f.Late r → f.Says to (Accept (name_of r) r.leader.ballot slot command)
@@ -149,21 +149,21 @@ module _ (w : Walk) where
   abbrev pub LateAt : ReplicaState → Type 0
   LateAt r = IsKept w.facts.me r × w.facts.Late r
 
-  -- .. with its mail
+  -- a replica with its mail, before it has elected itself in a row, and after
   abbrev pub Before : Place → Type 0
   Before place = EarlyAt place.0 × AreSaid place.1
 
   abbrev pub After : Place → Type 0
   After place = LateAt place.0 × AreSaid place.1
 
-  -- .. with the children that a row made
+  -- a replica with its mail and the children that a row made
   abbrev pub AfterAll : Executed → Type 0
   AfterAll step = After step.0
 
   pub on_late : (place : Place) → Before place → After place
   on_late place k = ((k.0.0, w.states.late place.0 k.0.1), k.1)
 
-  -- what a mail tells is what the invariant says of ballots, commands at slots and states
+  -- what a mail says, as the invariant speaks of it: ballots, commands at slots and states
   abbrev pub Hears : MailBody → Type 0
   Hears (Prepare group ballot from_slot) = w.facts.Round ballot × w.facts.Polled ballot
   Hears (Promise group ballot reports) = Each (IsReported w.facts.Round w.facts.Entry) reports

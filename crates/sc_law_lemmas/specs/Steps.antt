@@ -4,11 +4,11 @@ use Rattle.sc_node_table.specs.Values.{Ballot, Command}
 use Rattle.sc_paxos_words.specs.Definitions.{below}
 use Rattle.sc_node_table.specs.Definitions.{ReplicaState}
 
--- no leader stops for this ballot
+-- this ballot stops no leader: the replica does not run as a leader, or its ballot is not below this one
 abbrev pub GoesOn : Ballot → ReplicaState → Type 0
 GoesOn ballot r = (r.running && below r.leader.ballot ballot) ≡ false
 
--- one thing of the command that is there, and another where none is
+-- the first statement, of the command, where there is a command; else the second statement
 abbrev pub IfThere : (Command → Type 0) → Type 0 → Option Command → Type 0
 IfThere there none None = none
 IfThere there none (Some command) = there command

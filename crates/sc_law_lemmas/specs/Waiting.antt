@@ -1,10 +1,10 @@
--- What waits at a replica, and what holds of each.
+-- What waits in a replica's queues, and what holds of each replica.
 use Rattle.std.specs.Prelude.{◌≡◌, ℕ, false, [], length}
 use Rattle.sc_base.specs.Definitions.{Each}
 use Rattle.sc_node_table.specs.Values.{Command, Noop, Call, Join, Leave, Split, Begin, Prepared, RecordVote, GiveUp, Finish, Watched, RecordWatch}
 use Rattle.sc_node_table.specs.Definitions.{ReplicaState, slots_ahead}
 
--- a command of a transaction, by which a party votes, records a vote, gives up or ends
+-- a command of a transaction: a vote, a recorded vote, giving up or an end
 abbrev pub IsFiled : Command → Type 0
 IsFiled Noop = ⊥
 IsFiled (Call client seq op) = ⊥
@@ -19,7 +19,7 @@ IsFiled (Finish tx outcome) = Unit {0}
 IsFiled (Watched tx watch) = Unit {0}
 IsFiled (RecordWatch tx vote by) = Unit {0}
 
--- the command of an order
+-- the command of an order: Join, Leave, Split or Begin
 abbrev pub IsOrder : Command → Type 0
 IsOrder Noop = ⊥
 IsOrder (Call client seq op) = ⊥
@@ -34,7 +34,7 @@ IsOrder (Finish tx outcome) = ⊥
 IsOrder (Watched tx watch) = ⊥
 IsOrder (RecordWatch tx vote by) = ⊥
 
--- a client's request or an order
+-- a client's request or the command of an order
 abbrev pub IsAsked : Command → Type 0
 IsAsked Noop = ⊥
 IsAsked (Call client seq op) = Unit {0}
@@ -49,10 +49,10 @@ IsAsked (Finish tx outcome) = ⊥
 IsAsked (Watched tx watch) = ⊥
 IsAsked (RecordWatch tx vote by) = ⊥
 
--- where it does not run, nothing is in flight and nothing waits; and what waits is a command of a transaction, or a request or an order
+-- a replica that does not run has nothing in flight and nothing queued; what is queued is a command of a transaction in `acts`, and a request or an order in `calls`
 abbrev pub HoldsQueues : ReplicaState → Type 0
 HoldsQueues r = (r.running ≡ false → (r.leader.flights ≡ []) × (r.acts ≡ []) × (r.calls ≡ [])) × Each IsFiled r.acts × Each IsAsked r.calls
 
--- .. and it is its node's, and has the members of as many slots as are open: so is each replica in any journal
+-- a replica is that of node `me`, has the members of as many slots as are open, and its queues are as `HoldsQueues` says
 abbrev pub IsKept : ℕ → ReplicaState → Type 0
 IsKept me r = (r.me ≡ me) × (length r.sets ≡ slots_ahead) × HoldsQueues r

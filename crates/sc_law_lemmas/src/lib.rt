@@ -1,4 +1,4 @@
-//! Lemmas that several laws cite, of either of two values, of ballots, of the queue of calls, and
-//! of what holds of a replica with its mails through the rows of its table; and two definitions of
-//! a replica's step. No logic.
+//! Lemmas that several laws cite: about either of two values, ballots, the queues of a replica, and
+//! what holds of a replica and its mail through the rows of its table. Definitions and proofs; no
+//! code that runs.
 #![tactic(auto)]

@@ -1,4 +1,4 @@
--- The child that a command makes by the machine's table is the group that its entry gives birth to.
+-- The child that the machine's table makes for a command is the group that its entry creates.
 use Rattle.std.proofs.Common.{◌≡◌, ℕ, Bool, true, false, ◌&&◌, if◌then◌else◌, Option, Some, None, refl}
 use Rattle.std.specs.Option.{option_map}
 use Rattle.sc_base.specs.Definitions.{same_draw}

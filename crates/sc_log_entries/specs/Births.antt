@@ -1,4 +1,4 @@
--- Which entry makes a new group, and how the group begins.
+-- Which entries create a group, and the birth record with which it begins.
 use Rattle.std.specs.Prelude.{◌&&◌, if◌then◌else◌, Option, Some, None}
 use Rattle.std.specs.Option.{option_map}
 use Rattle.sc_cmd.specs.declared.bodies.Body.{Body}
@@ -14,21 +14,21 @@ use Rattle.sc_cmd.specs.Definitions.{is_alone, is_changed, is_divided}
 use Rattle.sc_machine_table.specs.Definitions.{Group, child_of}
 use Rattle.sc_log_entries.specs.declared.Division.{Division}
 
--- the division that a transaction is to make, if it is a split
+-- the division that a transaction's body asks for, if the body is a split
 abbrev pub division_by : Body → Option Division
 division_by At.Merge = None
 division_by (At.Repart at) = None
 division_by (At.Migrate node) = None
 division_by (At.Split at child) = Some (record { at = at; child = child })
 
--- the division that a group coordinates, if it does
+-- the division that a group coordinates by its lock, if it coordinates a split
 abbrev pub division_in : Lock → Option Division
 division_in Free = None
 division_in (Coordinating tx body order heard) = division_by body
 division_in (Promised tx offer) = None
 division_in (Watching tx watch) = None
 
--- the division that an entry makes of a group, whose record was this before, if it makes one: a Split that changes a group which is its own successor, or a watcher's vote by which a split is decided
+-- the division that an entry makes of its group, by the record before the entry and the entry's effect: a Split that changes a group alone in the ring, or a recorded watcher's vote that decides a split
 abbrev pub division_of : Core → Command → Effect → Option Division
 division_of core (Split at child order) effect = if is_changed effect && is_alone core then Some (record { at = at; child = child }) else None
 division_of core (RecordWatch tx vote by) effect = if is_divided effect then division_in core.lock else None
@@ -43,6 +43,6 @@ division_of core (GiveUp tx) effect = None
 division_of core (Finish tx outcome) effect = None
 division_of core (Watched tx watch) effect = None
 
--- the group that an entry makes, if it makes one: the child of its group, as it was before
+-- the birth record of the group that an entry creates, if it creates one: the child of the entry's group as it was before the entry
 abbrev pub birth_of : Group → Command → Effect → Option Base
 birth_of group command effect = option_map (λ division. child_of group division.at division.child) (division_of group.core command effect)

@@ -1,4 +1,4 @@
--- Transactions, as the logs of their coordinators tell them: who takes part, and what was decided. A transaction is decided by one entry of one log, as in the nested consensus of Scatter (SOSP 2011), whoever has heard of it.
+-- Transactions as their coordinators' logs record them: who takes part, and what was decided. One entry of one log decides a transaction, as in the nested consensus of Scatter (SOSP 2011, multi-group operations), whichever groups have learned of it.
 use Rattle.std.specs.Prelude.{ℕ, Bool, ◌&&◌, not, List, [], ◌∷◌, ◌++◌, map, find, if◌then◌else◌, Option, Some, None}
 use Rattle.std.specs.Option.{option_map, option_and_then}
 use Rattle.sc_base.specs.Definitions.{same_draw}
@@ -15,26 +15,26 @@ use Rattle.sc_cmd.specs.declared.votes.Vote.TheVariants.{Yes, No}
 use Rattle.sc_cmd.specs.Definitions.{decided_in, is_changed, is_alone}
 use Rattle.sc_log_entries.specs.declared.Transaction.{Transaction}
 
--- ---- how each entry of a coordinator adds to what is told of its transaction
+-- ---- what each entry of a coordinator adds to the record of its transaction
 
--- a transaction that a group begins with its successor
+-- the transaction that a group begins with its successor as participant
 abbrev pub begun_transaction : Core → Draw → Body → Transaction
 begun_transaction core tx body = record { tx = tx; coordinator = core.id; body = body; participant = Some core.succ.group; watcher = None; outcome = None }
 
--- a split that a group begins, which its successor is to watch
+-- the transaction of a split that a group begins, with its successor as watcher
 abbrev pub begun_split : Core → ℕ → Draw → Transaction
 begun_split core at child = record { tx = child; coordinator = core.id; body = At.Split at child; participant = None; watcher = Some core.succ.group; outcome = None }
 
--- the watcher that a participant names whose vote was heard
+-- the watcher that a participant's Yes names: its successor; a No names none
 abbrev pub named_watcher : Vote → Option Draw
 named_watcher (Yes frozen) = Some frozen.succ.group
 named_watcher (No why) = None
 
--- a transaction whose watcher is known
+-- a transaction with this watcher
 abbrev pub with_watcher : Option Draw → Transaction → Transaction
 with_watcher watcher transaction = record transaction { watcher = watcher }
 
--- a transaction that is decided
+-- a transaction with this outcome
 abbrev pub with_outcome : Option Outcome → Transaction → Transaction
 with_outcome outcome transaction = record transaction { outcome = outcome }
 
@@ -42,16 +42,16 @@ with_outcome outcome transaction = record transaction { outcome = outcome }
 abbrev pub is_of : Draw → Draw → Transaction → Bool
 is_of tx coordinator transaction = same_draw transaction.tx tx && same_draw transaction.coordinator coordinator
 
--- the transactions, with that one of this coordinator changed
+-- the transactions, with the one of this name and coordinator changed
 abbrev pub amended : Draw → Draw → (Transaction → Transaction) → List Transaction → List Transaction
 amended tx coordinator change = map (λ transaction. if is_of tx coordinator transaction then change transaction else transaction)
 
--- the transactions, with the outcome of that one of this coordinator, if there is an outcome
+-- the transactions, with this outcome for the one of this name and coordinator, if there is an outcome
 abbrev pub concluded : Option Outcome → Draw → Draw → List Transaction → List Transaction
 concluded None tx coordinator transactions = transactions
 concluded (Some outcome) tx coordinator transactions = amended tx coordinator (with_outcome (Some outcome)) transactions
 
--- the transactions after an entry of the log of a group, whose record was this before: what a Begin, or a Split of a group that is not its own successor, begins where it changes the group; the watcher, where a participant's Yes is heard and does not decide; and the outcome, where a vote or giving up decides
+-- the transactions after an entry of a group's log, by the group's record before it and the entry's effect. A Begin that changes the group begins one, and so does a Split that changes a group with another successor; a participant's Yes that does not decide sets the watcher; a vote or GiveUp that decides sets the outcome.
 abbrev pub transactions_after : Core → Command → Effect → List Transaction → List Transaction
 transactions_after core (Begin tx body order) effect transactions = if is_changed effect then transactions ++ begun_transaction core tx body ∷ [] else transactions
 transactions_after core (Split at child order) effect transactions =
@@ -69,24 +69,24 @@ transactions_after core (Prepared tx offer) effect transactions = transactions
 transactions_after core (Finish tx outcome) effect transactions = transactions
 transactions_after core (Watched tx watch) effect transactions = transactions
 
--- ---- what is told of a transaction
+-- ---- what is recorded of a transaction
 
 -- the transaction with a name, if it was begun
 abbrev pub transaction_in : Draw → List Transaction → Option Transaction
 transaction_in tx = find (λ transaction. same_draw transaction.tx tx)
 
--- the group that coordinates it
+-- the group that coordinates the transaction with a name, if it was begun
 abbrev pub coordinator_in : Draw → List Transaction → Option Draw
 coordinator_in tx transactions = option_map (λ transaction. transaction.coordinator) (transaction_in tx transactions)
 
--- the group that takes part in it
+-- the group that takes part in the transaction with a name, if it has a participant
 abbrev pub participant_in : Draw → List Transaction → Option Draw
 participant_in tx transactions = option_and_then (λ transaction. transaction.participant) (transaction_in tx transactions)
 
--- the group that watches it
+-- the group that watches the transaction with a name, if one is known
 abbrev pub watcher_in : Draw → List Transaction → Option Draw
 watcher_in tx transactions = option_and_then (λ transaction. transaction.watcher) (transaction_in tx transactions)
 
--- what was decided: none while it is open, else an abort, or the outcome of a commit
+-- the outcome of the transaction with a name: none while it is open, else an abort or the outcome of a commit
 abbrev pub decision : Draw → List Transaction → Option Outcome
 decision tx transactions = option_and_then (λ transaction. transaction.outcome) (transaction_in tx transactions)

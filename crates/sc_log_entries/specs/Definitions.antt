@@ -1,4 +1,4 @@
--- The definitions of this crate that others cite, under one name.
+-- Re-exports of the definitions of this crate that others cite.
 pub use Rattle.sc_log_entries.specs.Births.{birth_of, division_of, division_in, division_by}
 pub use Rattle.sc_log_entries.specs.Decisions.{concluded, begun_split, decision, named_watcher, amended, is_of, transaction_in, with_outcome, with_watcher, transactions_after, begun_transaction}
 pub use Rattle.sc_log_entries.specs.Effective.{effective, effective_by, is_open, serves, after_outcome, is_commit}

@@ -21,29 +21,29 @@ is_commit (Moved at gift) = true
 is_commit (Migrated node) = true
 is_commit Divided = true
 
--- a group after what its transaction decided: as after Finish where that is a commit, and else as it is
+-- a group after its transaction's outcome, if that is a commit: as after Finish with it; else the group as it is
 abbrev pub after_outcome : Option Outcome → Draw → Group → Group
 after_outcome None tx group = group
 after_outcome (Some outcome) tx group = if is_commit outcome then (applied group (Finish tx outcome)).0 else group
 
--- a group by its lock: one that has promised or watches goes by what was decided, whether it has heard of it or not
+-- the effective record of a group with this lock: one that has promised or watches is judged by what its transaction decided, whether it has learned of it or not
 abbrev pub effective_by : Lock → List Transaction → Group → Group
 effective_by Free transactions group = group
 effective_by (Coordinating tx body order heard) transactions group = group
 effective_by (Promised tx offer) transactions group = after_outcome (decision tx transactions) tx group
 effective_by (Watching tx watch) transactions group = after_outcome (decision tx transactions) tx group
 
--- the effective record of a group in a world, if it was born: as its own log makes it and as what was decided elsewhere makes it
+-- the effective record of the group with a name, if there is such a group: what its own log makes of it, and then what was decided elsewhere
 abbrev pub effective : StoreWorld → Draw → Option Group
 effective world name = option_map (λ group. effective_by group.core.lock world.transactions group) (named_group name world.groups)
 
--- whether a group with this lock serves calls
+-- whether a group with this lock serves calls: where it is in no transaction or only watches
 abbrev pub is_open : Lock → Bool
 is_open Free = true
 is_open (Coordinating tx body order heard) = false
 is_open (Promised tx offer) = false
 is_open (Watching tx watch) = true
 
--- whether a group serves a key: its arc holds the key's position, its lock leaves it open, and it is not gone
+-- whether a group serves a key: its arc holds the key's position, its lock lets it serve, and it is not gone
 abbrev pub serves : Group → List ℕ → Bool
 serves group key = holds_key group.core.arc key && is_open group.core.lock && is_none group.core.gone

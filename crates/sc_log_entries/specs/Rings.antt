@@ -1,4 +1,4 @@
--- The decided ring: one list of cuts, which is changed whole by the entries of coordinators. What a participant's own log says follows later.
+-- The decided ring: one list of ranges. The entries of coordinators change it, each in one step; the participants' own logs follow later.
 use Rattle.std.specs.Prelude.{◌≡◌, ◌≢◌, ℕ, ◌^◌, ◌<◌, Bool, IsTrue, not, List, [], ◌∷◌, map, find, AllPairs, if◌then◌else◌, Option, Some, None}
 use Rattle.std.specs.List.{filter, flat_map}
 use Rattle.std.specs.Option.{option_map}
@@ -16,39 +16,39 @@ use Rattle.sc_log_entries.specs.declared.Cut.{Cut}
 use Rattle.sc_log_entries.specs.declared.Division.{Division}
 use Rattle.sc_log_entries.specs.Births.{division_of}
 
--- each cut has an arc of the ring
+-- each range has an arc with its first position on the ring and a length from 1 to the whole ring
 abbrev pub HaveArcs : List Cut → Type 0
 HaveArcs ring = (cut : Cut) → Among cut ring → IsArc cut.arc × (cut.arc.lo < 2 ^ 32)
 
--- the ring covers: each position lies in the arc of exactly one cut, and no group has two
+-- the ring covers: each position lies in the arc of exactly one range, and no group has two ranges
 pub record Covers (ring : List Cut) : Type 0 where
   pub arcs : HaveArcs ring
-  -- each position lies in one
+  -- each position lies in a range
   pub some : (p : ℕ) → p < 2 ^ 32 → (cut : Cut) × Among cut ring × IsTrue (holds cut.arc p)
-  -- and in no other
+  -- no position lies in two ranges
   pub only : (p : ℕ) → p < 2 ^ 32 → (cut other : Cut) → Among cut ring → Among other ring → IsTrue (holds cut.arc p) → IsTrue (holds other.arc p) → cut ≡ other
-  -- no group has two
+  -- no group has two ranges
   pub apart : AllPairs (λ cut other. cut.group ≢ other.group) ring
 
--- whether a cut is a group's
+-- whether a range is a group's
 abbrev pub is_cut_of : Draw → Cut → Bool
 is_cut_of group cut = same_draw cut.group group
 
--- the arc of a group in the ring, if it has a cut
+-- the arc of a group in the ring, if it has a range
 abbrev pub arc_in : Draw → List Cut → Option Arc
 arc_in group ring = option_map (λ cut. cut.arc) (find (is_cut_of group) ring)
 
--- the cut of each group of a scenario
+-- the range of a group at its birth
 abbrev pub first_cut : Base → Cut
 first_cut base = record { arc = base.core.arc; group = base.core.id }
 
--- the ring, with this arc for a group
+-- the ring, with this arc for a group's range
 abbrev pub recut : Draw → Arc → List Cut → List Cut
 recut group arc = map (λ cut. if is_cut_of group cut then record cut { arc = arc } else cut)
 
 -- ---- a split
 
--- what becomes of a cut: that of the group keeps what lies before the boundary, and the child has the rest
+-- what a division of a group makes of a range: the group's own range keeps the part before the boundary, and the child gets the rest; any other range stays
 abbrev pub parts_of : Draw → Division → Cut → List Cut
 parts_of group division cut =
     if is_cut_of group cut
@@ -62,23 +62,23 @@ ring_divided (Some division) group ring = flat_map (parts_of group division) rin
 
 -- ---- a merge, and a boundary that moves
 
--- the coordinator's arc and the participant's as one arc
+-- the coordinator's arc and the participant's arc joined to one, where the ring has both; the coordinator's alone where the participant has none
 abbrev pub both_arcs : Option Arc → Option Arc → Option Arc
 both_arcs (Some arc) (Some next) = Some (joined arc next)
 both_arcs (Some arc) None = None
 both_arcs None next = None
 
--- the participant's cut is taken out, and the coordinator has both arcs
+-- the ring after a merge: the participant's range is removed, and the coordinator has the joined arc
 abbrev pub ring_merged : Option Arc → Draw → Draw → List Cut → List Cut
 ring_merged None coordinator participant ring = ring
 ring_merged (Some whole) coordinator participant ring = recut coordinator whole (filter (λ cut. not (is_cut_of participant cut)) ring)
 
--- the coordinator has what lies before the boundary of both arcs, and the participant the rest
+-- the ring after a boundary moved: the coordinator has the part of the joined arc before the boundary, and the participant the rest
 abbrev pub ring_moved : ℕ → Option Arc → Draw → Draw → List Cut → List Cut
 ring_moved at None coordinator participant ring = ring
 ring_moved at (Some whole) coordinator participant ring = recut coordinator (before whole at) (recut participant (from whole at) ring)
 
--- the ring after what a coordinator decides with its participant. A split is a division, and a member that moves on changes no arc.
+-- the ring after what a coordinator decides with its participant. A split changes it by its division instead, and a member that is handed over changes no arc.
 abbrev pub ring_decided : Option Outcome → Draw → Draw → List Cut → List Cut
 ring_decided None coordinator participant ring = ring
 ring_decided (Some Abort) coordinator participant ring = ring
@@ -89,7 +89,7 @@ ring_decided (Some Divided) coordinator participant ring = ring
 
 -- ---- each entry
 
--- what an entry decides for its group as coordinator: by its participant's vote or its watcher's. Giving up is an abort, and a Finish follows what another group decided.
+-- the outcome by which an entry changes the ring, if it does: that of a participant's or a watcher's vote that decides. GiveUp only aborts, and Finish repeats what another group decided.
 abbrev pub decided_by : Command → Effect → Option Outcome
 decided_by (RecordVote tx vote by) effect = decided_in effect
 decided_by (RecordWatch tx vote by) effect = decided_in effect
@@ -104,7 +104,7 @@ decided_by (GiveUp tx) effect = None
 decided_by (Finish tx outcome) effect = None
 decided_by (Watched tx watch) effect = None
 
--- the ring after an entry of the log of a group, whose record was this before: the participant is its successor, which stays while the group is locked
+-- the ring after an entry of a group's log, by the group's record before it and the entry's effect. The participant is the group's successor, which stays the same while the group is locked.
 abbrev pub ring_after : Core → Command → Effect → List Cut → List Cut
 ring_after core command effect ring =
     ring_divided (division_of core command effect) core.id (ring_decided (decided_by command effect) core.id core.succ.group ring)

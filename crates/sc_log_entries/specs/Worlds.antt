@@ -1,4 +1,4 @@
--- What the entries of all logs make of all groups, entry by entry.
+-- The world: what the entries of all logs make of all groups, entry by entry.
 use Rattle.std.specs.Prelude.{◌≡◌, Bool, List, [], ◌++◌, map, fold, find, if◌then◌else◌, Option, Some, None}
 use Rattle.std.specs.Option.{option_to_list}
 use Rattle.sc_base.specs.Definitions.{same_draw}
@@ -15,9 +15,9 @@ use Rattle.sc_log_entries.specs.declared.Transaction.{Transaction}
 use Rattle.sc_log_entries.specs.Decisions.{transactions_after}
 use Rattle.sc_log_entries.specs.Rings.{Covers, first_cut, ring_after}
 
--- all groups, after some entries
+-- all groups, transactions, the ring and the history after a list of entries
 pub record StoreWorld : Type 0 where
-  -- each group that was born, as its own log makes it
+  -- each group that was created, as its own log makes it
   pub groups : List Group
   -- each transaction that was begun
   pub transactions : List Transaction
@@ -26,7 +26,7 @@ pub record StoreWorld : Type 0 where
   -- the calls that took effect
   pub history : List Entry
 
--- the groups of a scenario, before any entry
+-- the world before any entry: the groups of a scenario
 abbrev pub first_world : List Base → StoreWorld
 first_world bases = record { groups = map group_of bases; transactions = []; ring = map first_cut bases; history = [] }
 
@@ -34,7 +34,7 @@ first_world bases = record { groups = map group_of bases; transactions = []; rin
 abbrev pub is_named : Draw → Group → Bool
 is_named name group = same_draw group.core.id name
 
--- the group with a name, if it was born
+-- the group with a name, if there is one
 abbrev pub named_group : Draw → List Group → Option Group
 named_group name = find (is_named name)
 
@@ -42,11 +42,11 @@ named_group name = find (is_named name)
 abbrev pub with_group : Draw → Group → List Group → List Group
 with_group name after = map (λ group. if is_named name group then after else group)
 
--- the groups after an entry of the log of one, as it was before and is after; a child may be born
+-- the groups after an entry of one group's log, by that group before and after it, with the child that the entry creates, if any
 abbrev pub groups_after : Group → Group → Option Base → List Group → List Group
 groups_after group after child groups = with_group group.core.id after groups ++ map group_of (option_to_list child)
 
--- the world after an entry of the log of a group, as it was before, from what the table makes of it
+-- the world after an entry of a group's log, by the group before it and what the machine's table makes of the group
 abbrev pub with_result : StoreWorld → Group → Command → Group × Effect → StoreWorld
 with_result world group command result = record {
   groups = groups_after group result.0 (birth_of group command result.1) world.groups;
@@ -55,7 +55,7 @@ with_result world group command result = record {
   history = world.history ++ entry_of command result.1;
 }
 
--- the world after a command of a group that was found; a group that was not born executes nothing
+-- the world after a command of the group that was found; where no group was found it stays as it is
 abbrev pub after_command : StoreWorld → Option Group → Command → StoreWorld
 after_command world None command = world
 after_command world (Some group) command = with_result world group command (applied group command)
@@ -64,14 +64,14 @@ after_command world (Some group) command = with_result world group command (appl
 abbrev pub told : StoreWorld → LogEntry → StoreWorld
 told world entry = after_command world (named_group entry.group world.groups) entry.command
 
--- the world after the entries of all logs, in their order
+-- the world after a list of entries, in their order
 abbrev pub world_after : StoreWorld → List LogEntry → StoreWorld
 world_after = fold told
 
--- what the entries make of the groups of a scenario
+-- the world that a list of entries makes of the groups of a scenario
 abbrev pub world_of : List Base → List LogEntry → StoreWorld
 world_of bases = world_after (first_world bases)
 
--- the ring covers after each first part of the entries
+-- the ring covers after each prefix of the entries
 abbrev pub CoverThroughout : List Base → List LogEntry → Type 0
 CoverThroughout bases entries = (before later : List LogEntry) → entries ≡ before ++ later → Covers (world_of bases before).ring

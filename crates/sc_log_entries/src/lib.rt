@@ -1,5 +1,6 @@
-//! What the entries of all logs, in the order of the rows that decided them, make of all groups:
-//! their states, the ring, the transactions and the history. Definitions and a law, no logic.
+//! What the entries of all logs make of all groups: their states, the ring, the transactions and
+//! the history. The entries are taken in the order of the rows that decide them. Definitions and a
+//! law; no code that runs.
 #![tactic(auto)]
 
 ghost use Rattle.sc_log_entries.specs.Laws.{BirthsAreChildren};
@@ -7,55 +8,59 @@ ghost use Rattle.sc_log_entries.specs.Laws.{BirthsAreChildren};
 use sc_base::{Draw, RingArc};
 use sc_cmd::{Body, Command, Outcome};
 
-/// An entry of the log of one group, as all logs together are told.
+/// An entry of one group's log, as it stands in the list of the entries of all logs.
 #[derive(Drop)]
 pub struct LogEntry {
-    /// The group whose log it stands in.
+    /// The group whose log has the entry.
     pub group: Draw,
-    /// Its place in that log, from 1.
+    /// The entry's place in that log, from 1.
     pub slot: u32,
-    /// What the group executes there.
+    /// The command that the group executes at this slot.
     pub command: Command,
 }
 
-/// Where a group is divided, and what the part from there on is called.
+/// Where a split divides a group's arc, and the name of the new group.
 #[derive(Clone, Copy)]
 pub struct Division {
-    /// The first position of the part.
+    /// The first position that the new group keeps.
     pub at: u32,
-    /// The name of the part.
+    /// The name of the new group.
     pub child: Draw,
 }
 
-/// A transaction, as the log of its coordinator tells it.
+/// A transaction between groups, as its coordinator's log records it (Scatter, SOSP 2011,
+/// multi-group operations).
 #[derive(Drop)]
 pub struct Transaction {
-    /// Its name.
+    /// The transaction's name.
     pub tx: Draw,
-    /// The group whose log has the Begin, or the Split that only locks.
+    /// The group that coordinates it: its log has the Begin, or the Split that locks the group
+    /// before it divides.
     pub coordinator: Draw,
-    /// What it is to do.
+    /// What the transaction does: merge, move a boundary, hand a member over, or split.
     pub body: Body,
-    /// The group that is asked to take part, the coordinator's successor then: none of a split.
+    /// The group that is asked to take part: the coordinator's successor when the transaction
+    /// begins. `None` for a split.
     pub participant: Option<Draw>,
-    /// The group that gets another predecessor: of a split the successor, of a merge the successor
-    /// of the participant that was heard.
+    /// The group that gets another predecessor: for a split the coordinator's successor, for a
+    /// merge the successor that the participant's recorded Yes names. `None` while no such group is
+    /// known.
     pub watcher: Option<Draw>,
-    /// What its coordinator has decided; open while there is none.
+    /// The outcome that the coordinator has decided. `None` while the transaction is open.
     pub outcome: Option<Outcome>,
 }
 
-/// A cut of the ring.
+/// A range of the ring: an arc and the group that has it.
 #[derive(Clone, Copy)]
 pub struct Cut {
-    /// The positions of the cut.
+    /// The positions of the range.
     pub arc: RingArc,
-    /// The group that has them.
+    /// The group that has the range.
     pub group: Draw,
 }
 
-/// The child that a command makes of a group, by the machine's table, is the group that its entry
-/// gives birth to, by its effect.
+/// Shows that the child that the machine's table makes for a command is the group that the entry's
+/// effect creates.
 pub fn births_are_children()
     ensures { BirthsAreChildren }
 {}

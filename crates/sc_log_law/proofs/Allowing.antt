@@ -39,7 +39,7 @@ allowed_stays_allowed sources ahead bases start rows more h name command a =
 
 -- ---- an entry of a log among the entries
 
--- the entry of a group after a front of its log
+-- the entry of a group after a prefix of its log
 record IsAt (name : Draw) (entries : List LogEntry) (front : List Command) (command : Command) : Type 0 where
   first : List LogEntry
   entry : LogEntry

@@ -56,7 +56,7 @@ by_giving (Promised t offer) group tx outcome e = absurd (no_decision tx outcome
 by_giving (Watching t watch) group tx outcome e = absurd (no_decision tx outcome e)
 by_giving (Coordinating t body order heard) group tx outcome e = by_name t tx body order heard group (aborted group tx) outcome e
 
--- a story that is told on
+-- a story that goes on
 told_on_is : (stories : Stories) (tx : Draw) (change : Story → Story) (story : Story) → stories tx ≡ Some story → retold stories tx change tx ≡ Some (change story)
 told_on_is stories tx change story is = at-same stories tx (option_map change (stories tx)) ∙ ap (option_map change) is
 

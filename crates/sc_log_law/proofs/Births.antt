@@ -1,4 +1,4 @@
--- The entries of one log, one after another, in a world that allowed entries made: each child that they name is new, and is born as they say.
+-- The entries of one log, one after another, in a world that allowed entries made: each child that they name is new, and is created as they say.
 use Rattle.std.proofs.Common.{◌≡◌, ℕ, ◌+◌, List, [], ◌∷◌, ◌++◌, Option, Some, None, ◌⊎◌, inl, inr, refl, sym, ◌∙◌, ap, append-nil, append_assoc}
 use Rattle.std.specs.Option.{option_map, option_to_list}
 use Rattle.sc_base.specs.Definitions.{Among}
@@ -19,7 +19,7 @@ use Rattle.sc_sound.specs.Definitions.{children_of, entries_from}
 use Rattle.sc_log_law.proofs.Children.{log_of_own}
 use Rattle.std.proofs.lemmas.Option.{none-some, same_Some}
 
--- more entries are told to the world before them
+-- more entries are applied to the world before them
 pub told_append : (w : ToldWorld) (entries more : List LogEntry) → told_after w (entries ++ more) ≡ told_after (told_after w entries) more
 told_append w [] more = refl
 told_append w (e ∷ es) more = told_append (told_on w e) es more
@@ -47,7 +47,7 @@ joined_first : (o : Option Base) (rest : List Base) (child : Base) → o ≡ Som
 joined_first None rest child e = absurd (none-some child e)
 joined_first (Some first) rest child e = inl (same_Some first child e)
 
--- where a child is born among entries
+-- where a child is created among entries
 pub record IsBornAmong (world : StoreWorld) (entries : List LogEntry) (child : Base) : Type 0 where
   pub first : List LogEntry
   pub rest : List LogEntry
@@ -64,7 +64,7 @@ pub record BornBy (name : Draw) (world : StoreWorld) (slot : ℕ) (group : Group
   pub unborn : (child : Base) → Among child (children_of group cs) → named_group child.core.id world.groups ≡ None
   -- of two with one name there is one
   pub one : (child other : Base) → Among child (children_of group cs) → Among other (children_of group cs) → child.core.id ≡ other.core.id → child ≡ other
-  -- it is born
+  -- the child is created
   pub born : (child : Base) → Among child (children_of group cs) → IsBornAmong world (entries_from name slot cs) child
   -- no others come
   pub who : (other : Draw) (it : Group) → named_group other (world_after world (entries_from name slot cs)).groups ≡ Some it → IsOldOrOneOf world (children_of group cs) other

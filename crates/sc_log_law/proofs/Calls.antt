@@ -11,7 +11,7 @@ use Rattle.sc_ring_law.proofs.Lemmas.{allowed_entries_stay_allowed, allowed_list
 use Rattle.sc_sound.specs.Definitions.{entries_from}
 use Rattle.sc_log_law.proofs.Births.{told_append}
 
--- commands of one log that are allowed by what was told before the first of them may come one after another
+-- commands of one log that are allowed by the stories before the first of them may come one after another
 pub all_allowed : (sources : Sources) (bases : List Base) → BeginInPlace sources bases → (entries : List LogEntry) → AreAllowed sources (first_told bases) entries → (name : Draw) (slot : ℕ) (cs : List Command)
     → Each (IsAllowed sources (stories_of bases entries) name) cs → AreAllowed sources (told_after (first_told bases) entries) (entries_from name slot cs)
 all_allowed sources bases start entries allowed name slot [] each = tt

@@ -17,7 +17,7 @@ use Rattle.sc_log_law.proofs.Turns.{TurnFor, in_turn, rests, found_within}
 abbrev child : Base
 child = child_of (group_of lone_base) 1610612736 offspring
 
--- ---- the groups of each first part
+-- ---- the groups of each prefix
 
 abbrev alone : List Base
 alone = lone_base ∷ []

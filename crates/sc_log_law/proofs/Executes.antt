@@ -1,4 +1,4 @@
--- An entry that is allowed may be told: what the law of histories asks of a world holds of one that allowed entries made.
+-- An entry that is allowed may be applied: what the law of histories asks of a world holds of one that allowed entries made.
 use Rattle.std.specs.Prelude.{not, ◌&&◌, ◌||◌}
 use Rattle.std.specs.Option.{option_map}
 use Rattle.std.proofs.Common.{◌≡◌, ℕ, ◌^◌, ◌<◌, Bool, true, false, cond, List, [], ◌∷◌, inl, inr, Option, Some, None, refl, sym, ◌∙◌, ap, subst}
@@ -255,7 +255,7 @@ module _ (sources : Sources) (w : ToldWorld) (k : KeptWorld sources.owner w) (g 
   may_execute (RecordWatch tx vote by) a = may_hear_watcher tx vote
   may_execute _ a = tt
 
--- each allowed entry may be told when it is
+-- each allowed entry may be applied when its turn comes
 pub all_may_be_told : (sources : Sources) (w : ToldWorld) (entries : List LogEntry) → KeptWorld sources.owner w → AreAllowed sources w entries → MayAllBeTold sources.request w.store entries
 all_may_be_told sources w [] k a = tt
 all_may_be_told sources w (e ∷ es) k a = (

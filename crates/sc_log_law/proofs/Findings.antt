@@ -1,4 +1,4 @@
--- What rows that decide in turn tell: the groups, the entries, and one map.
+-- What rows that decide in turn show: the groups, the entries, and one map.
 use Rattle.std.proofs.Common.{◌≡◌, suc, List, [], ◌∷◌, ◌++◌, Option, Some, None, inl, inr, refl, sym, ◌∙◌, ap, subst, append-nil, append_assoc}
 use Rattle.std.specs.Option.{option_map}
 use Rattle.sc_base.specs.Definitions.{Among}
@@ -23,7 +23,7 @@ use Rattle.sc_log_law.proofs.Told.{Told, first_rows, state_there}
 use Rattle.sc_log_law.proofs.Pushes.{found_next, new_name, push_told}
 use Rattle.sc_ring_law.proofs.Lemmas.{some_none}
 
--- ---- what is told
+-- ---- the entries
 
 module _ (sources : Sources) (ahead : Ahead) (bases : List Base) (start : BeginInPlace sources bases) where
   -- a row that decides in turn does so for what is found

@@ -27,7 +27,7 @@ use Rattle.sc_log_law.proofs.Children.{children_append}
 abbrev pub AreOne : Ahead → List Base → Rows → Type 0
 AreOne ahead bases rows = (one other : Base) → IsFound ahead bases rows one → IsFound ahead bases rows other → one.core.id ≡ other.core.id → one ≡ other
 
--- each is found in so many generations as there are rows
+-- each is found in as many generations as there are rows
 abbrev pub AreNear : Ahead → List Base → Rows → Type 0
 AreNear ahead bases rows = (base : Base) → IsFound ahead bases rows base → (depth : ℕ) × (depth ≤ length rows) × Descends ahead bases rows depth base
 

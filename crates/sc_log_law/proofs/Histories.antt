@@ -1,4 +1,4 @@
--- What rows that decide in turn leave with more rows, and the row that tells each entry of the history.
+-- What rows that decide in turn leave with more rows, and the row that decides each entry of the history.
 use Rattle.std.proofs.Common.{◌≡◌, ℕ, ◌+◌, ◌<◌, ◌≤◌, nat_lt, List, [], ◌∷◌, ◌++◌, length, Some, inl, inr, refl, sym, ◌∙◌, ap, subst, append-nil, append_assoc, arith}
 use Rattle.std.specs.Prelude.{slice_get}
 use Rattle.std.proofs.lemmas.Bool.{cases_lt, lt-ltb, le-ltb, cond-true, cond-false}
@@ -65,7 +65,7 @@ module _ (sources : Sources) (ahead : Ahead) (bases : List Base) (start : BeginI
 
   -- ---- the row of an entry
 
-  -- an entry of the history after these rows is told by one of the later ones
+  -- an entry of the history after these rows is decided by one of the later ones
   record IsToldFrom (before rows : Rows) (place : ℕ) (entry : Entry) : Type 0 where
     front : Rows
     row : Row Mail OrderLine

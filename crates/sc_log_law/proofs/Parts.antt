@@ -1,4 +1,4 @@
--- Rows in two parts: what is asked of them, their entries, and where an entry is told; and places of lists in two parts.
+-- Rows in two parts: what is asked of them, their entries, and where an entry is decided; and places of lists in two parts.
 use Rattle.std.proofs.Common.{◌≡◌, ℕ, zero, suc, ◌+◌, ◌<◌, ◌≤◌, nat_lt, List, [], ◌∷◌, ◌++◌, length, Some, inl, inr, sym, ◌∙◌, ap, subst, append-nil, append_assoc, arith}
 use Rattle.std.specs.Prelude.{slice_get}
 use Rattle.std.proofs.lemmas.Bool.{cases_Bool, cond-true, cond-false}
@@ -50,7 +50,7 @@ told_stays ahead bases place at before (r ∷ rows) more e =
 
 -- ---- places of lists
 
--- a place of the front
+-- a place of the prefix
 pub get_front : {X : Type 0} (xs more : List X) (place : ℕ) (x : X) → place < length xs → slice_get (xs ++ more) place ≡ Some x → slice_get xs place ≡ Some x
 get_front [] more place x lt e = absurd (omega (arith, lt))
 get_front (y ∷ xs) more zero x lt e = e

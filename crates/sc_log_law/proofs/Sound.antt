@@ -1,4 +1,4 @@
--- A journal whose rows decide in turn is sound, where each group has one value per slot, replicas have executed fronts, and calls and replies come in order.
+-- A journal whose rows decide in turn is sound, where each group has one value per slot, replicas have executed prefixes, and calls and replies come in order.
 use Rattle.std.proofs.Common.{◌≡◌, ℕ, ◌+◌, ◌<◌, List, [], ◌∷◌, ◌++◌, length, Some, inl, inr, refl, sym, ◌∙◌, ap, subst, append_assoc, arith}
 use Rattle.std.specs.Prelude.{slice_get}
 use Rattle.std.specs.FinMap.{get}
@@ -48,7 +48,7 @@ module _ (law : AllowedEntriesMakeOneMap) (sources : Sources) (ahead : Ahead) (s
   stay : StayAsTold ahead bases rows more
   stay = told_rows_stay sources ahead bases start rows more all
 
-  -- ---- first parts
+  -- ---- prefixes
 
   first_part : (before : Rows) (row : Row Mail OrderLine) (later : Rows) → rows ≡ before ++ row ∷ later → DecideInTurn sources ahead bases [] before
   first_part before row later are = (in_turn_parts sources ahead bases [] before (row ∷ later) (subst (DecideInTurn sources ahead bases []) are turn)).0
@@ -102,7 +102,7 @@ module _ (law : AllowedEntriesMakeOneMap) (sources : Sources) (ahead : Ahead) (s
           reply_is = h.reply_is;
         }
 
-    -- which is told before the row that takes the reply
+    -- which is decided before the row that takes the reply
     before_it : (place : ℕ) (entry : Entry) → slice_get told place ≡ Some entry → entry.client ≡ client → entry.seq ≡ seq → (at : ℕ) → told_row ahead bases place rows ≡ Some at → at < answered
     before_it place entry there who number at is_at =
         let h = entry_then in

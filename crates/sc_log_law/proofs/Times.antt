@@ -1,4 +1,4 @@
--- Places of the history and the rows that tell them, in order; and where a request is issued, with more rows.
+-- Places of the history and the rows that decide them, in order; and where a request is issued, with more rows.
 use Rattle.std.proofs.Common.{◌≡◌, ℕ, suc, ◌+◌, ◌<◌, ◌≤◌, nat_lt, List, [], ◌∷◌, ◌++◌, length, Some, inl, inr, sym, ◌∙◌, ap, arith}
 use Rattle.std.specs.Prelude.{slice_get}
 use Rattle.std.specs.List.{AllPairs}
@@ -34,7 +34,7 @@ one_place entries once place other one another at there who number =
         (ap (λ (x : Entry). x.client) (get_or_from_slice_get entries i a a at_i) ∙ who ∙ sym (ap (λ (x : Entry). x.client) (get_or_from_slice_get entries j b a at_j)))
         (ap (λ (x : Entry). x.seq) (get_or_from_slice_get entries i a a at_i) ∙ number ∙ sym (ap (λ (x : Entry). x.seq) (get_or_from_slice_get entries j b a at_j)))
 
--- ---- the rows that tell
+-- ---- the rows that decide
 
 past_rows : (ahead : Ahead) (bases : List Base) (place : ℕ) (before rows : Rows) (at : ℕ) → told_from ahead bases place before rows ≡ Some at → length before + 1 ≤ at
 past_rows ahead bases place before [] at e = cc
@@ -43,7 +43,7 @@ past_rows ahead bases place before (row ∷ rows) at e =
     (λ _ k. (let same : length before + 1 ≡ at = cc in omega (arith, same)))
     (λ _ k. (let later = past_rows ahead bases place (before ++ row ∷ []) rows at k in let longer = length_push before row in omega (arith, later, longer))) e
 
--- an earlier entry is told no later
+-- an earlier entry is decided no later
 pub told_in_order : (ahead : Ahead) (bases : List Base) (place other : ℕ) → place ≤ other → (before rows : Rows) (at then : ℕ) → told_from ahead bases place before rows ≡ Some at → told_from ahead bases other before rows ≡ Some then → at ≤ then
 told_in_order ahead bases place other le before [] at then first second = cc
 told_in_order ahead bases place other le before (row ∷ rows) at then first second =

@@ -28,7 +28,7 @@ use Rattle.sc_log_law.proofs.Generations.{FoundInTurn, AreOne, AreNear, IsNamedN
 use Rattle.sc_log_law.proofs.Births.{IsBornAmong, BornBy, born_by}
 use Rattle.sc_log_law.proofs.Calls.{all_allowed}
 
--- a group is born among the entries, and its own entries come after
+-- a group is created among the entries, and its own entries come after
 pub record IsBorn (bases : List Base) (entries : List LogEntry) (base : Base) (log : List Command) : Type 0 where
   pub first : List LogEntry
   pub rest : List LogEntry
@@ -44,7 +44,7 @@ pub record Told (sources : Sources) (ahead : Ahead) (bases : List Base) (rows : 
   pub one : AreOne ahead bases rows
   -- the entries are allowed one after another
   pub allowed : AreAllowed sources (first_told bases) (entries_at ahead bases rows)
-  -- each group is born among them
+  -- each group is created among them
   pub born : (base : Base) → IsFound ahead bases rows base → IsBorn bases (entries_at ahead bases rows) base (decided_log ahead base rows)
   -- each entry is a group's, and no other group is there
   pub only : (entry : LogEntry) → Among entry (entries_at ahead bases rows) → (base : Base) × IsFound ahead bases rows base × (base.core.id ≡ entry.group)

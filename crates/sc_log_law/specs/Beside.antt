@@ -1,4 +1,4 @@
--- What makes a journal sound beside its groups and entries: one value per slot of each group, replicas that have executed fronts, and calls and replies in the order of rows.
+-- The four facts that make a journal sound beside its groups and entries: one value per slot of each group, replicas that have executed prefixes, and calls and replies in the order of rows.
 use Rattle.std.specs.Prelude.{◌≡◌, ℕ, ◌+◌, ◌-◌, ◌≤◌, List, ◌∷◌, ◌++◌, length, Some, slice_get}
 use Rattle.sc_base.specs.Definitions.{Among}
 use Rattle.sc_base.specs.declared.ops.Op.{Op}
@@ -17,7 +17,7 @@ use Rattle.sc_scenario.specs.declared.scenarios.Scenario.{Scenario}
 use Rattle.sc_hist_law.specs.Definitions.{IsReplied}
 use Rattle.sc_log_law.specs.Descent.{Rows, added_by}
 
--- one value per slot of a group, and a decided log that is one and the longest
+-- one value per slot of a group; its decided log is a log, and the longest
 pub record HasOneValue (ahead : Ahead) (base : Base) (rows : Rows) : Type 0 where
   pub one_value : (log other : List Command) → IsLog (rule_of ahead base) (accepts base.core.id rows) log → IsLog (rule_of ahead base) (accepts base.core.id rows) other
       → (slot : ℕ) (command another : Command) → IsChosenIn ahead base rows log (slot + 1) command → IsChosenIn ahead base rows other (slot + 1) another → command ≡ another
@@ -39,7 +39,7 @@ abbrev pub CallsAreIssued : Ahead → Scenario → Rows → Type 0
 CallsAreIssued ahead scenario rows = (before : Rows) (row : Row Mail OrderLine) (later : Rows) → rows ≡ before ++ row ∷ later → (base : Base) → Among base (groups_at ahead scenario.groups before)
     → (client seq : ℕ) (op : Op) → Among (Call client seq op) (added_by ahead before row base) → IsIssuedIn scenario before client seq op
 
--- a reply to a call was decided before the row that takes it: the log of a group had the call, and the group after the entries before it answers so
+-- a reply to a call was decided before the row that takes it: the log of a group had the call before that row, and the group after the entries before the call answers with the reply
 pub record IsDecidedBefore (ahead : Ahead) (bases : List Base) (rows : Rows) (client seq : ℕ) (reply : Reply) (answered : ℕ) : Type 0 where
   pub before : Rows
   pub row : Row Mail OrderLine
@@ -54,14 +54,14 @@ pub record IsDecidedBefore (ahead : Ahead) (bases : List Base) (rows : Rows) (cl
   pub log : decided_log ahead base before ≡ front ++ Call client seq op ∷ rest
   pub replied : IsReplied (applied (state_after (group_of base) front) (Call client seq op)).1 reply
 
--- each reply that a client keeps was decided before, and so was one for each row that answers a request
+-- each reply that a client keeps was decided before the client took it, and so was one for each row that answers a request
 pub record RepliesAreDecided (ahead : Ahead) (scenario : Scenario) (rows : Rows) : Type 0 where
   pub kept : (first : Base) (others : List Base) → scenario.groups ≡ first ∷ others → (asks : Asks) → Among asks scenario.clients
       → (seq : ℕ) (reply : Reply) → kept_reply (route_of first) asks seq rows ≡ Some reply → (answered : ℕ) × IsDecidedBefore ahead scenario.groups rows asks.client seq reply answered
   pub answered : (first : Base) (others : List Base) → scenario.groups ≡ first ∷ others → (asks : Asks) → Among asks scenario.clients
       → (seq : ℕ) → 1 ≤ seq → (answered : ℕ) → answer_row (route_of first) asks seq rows ≡ Some answered → (reply : Reply) × IsDecidedBefore ahead scenario.groups rows asks.client seq reply answered
 
--- all of these
+-- the four facts together
 pub record HoldsBeside (ahead : Ahead) (scenario : Scenario) (rows : Rows) : Type 0 where
   pub values : (base : Base) → Among base (groups_at ahead scenario.groups rows) → HasOneValue ahead base rows
   pub have_run : AllHaveRun ahead scenario rows

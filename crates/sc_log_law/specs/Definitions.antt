@@ -1,4 +1,4 @@
--- The definitions of this crate that others cite, under one name.
+-- Re-exports of the definitions of this crate that others cite.
 pub use Rattle.sc_log_law.specs.Allows.{MakesAllowed, AllowsAsItStands, GroupAllows, EndsBy}
 pub use Rattle.sc_log_law.specs.Beside.{IsIssuedIn, IsDecidedBefore, HoldsBeside, HasOneValue, RepliesAreDecided}
 pub use Rattle.sc_log_law.specs.Descent.{Rows, added_by, Descends, IsFound, newborn_by}

@@ -1,4 +1,4 @@
--- The groups that the logs of a journal name: those of the scenario, and generation by generation the children that their logs name.
+-- The groups of a journal by descent: those of the scenario, and generation by generation the children that their logs create.
 use Rattle.std.specs.Prelude.{ℕ, zero, suc, List, [], ◌∷◌, ◌++◌, length, drop}
 use Rattle.sc_base.specs.Definitions.{Among}
 use Rattle.sc_cmd.specs.declared.commands.Command.{Command}
@@ -12,12 +12,12 @@ use Rattle.sc_sound.specs.Definitions.{Ahead, children_of, children_by, decided_
 abbrev pub Rows : Type 0
 Rows = List (Row Mail OrderLine)
 
--- a group of the scenario, or the child, so many generations later, that the log of such a group names
+-- a group of the scenario, or the child, `depth` generations later, that the log of such a group creates
 abbrev pub Descends : Ahead → List Base → Rows → ℕ → Base → Type 0
 Descends ahead bases rows zero base = Among base bases
 Descends ahead bases rows (suc depth) base = (parent : Base) × Descends ahead bases rows depth parent × Among base (children_by ahead rows parent)
 
--- a group that is found so, in whatever generation
+-- a group descends from the scenario's groups, in whatever generation
 abbrev pub IsFound : Ahead → List Base → Rows → Base → Type 0
 IsFound ahead bases rows base = (depth : ℕ) × Descends ahead bases rows depth base
 
@@ -25,6 +25,6 @@ IsFound ahead bases rows base = (depth : ℕ) × Descends ahead bases rows depth
 abbrev pub added_by : Ahead → Rows → Row Mail OrderLine → Base → List Command
 added_by ahead before row base = drop (length (decided_log ahead base before)) (decided_log ahead base (before ++ row ∷ []))
 
--- the children that they name
+-- the children that the commands create which a row adds to the log of a group
 abbrev pub newborn_by : Ahead → Rows → Row Mail OrderLine → Base → List Base
 newborn_by ahead before row base = children_of (decided_state ahead base before) (added_by ahead before row base)

@@ -1,4 +1,4 @@
--- What follows where each row of a journal decides in turn, whatever its groups order, split and merge.
+-- What follows where each row of a journal decides in turn, from groups in place, whatever its groups order, split and merge.
 use Rattle.std.specs.Prelude.{◌≡◌, ℕ, List, [], ◌∷◌, ◌++◌, Some, slice_get}
 use Rattle.sc_base.specs.Definitions.{Among}
 use Rattle.sc_base.specs.declared.names.Draw.{Draw}
@@ -19,71 +19,71 @@ use Rattle.sc_log_law.specs.Descent.{Rows}
 use Rattle.sc_log_law.specs.InTurn.{DecidesInTurn, DecideInTurn, DecidesForOne}
 use Rattle.sc_log_law.specs.Findings.{AreFound, AreOldOrNew, AreItsLogs, TellOneMap, IsToldAt, StayAsTold}
 
--- each row decides for one group at most
+-- each row, lawful or not, decides for one group at most
 abbrev pub RowsDecideForOne : Type 0
 RowsDecideForOne = (ahead : Ahead) (before : Rows) (row : Row Mail OrderLine) → DecidesForOne ahead before row
 
--- one more row that decides in turn
+-- rows that decide in turn, with one more row that does, decide in turn
 abbrev pub RowsGoOn : Type 0
 RowsGoOn = (sources : Sources) (ahead : Ahead) (bases : List Base) (rows : Rows) (row : Row Mail OrderLine) → DecideInTurn sources ahead bases [] rows → DecidesInTurn sources ahead bases rows row
     → DecideInTurn sources ahead bases [] (rows ++ row ∷ [])
 
--- the groups are those that are found
+-- where each row decides in turn, the groups are those that descend from the scenario's
 abbrev pub GroupsAreFound : Type 0
 GroupsAreFound = (sources : Sources) (ahead : Ahead) (bases : List Base) → BeginInPlace sources bases → (rows : Rows) → DecideInTurn sources ahead bases [] rows → AreFound ahead bases rows
 
--- each was there before the last row, or is new
+-- where each row decides in turn, each group was there before the last row, or is a child that the row creates
 abbrev pub GroupsAreOldOrNew : Type 0
 GroupsAreOldOrNew = (sources : Sources) (ahead : Ahead) (bases : List Base) → BeginInPlace sources bases → (before : Rows) → DecideInTurn sources ahead bases [] before
     → (row : Row Mail OrderLine) → DecidesInTurn sources ahead bases before row → AreOldOrNew ahead bases before row
 
--- the entries are the logs of the groups
+-- where each row decides in turn, the entries are the logs of the groups
 abbrev pub EntriesAreLogs : Type 0
 EntriesAreLogs = (sources : Sources) (ahead : Ahead) (bases : List Base) → BeginInPlace sources bases → (rows : Rows) → DecideInTurn sources ahead bases [] rows → AreItsLogs ahead bases rows
 
--- each entry is allowed by those before it
+-- where each row decides in turn, each entry is allowed by those before it
 abbrev pub EntriesAreAllowed : Type 0
 EntriesAreAllowed = (sources : Sources) (ahead : Ahead) (bases : List Base) → BeginInPlace sources bases → (rows : Rows) → DecideInTurn sources ahead bases [] rows
     → AreAllowed sources (first_told bases) (entries_at ahead bases rows)
 
--- a command that is allowed stays allowed with more rows
+-- where each row decides in turn, a command that is allowed stays allowed with more rows
 abbrev pub AllowedStaysAllowed : Type 0
 AllowedStaysAllowed = (sources : Sources) (ahead : Ahead) (bases : List Base) → BeginInPlace sources bases → (rows more : Rows) → DecideInTurn sources ahead bases [] (rows ++ more)
     → (name : Draw) (command : Command) → IsAllowed sources (stories_of bases (entries_at ahead bases rows)) name command → IsAllowed sources (stories_of bases (entries_at ahead bases (rows ++ more))) name command
 
--- a command that an entry of a group's log makes allowed is allowed
+-- where each row decides in turn, a command that an entry of a group's log makes allowed is allowed
 abbrev pub FrontsAllow : Type 0
 FrontsAllow = (sources : Sources) (ahead : Ahead) (bases : List Base) → BeginInPlace sources bases → (rows : Rows) → DecideInTurn sources ahead bases [] rows
     → (base : Base) → Among base (groups_at ahead bases rows) → (front : List Command) (entry : Command) (later : List Command) → decided_log ahead base rows ≡ front ++ entry ∷ later
     → (name : Draw) (command : Command) → MakesAllowed sources base.core.id (state_after (group_of base) front) entry name command → IsAllowed sources (stories_of bases (entries_at ahead bases rows)) name command
 
--- and so is one that a group as it stood after a front of its log makes allowed
+-- where each row decides in turn, a command that a group's state after a prefix of its log makes allowed is allowed
 abbrev pub StatesAllow : Type 0
 StatesAllow = (sources : Sources) (ahead : Ahead) (bases : List Base) → BeginInPlace sources bases → (rows : Rows) → DecideInTurn sources ahead bases [] rows
     → (base : Base) → Among base (groups_at ahead bases rows) → (front later : List Command) → decided_log ahead base rows ≡ front ++ later
     → (name : Draw) (command : Command) → AllowsAsItStands sources base.core.id (state_after (group_of base) front) name command → IsAllowed sources (stories_of bases (entries_at ahead bases rows)) name command
 
--- so who takes part in a transaction, or coordinates it, acts by what was told
+-- each group makes allowed what follows from its lock and from its entries that vote or decide
 abbrev pub GroupsAllowOthers : Type 0
 GroupsAllowOthers = (sources : Sources) (by : Draw) (group : Group) → GroupAllows sources by group
 
--- they make one map
+-- where each row decides in turn, from groups that hold nothing, the entries make one map
 abbrev pub EntriesTellOneMap : Type 0
 EntriesTellOneMap = (sources : Sources) (ahead : Ahead) (bases : List Base) → BeginInPlace sources bases → BeginBare bases → (rows : Rows) → DecideInTurn sources ahead bases [] rows
     → TellOneMap ahead bases rows
 
--- each entry of the history is told by a row that decides its call
+-- where each row decides in turn, each entry of the history is decided by a row that decides its call
 abbrev pub HistoryIsTold : Type 0
 HistoryIsTold = (sources : Sources) (ahead : Ahead) (bases : List Base) → BeginInPlace sources bases → (rows : Rows) → DecideInTurn sources ahead bases [] rows
     → (place : ℕ) (entry : Entry) → slice_get (history_at ahead bases rows) place ≡ Some entry → IsToldAt ahead bases rows place entry
 
--- what is told stays with more rows
+-- where each row decides in turn, groups, logs, entries, history and the rows that decide its entries stay with more rows
 abbrev pub ToldRowsStay : Type 0
 ToldRowsStay = (sources : Sources) (ahead : Ahead) (bases : List Base) → BeginInPlace sources bases → (rows more : Rows) → DecideInTurn sources ahead bases [] (rows ++ more) → StayAsTold ahead bases rows more
 
 -- ---- all together
 
--- a journal whose rows decide in turn is sound, where one value per slot, executed fronts, and the order of calls and replies hold beside
+-- a journal whose rows decide in turn is sound, where each group has one value per slot, each replica has executed a prefix, and calls and replies come in order
 abbrev pub JournalsInTurnAreSound : Type 0
 JournalsInTurnAreSound = (sources : Sources) (ahead : Ahead) (scenario : Scenario) → BeginInPlace sources scenario.groups → BeginBare scenario.groups
     → (rows more : Rows) → DecideInTurn sources ahead scenario.groups [] (rows ++ more) → HoldsBeside ahead scenario rows → IsSound ahead scenario rows more

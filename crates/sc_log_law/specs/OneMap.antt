@@ -9,13 +9,13 @@ use Rattle.sc_log_entries.specs.Definitions.{HoldsItsPart, world_of}
 use Rattle.sc_ring_law.specs.Definitions.{Sources, AreAllowed, first_told, BeginInPlace, IsRingSound}
 use Rattle.sc_hist_law.specs.Definitions.{BeginBare, LogNotesStay}
 
--- the ring is sound, the history is legal, the map after it, on each cut, is the pairs of the cut's group, and what any log ever made its group note has its entry in the history
+-- the ring is sound, the history is legal, the map after it, on each range, is the pairs of the range's group, and what any log ever made its group note has its entry in the history
 pub record MakeOneMap (bases : List Base) (entries : List LogEntry) : Type 0 where
   pub ring : IsRingSound (world_of bases entries)
   pub legal : Legal (world_of bases entries).history
   pub parts : (cut : Cut) → Among cut (world_of bases entries).ring → HoldsItsPart (world_of bases entries) cut
   pub notes : LogNotesStay bases entries
 
--- after every list of allowed entries from groups that hold nothing
+-- every list of allowed entries, from groups in place that hold nothing, makes one map
 abbrev pub AllowedEntriesMakeOneMap : Type 0
 AllowedEntriesMakeOneMap = (sources : Sources) (bases : List Base) (entries : List LogEntry) → BeginInPlace sources bases → BeginBare bases → AreAllowed sources (first_told bases) entries → MakeOneMap bases entries

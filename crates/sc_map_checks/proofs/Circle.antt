@@ -75,7 +75,7 @@ all_among test [] x all a = elim a [ ]
 all_among test (y ∷ xs) x all (inl same) = ap test (sym same) ∙ (and_parts (test y) (list_all test xs) all).0
 all_among test (y ∷ xs) x all (inr there) = all_among test xs x (and_parts (test y) (list_all test xs) all).1 there
 
--- from the end of a cut on, so many steps at most
+-- from the end of a cut on, at most this number of steps
 reached : (ring : List Cut) → ((cut : Cut) → Among cut ring → IsOn cut) → list_all (is_followed ring) ring ≡ true → (p : ℕ) → p < 2 ^ 32 → (n : ℕ) (cut : Cut) → Among cut ring → away (end_of cut.arc) p < n
     → (other : Cut) × Among other ring × (holds other.arc p ≡ true)
 reached ring on followed p small zero cut a far = absurd (omega (arith, far))

@@ -1,4 +1,4 @@
-//! Rings, and whether their cuts share the circle out.
+//! Whether the ranges of a ring cover it once.
 ghost use Rattle.std.specs.Prelude.{◌≡◌, ◌↔◌, ◌<◌, ◌^◌, true, IsTrue, All};
 ghost use Rattle.std.specs.List.{list_all};
 ghost use Rattle.sc_base.specs.Arc.{IsArc};
@@ -8,7 +8,8 @@ ghost use Rattle.sc_map_checks.specs.Covering.{is_beside, is_other, are_others, 
 use sc_base::{RingArc, same_draw};
 use sc_log_entries::Cut;
 
-// Whether two arcs have no position in common: neither holds where the other starts.
+// Returns whether two arcs have no position in common: neither holds the first position of the
+// other.
 fn is_beside(arc: RingArc, other: RingArc) -> bool
     ensures { result ≡ is_beside arc other }
 {
@@ -32,7 +33,7 @@ fn is_other_than(cut: &Cut, ring: &[Cut]) -> bool
     true
 }
 
-// Whether each two cuts are of different groups and have no position in common.
+// Returns whether each two ranges are of different groups and have no position in common.
 fn are_others(ring: &[Cut]) -> bool
     ensures { result ≡ are_others ring.now }
 {
@@ -44,7 +45,7 @@ fn are_others(ring: &[Cut]) -> bool
     true
 }
 
-// Whether some cut holds the position after a cut.
+// Returns whether some range holds the position after a range's last one.
 fn is_followed(ring: &[Cut], cut: &Cut) -> bool
     ensures value { result ≡ is_followed ring.now cut.now }
     ensures arc { IsArc cut.now.arc × (cut.now.arc.lo < 2 ^ 32) }
@@ -58,7 +59,7 @@ fn is_followed(ring: &[Cut], cut: &Cut) -> bool
     false
 }
 
-// Whether some cut holds the position after each.
+// Returns whether, after each range, some range holds the next position.
 fn are_followed(ring: &[Cut]) -> bool
     ensures value { result ≡ list_all (is_followed ring.now) ring.now }
     ensures arcs { result ≡ true → All (λ cut. IsArc cut.arc × (cut.arc.lo < 2 ^ 32)) ring.now }
@@ -71,8 +72,8 @@ fn are_followed(ring: &[Cut]) -> bool
     true
 }
 
-/// Whether a ring covers: each position lies in the arc of exactly one cut, and no group has two
-/// cuts.
+/// Returns whether a ring covers: each position lies in the arc of exactly one range, and no group
+/// has two ranges.
 pub fn covers(ring: &[Cut]) -> bool
     ensures { IsTrue result ↔ Covers ring.now }
 {

@@ -1,4 +1,4 @@
-//! Histories, replayed on one map.
+//! Whether a history is legal: it is replayed on one map.
 ghost use Rattle.std.specs.Prelude.{◌≡◌, ◌↔◌, ◌<◌, IsTrue, IfOk, All, AllPairs};
 ghost use Rattle.std.specs.FinMap.{empty};
 ghost use Rattle.sc_ideal.specs.History.{HasStoreReplies, AreApart, Legal};
@@ -8,7 +8,7 @@ use sc_ideal::Entry;
 use sc_store::Store;
 use std::alloc::Global;
 
-// Whether each entry has the reply of the map that the entries before it leave.
+// Returns whether each entry has the reply that the map gives after the entries before it.
 fn has_store_replies(alloc: Global, entries: &[Entry]) -> Result<bool, OutOfMemory>
     ensures { IfOk result (λ has. IsTrue has ↔ HasStoreReplies empty entries.now) }
 {
@@ -22,7 +22,7 @@ fn has_store_replies(alloc: Global, entries: &[Entry]) -> Result<bool, OutOfMemo
     Ok(true)
 }
 
-// Whether no entry has the client and the number of this one.
+// Returns whether none of the entries has the client and the number of this one.
 fn is_apart(entries: &[Entry], entry: &Entry) -> bool
     ensures { IsTrue result ↔ All (λ other. AreApart other entry.now) entries.now }
 {
@@ -34,7 +34,7 @@ fn is_apart(entries: &[Entry], entry: &Entry) -> bool
     true
 }
 
-// Whether no client's number stands twice.
+// Returns whether no client's number occurs twice.
 fn is_once(entries: &[Entry]) -> bool
     ensures { IsTrue result ↔ AllPairs AreApart entries.now }
 {
@@ -46,9 +46,9 @@ fn is_once(entries: &[Entry]) -> bool
     true
 }
 
-/// Whether a history is legal: replaying its operations in order on one empty map gives its
-/// replies, and no client's number stands twice (the sequential object of linearizability: Herlihy
-/// and Wing, 1990). Refused only for want of memory.
+/// Returns whether a history is legal: replaying its operations in order on one empty map gives its
+/// replies, and no client's number occurs twice (the sequential object of linearizability: Herlihy
+/// and Wing, 1990). The only error is out of memory.
 pub fn legal(alloc: Global, entries: &[Entry]) -> Result<bool, OutOfMemory>
     ensures { IfOk result (λ is_legal. IsTrue is_legal ↔ Legal entries.now) }
 {

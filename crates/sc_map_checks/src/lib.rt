@@ -1,5 +1,4 @@
-//! What a ring and a history are judged by: whether the ring covers, and whether the history is
-//! legal.
+//! Checks of a ring and of a history: whether the ring covers, and whether the history is legal.
 #![tactic(auto)]
 
 mod covering;

@@ -167,7 +167,7 @@ module _ (K : Draw → Type 0) where
   next_kid : (command : Command) (r : ReplicaState) → CommandNames K command → R r → Kids (next_child command r)
   next_kid command r c k = kid_names r.me (child_by r.group command) (child_by_names K r.group command k.core c)
 
-  -- .. and those of what follows it
+  -- the children of a command and those of what follows it
   both_kids : (command : Command) (r : ReplicaState) (rest : List Base) → CommandNames K command → R r → Kids rest → Kids (next_child command r ++ rest)
   both_kids command r rest c k more = Each-append (λ (base : Base). CoreNames K base.core) (next_child command r) rest (next_kid command r c k) more
 

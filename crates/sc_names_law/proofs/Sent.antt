@@ -1,4 +1,4 @@
--- What is sent names nothing new: answers, what the desk is told, and what the parties of a transaction say to each other.
+-- What is sent names nothing new: answers, results for the desk, and what the parties of a transaction say to each other.
 use Rattle.std.proofs.Common.{ℕ, nat_le, nat_lt, eqb, Bool, cond, List, [], ◌∷◌, length, Option, Some, None}
 use Rattle.sc_base.specs.Definitions.{Each, least_of, united}
 use Rattle.sc_node_table.specs.Values.{Draw, Body, Offer, Watch, Command, Call, Join, Leave, Split, Begin, Prepared, RecordVote, GiveUp, Watched, RecordWatch, Core, Lock, Free, Coordinating, Promised, Watching, Effect, Link, ToldResult, Heard, Outcome, Past, Vote, AnswerBody, Mail, MailBody, Answer, TxPrepare, TxVote, TxOutcome, TxWatched, Told}

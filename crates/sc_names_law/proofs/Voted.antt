@@ -131,7 +131,7 @@ module _ (K : Draw → Type 0) where
   with_ready : (r : ReplicaState) (slot : ℕ) (command : Command) → CommandNames K command → R r → R (record r { ready = with_slot r.ready slot command })
   with_ready r slot command c k = record { core = k.core; log = k.log; accepted = k.accepted; reports = k.reports; flights = k.flights; ready = slot_with (CommandNames K) r.ready slot command c k.ready; acts = k.acts; calls = k.calls }
 
-  -- .. of a step with its children
+  -- what holds of the replica that a step leaves, the children that it makes aside
   abbrev FAll : Executed → Type 0
   FAll step = F step.0
 
@@ -157,7 +157,7 @@ module _ (K : Draw → Type 0) where
   unfolding accepted_row
   accepted_names from ballot slot (r, mails) f = either_way FAll (leads ballot r) (voted from ballot slot (set_at slot r) (r, mails)) (childless (r, mails)) (voted_names from ballot slot (set_at slot r) (r, mails) f) f
 
-  -- .. and its children
+  -- what becomes ready makes no child with a new name
   readied_kids : (slot : ℕ) (command : Command) (place : Place) → CommandNames K command → F place → Kids K (readied slot command place).1
   unfolding readied
   readied_kids slot command (r, mails) c f =

@@ -1,4 +1,4 @@
--- The names that stand in what groups keep and say: names of groups, of children and of transactions. Each definition says that all of them are of one kind, as 'drawn so far'.
+-- The names that stand in what groups keep and send: names of groups, of children and of transactions. Each definition says that all of them are of one kind K, such as 'drawn so far'.
 use Rattle.std.specs.Prelude.{ℕ, List, Option, Some, None}
 use Rattle.sc_base.specs.Definitions.{Each}
 use Rattle.sc_node_table.specs.Values.{Draw, Body, Offer, Watch, Command, Noop, Call, Join, Leave, Split, Begin, Prepared, RecordVote, GiveUp, Finish, Watched, RecordWatch, Core, Lock, Free, Coordinating, Promised, Watching, Effect, Route, OrderRefusal, ToldResult, Heard, No, Outcome, Past, Vote, AnswerBody, Mail, MailBody, Request, Answer, Prepare, Promise, Accept, Accepted, Nack, Learn, Ask, Install, TxPrepare, TxVote, TxOutcome, TxElsewhere, TxWatch, TxWatched, Told, Flight, Report, Node, Client}
@@ -15,52 +15,52 @@ use Rattle.sc_mail.specs.declared.bodies.AnswerBody.TheVariants as Answers
 use Rattle.sc_node_table.specs.Definitions.{NodeState, ReplicaState}
 use Rattle.sc_sound.specs.Definitions.{Player}
 
--- a fact of what is there, if anything is
+-- a statement holds of the value, if there is one
 abbrev pub Opt : {X : Type 0} → (X → Type 0) → Option X → Type 0
 Opt P None = Unit {0}
 Opt P (Some x) = P x
 
--- ---- of transactions
+-- ---- names in transactions
 
--- of a body: the child of a split
+-- all names in a transaction's body, the child of a split, are of kind K
 abbrev pub BodyNames : (Draw → Type 0) → Body → Type 0
 BodyNames K At.Merge = Unit {0}
 BodyNames K (At.Repart at) = Unit {0}
 BodyNames K (At.Migrate node) = Unit {0}
 BodyNames K (At.Split at child) = K child
 
--- of an offer
+-- all names in an offer to a participant are of kind K
 pub record OfferNames (K : Draw → Type 0) (offer : Offer) : Type 0 where
   pub coord : K offer.coord
   pub part : K offer.part
   pub body : BodyNames K offer.body
 
--- of what a watcher is asked
+-- all names in what a watcher is asked are of kind K
 pub record WatchNames (K : Draw → Type 0) (watch : Watch) : Type 0 where
   pub coord : K watch.coord
   pub part : K watch.part
   pub old : K watch.old
   pub next : K watch.next.group
 
--- of a reason for a No
+-- all names in the reason of a No are of kind K
 abbrev pub NoNames : (Draw → Type 0) → No → Type 0
 NoNames K (Because.Busy tx) = K tx
 NoNames K Because.Gone = Unit {0}
 NoNames K Because.Apart = Unit {0}
 NoNames K (Because.TooMany n) = Unit {0}
 
--- of a participant's vote
+-- all names in a participant's vote are of kind K
 abbrev pub VoteNames : (Draw → Type 0) → Vote → Type 0
 VoteNames K (Says.Yes frozen) = K frozen.succ.group
 VoteNames K (Says.No why) = NoNames K why
 
--- of a vote that is noted
+-- all names in a vote that a group remembers are of kind K
 abbrev pub PastNames : (Draw → Type 0) → Past → Type 0
 PastNames K Cast.Yes = Unit {0}
 PastNames K (Cast.No why) = NoNames K why
 PastNames K Cast.Ended = Unit {0}
 
--- of an outcome
+-- all names in an outcome are of kind K
 abbrev pub OutcomeNames : (Draw → Type 0) → Outcome → Type 0
 OutcomeNames K Is.Abort = Unit {0}
 OutcomeNames K (Is.Merged into) = K into.group
@@ -68,20 +68,20 @@ OutcomeNames K (Is.Moved at gift) = Unit {0}
 OutcomeNames K (Is.Migrated node) = Unit {0}
 OutcomeNames K Is.Divided = Unit {0}
 
--- of what was heard of a participant
+-- all names in what a coordinator heard of its participant are of kind K
 abbrev pub HeardNames : (Draw → Type 0) → Option Heard → Type 0
 HeardNames K heard = Opt (λ (h : Heard). K h.frozen.succ.group) heard
 
--- ---- of a group
+-- ---- names in groups
 
--- of a lock
+-- all names in a lock are of kind K
 abbrev pub LockNames : (Draw → Type 0) → Lock → Type 0
 LockNames K Free = Unit {0}
 LockNames K (Coordinating tx body order heard) = K tx × BodyNames K body × HeardNames K heard
 LockNames K (Promised tx offer) = K tx × OfferNames K offer
 LockNames K (Watching tx watch) = K tx × WatchNames K watch
 
--- of a group's record
+-- all names in a group's record are of kind K
 pub record CoreNames (K : Draw → Type 0) (core : Core) : Type 0 where
   pub id : K core.id
   pub succ : K core.succ.group
@@ -92,7 +92,7 @@ pub record CoreNames (K : Draw → Type 0) (core : Core) : Type 0 where
   pub born : Each K core.born
   pub gone : Opt (λ (into : Route). K into.group) core.gone
 
--- of a command: the child of a split, a transaction and what it brings
+-- all names in a command are of kind K: the child of a split, a transaction, and what the command says of it
 abbrev pub CommandNames : (Draw → Type 0) → Command → Type 0
 CommandNames K Noop = Unit {0}
 CommandNames K (Call client seq op) = Unit {0}
@@ -107,7 +107,7 @@ CommandNames K (Finish tx outcome) = K tx × OutcomeNames K outcome
 CommandNames K (Watched tx watch) = K tx × WatchNames K watch
 CommandNames K (RecordWatch tx vote by) = K tx × PastNames K vote
 
--- of why an order is refused
+-- all names in the reason why an order is refused are of kind K
 abbrev pub RefusalNames : (Draw → Type 0) → OrderRefusal → Type 0
 RefusalNames K (Why.NotLeader hint) = Unit {0}
 RefusalNames K (Why.InTransaction tx) = K tx
@@ -119,7 +119,7 @@ RefusalNames K Why.LastMember = Unit {0}
 RefusalNames K Why.TxLimit = Unit {0}
 RefusalNames K Why.IsMember = Unit {0}
 
--- of what an entry comes to
+-- all names in an entry's effect are of kind K
 abbrev pub EffectNames : (Draw → Type 0) → Effect → Type 0
 EffectNames K (Was.Done reply) = Unit {0}
 EffectNames K (Was.Again reply) = Unit {0}
@@ -133,16 +133,16 @@ EffectNames K (Was.Voted vote) = PastNames K vote
 EffectNames K (Was.Decided outcome) = OutcomeNames K outcome
 EffectNames K (Was.Refused why) = RefusalNames K why
 
--- ---- of mail
+-- ---- names in mail
 
--- of what the desk is told
+-- all names in a result that the desk gets are of kind K
 abbrev pub ResultNames : (Draw → Type 0) → ToldResult → Type 0
 ResultNames K Tells.Done = Unit {0}
 ResultNames K Tells.Committed = Unit {0}
 ResultNames K Tells.Aborted = Unit {0}
 ResultNames K (Tells.Refused why) = RefusalNames K why
 
--- of an answer to a client
+-- all names in an answer to a client are of kind K
 abbrev pub AnswerNames : (Draw → Type 0) → AnswerBody → Type 0
 AnswerNames K (Answers.Value reply) = Unit {0}
 AnswerNames K (Answers.NotLeader hint) = Unit {0}
@@ -150,11 +150,11 @@ AnswerNames K (Answers.NotMine arc succ) = K succ.group
 AnswerNames K (Answers.Gone into) = K into.group
 AnswerNames K (Answers.Stale last) = Unit {0}
 
--- of reports
+-- all names in the reports of a promise are of kind K
 abbrev pub ReportsNames : (Draw → Type 0) → List (Report Command) → Type 0
 ReportsNames K reports = Each (λ (report : Report Command). CommandNames K report.value) reports
 
--- of what a mail says
+-- all names in the body of a mail are of kind K
 abbrev pub BodiesNames : (Draw → Type 0) → MailBody → Type 0
 BodiesNames K (Request group client seq op) = K group
 BodiesNames K (Answer group seq answer) = K group × AnswerNames K answer
@@ -174,13 +174,13 @@ BodiesNames K (TxWatch tx watch) = K tx × WatchNames K watch
 BodiesNames K (TxWatched tx coord part vote) = K tx × K coord × K part × PastNames K vote
 BodiesNames K (Told order result) = ResultNames K result
 
--- of a mail
+-- all names in a mail are of kind K
 pub record MailNames (K : Draw → Type 0) (mail : Mail) : Type 0 where
   pub body : BodiesNames K mail.body
 
--- ---- of players
+-- ---- names in players
 
--- of what a replica holds: its group's record, its log, what it accepted, what its leader was told and has in flight, what is ready, and what waits
+-- all names in what a replica holds are of kind K: in its group's record, its log, what it accepted, the reports that its leader got, what is in flight, what is ready, and what is queued
 pub record HeldNames (K : Draw → Type 0) (of : Core) (entries : List Command) (voted told : List (Report Command)) (flying : List (Flight Command)) (counted : List (ℕ × Command)) (parties others : List Command) : Type 0 where
   pub core : CoreNames K of
   pub log : Each (CommandNames K) entries
@@ -191,20 +191,20 @@ pub record HeldNames (K : Draw → Type 0) (of : Core) (entries : List Command) 
   pub acts : Each (CommandNames K) parties
   pub calls : Each (CommandNames K) others
 
--- of a replica
+-- all names in a replica are of kind K
 abbrev pub ReplicaNames : (Draw → Type 0) → ReplicaState → Type 0
 ReplicaNames K r = HeldNames K r.group.core r.log.entries r.acceptor.accepted r.leader.reports r.leader.flights r.ready r.acts r.calls
 
--- of a node: of its replicas
+-- all names in the replicas of a node are of kind K
 abbrev pub NodeNames : (Draw → Type 0) → NodeState → Type 0
 NodeNames K node = Each (ReplicaNames K) node.replicas
 
--- of a client: of the groups that it knows, and of the one that it asked
+-- all names that a client keeps are of kind K: of the groups that it knows, and of the one that it asked
 pub record ClientNames (K : Draw → Type 0) (client : ClientState) : Type 0 where
   pub known : Each (λ entry. K entry.0) client.known
   pub asked : Opt (λ (asked : Draw × ℕ). K asked.0) client.asked
 
--- of a player
+-- all names that a player keeps are of kind K
 abbrev pub PlayerNames : (Draw → Type 0) → Player → Type 0
 PlayerNames K (Node node) = NodeNames K node
 PlayerNames K (Client client) = ClientNames K client

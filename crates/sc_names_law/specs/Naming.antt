@@ -9,12 +9,12 @@ use Rattle.sc_names_law.specs.Fresh.{BeginsUndrawn}
 use Rattle.sc_names_law.specs.Laws.{IsDrawn}
 use Rattle.sc_names_law.specs.Owners.{Rows, owner_in}
 
--- a Begin or a Split that is allowed in the log of a group brings a name that was drawn for it, by a node: no group of a scenario has it
+-- a Begin or a Split that is allowed in the log of a group brings a name that a node drew for the group: no group of a scenario has it
 abbrev pub AllowedNamesAreDrawn : Type 0
 AllowedNamesAreDrawn = (ahead : Ahead) (scenario : Scenario) (rows : Rows) (request : ℕ → ℕ → Op) (stories : Stories) (group : Draw) (command : Command) (name : Draw)
     → IsAllowed (record { owner = owner_in ahead scenario rows; request = request }) stories group command → draw_of command ≡ Some name → IsDrawn ahead scenario rows name group × (1 ≤ name.node)
 
--- one that stands in a log after these rows was drawn in them, by whichever rows that go on so its owner is read
+-- the name of a Begin or a Split in a log after these rows, where it is allowed by the owners of these and more rows, was drawn for its group in these rows
 abbrev pub LoggedNamesAreDrawn : Type 0
 LoggedNamesAreDrawn = (ahead : Ahead) (words : ℕ → ℕ → ℕ × ℕ) (scenario : Scenario) → Each BeginsUndrawn scenario.groups → (rows more : Rows) → Lawful ahead words scenario rows
     → (base : Base) (command : Command) → Among command (decided_log ahead base rows) → (request : ℕ → ℕ → Op) (stories : Stories) (group name : Draw)

@@ -15,7 +15,7 @@ use Rattle.sc_pump_law.specs.Waiting.{HasNoneWaiting, PumpsLeaveNone}
 abbrev IsBusy : ReplicaState → Type 0
 IsBusy r = r.leader.flights ≡ [] → r.ready ≡ [] → ⊥
 
--- .. or no act waits
+-- something is in flight or ready, or no act waits
 abbrev IsDone : ReplicaState → Type 0
 IsDone r = IsBusy r ⊎ (r.acts ≡ [])
 

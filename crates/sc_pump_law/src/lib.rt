@@ -1,2 +1,3 @@
-//! That the pump leaves no act waiting where nothing is in flight. Definitions and laws, no logic.
+//! The law that the pump of a settled leader with nothing in flight leaves no command of a
+//! transaction queued. Definitions and laws; no code that runs.
 #![tactic(auto)]

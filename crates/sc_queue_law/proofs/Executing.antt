@@ -1,4 +1,4 @@
--- The queue of calls while entries are executed.
+-- The queue of requests while entries are executed.
 use Rattle.std.proofs.Common.{ℕ, eqb, Bool, true, cond, List, Option, Some, None}
 use Rattle.sc_node_table.specs.Values.{Command, Call, Effect, Route, ToldResult, AnswerBody}
 use Rattle.sc_mail.specs.declared.bodies.AnswerBody.TheVariants as Says

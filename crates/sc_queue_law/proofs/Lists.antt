@@ -46,7 +46,7 @@ joined client (first ∷ commands) command =
 pub one_last : (command : Command) (commands : List Command) → One (command ∷ commands) → One (commands ++ command ∷ [])
 one_last command commands k client = omega (arith, joined client commands command, k client)
 
--- where none of a client waits, its call may
+-- where none of a client is queued, its request may be
 pub one_first : (client seq : ℕ) (op : Op) (commands : List Command) → calls_of client commands ≡ 0 → One commands → One (Call client seq op ∷ commands)
 one_first client seq op commands none k other =
     let le = cond_both (eqb client other) 1 0 (λ n. n + calls_of other commands ≤ 1)
@@ -73,7 +73,7 @@ none_left client (command ∷ commands) k =
     (λ e. omega (arith, more client command commands, counts_one (is_call_of client command) e, k))
     (λ e. omega (arith, more client command (without_call commands client), counts_none (is_call_of client command) e, none_left client commands (omega (arith, fewer client command commands, k))))
 
--- where none is found none waits
+-- where none is found none is queued
 pub none_found : (client : ℕ) (commands : List Command) → call_of commands client ≡ None → calls_of client commands ≡ 0
 none_found client [] e = refl
 none_found client (Call c seq op ∷ commands) e =

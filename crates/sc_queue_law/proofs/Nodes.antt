@@ -90,7 +90,7 @@ steps_keep_one_call node Go k = k
 
 -- ---- from birth on
 
--- a node that is born has empty queues
+-- a node at its birth has empty queues
 born_keep : (ahead me : ℕ) (groups : List Base) → All (born_replicas ahead me groups)
 born_keep ahead me [] = tt
 born_keep ahead me (base ∷ groups) =

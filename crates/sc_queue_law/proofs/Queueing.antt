@@ -1,4 +1,4 @@
--- The queue of calls: what goes back to it, what is offered from it, and where it is emptied.
+-- The queue of requests: what goes back to it, what is offered from it, and where it is emptied.
 use Rattle.std.proofs.Common.{◌≡◌, ℕ, ◌+◌, ◌-◌, ◌^◌, ◌&&◌, nat_le, nat_lt, eqb, refl, List, [], ◌∷◌, ◌++◌, Option, Some, None}
 use Rattle.std.specs.Prelude.{is_some}
 use Rattle.std.specs.List.{list_any}

@@ -1,4 +1,4 @@
--- The queue of calls in each row of a replica's table.
+-- The queue of requests in each row of a replica's table.
 use Rattle.std.proofs.Common.{◌≡◌, ℕ, ◌-◌, ◌&&◌, ◌||◌, not, nat_le, nat_lt, eqb, refl, Bool, true, false, cond, List, [], ◌∷◌, ◌++◌, length, Option, Some, None}
 use Rattle.std.specs.Prelude.{is_some}
 use Rattle.sc_base.specs.Definitions.{Drawer, next_name, is_member}
@@ -17,7 +17,7 @@ use Rattle.sc_law_lemmas.proofs.Lemmas.{promised_place, asked_place, either_way}
 use Rattle.sc_queue_law.proofs.Queueing.{Keeps, pumped_keeps, act_keeps, queued_act, ended_keeps, elected_keeps, saw_keeps, sent_keeps}
 use Rattle.sc_queue_law.proofs.Executing.{looked_keeps, executed_keeps}
 
--- ---- Request: it waits last, where no other call of its client does
+-- ---- Request: it is queued last, where no other request of its client is queued
 
 queued_keeps : (o : Option ℕ) (client seq : ℕ) (op : Op) (place : Place) → call_of place.0.calls client ≡ o → Keeps place → Keeps (queued o client seq op place)
 unfolding queued
@@ -72,7 +72,7 @@ unfolding promise_row
 promise_row_keeps from ballot reports (r, mails) k =
     either_way Keeps (leads ballot r) _ _ (pumped_keeps (record r { leader = (promise_counted from ballot reports r.leader).1 }, mails) k) k
 
--- .. with the children that a row made
+-- what is kept of a replica with its mail and the children that a row made
 abbrev KeepsAfter : Executed → Type 0
 KeepsAfter step = Keeps step.0
 
@@ -179,7 +179,7 @@ outcome_keeps : (tx : Draw) (outcome : Outcome) (place : Place) → Keeps place 
 unfolding outcome_row
 outcome_keeps tx outcome (r, mails) k = either_way Keeps (r.running && is_bound r.group.core.lock tx) _ _ (queued_act (Finish tx outcome) (r, mails) k) k
 
--- ---- orders: one that waits is no call
+-- ---- orders: one that is queued is no request
 
 ordered_keeps : (name : Draw) (number : ℕ) (order : Order) (calls : List Command) → One calls → One (ordered_command name number order ∷ calls)
 ordered_keeps name number (An.Join node group) calls k = k

@@ -1,4 +1,4 @@
--- At most one call of each client waits at a replica.
+-- At most one request of each client is queued at a replica.
 use Rattle.std.specs.Prelude.{◌≡◌, ℕ, ◌≤◌, List, length, filter}
 use Rattle.sc_base.specs.Definitions.{Each}
 use Rattle.sc_node_table.specs.Values.{Command, OrderLine, Mail, Input, Row, Node}
@@ -7,25 +7,25 @@ use Rattle.sc_node_table.specs.Definitions.{NodeState, node_table, is_call_of, R
 use Rattle.sc_scenario.specs.declared.scenarios.Scenario.{Scenario}
 use Rattle.sc_sound.specs.Definitions.{Ahead, node_seat, player_table}
 
--- how many of these commands are calls of a client
+-- the number of these commands that are requests of a client
 abbrev pub calls_of : ℕ → List Command → ℕ
 calls_of client commands = length (filter (λ command. is_call_of client command) commands)
 
--- a replica has at most one call of each client in its queue
+-- a replica has at most one request of each client in its queue
 abbrev pub KeepsOneCall : ReplicaState → Type 0
 KeepsOneCall r = (client : ℕ) → calls_of client r.calls ≤ 1
 
--- .. each replica of a node
+-- each replica of a node has at most one request of each client in its queue
 abbrev pub EachKeepsOneCall : NodeState → Type 0
 EachKeepsOneCall node = Each KeepsOneCall node.replicas
 
--- a step of a node keeps it so, whatever the input
+-- a step of a node keeps at most one request of each client in each queue, whatever the input
 abbrev pub StepsKeepOneCall : Type 0
 StepsKeepOneCall =
     (node : NodeState) (input : Input Mail OrderLine)
     → EachKeepsOneCall node → EachKeepsOneCall (node_table node input).0
 
--- it is so of each node of a scenario after any rows, lawful or not
+-- after any rows, lawful or not, each replica of each node of a scenario has at most one request of each client in its queue
 abbrev pub QueuesKeepOneCall : Type 0
 QueuesKeepOneCall =
     (ahead : Ahead) (scenario : Scenario) (me : ℕ)

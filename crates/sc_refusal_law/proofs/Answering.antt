@@ -68,7 +68,7 @@ entries_push me name group (entry ∷ entries) command =
     ap (λ (ms : List Mail). first ++ ms) (entries_push me name next entries command)
     ∙ sym (append_assoc first (entry_answers me name next entries) (effect_answers me name (answer_of (applied (state_after next entries) command).1) command))
 
--- a counted call is told its answer, and no other
+-- a counted call gets its answer, and no other
 pub told_answers : (answer : Option AnswerBody) (command : Command) (place : Place) → answers_in (told_call answer command place).1 ≡ answers_in place.1 ++ effect_answers place.0.me (name_of place.0) answer command
 unfolding told_call answered put_back
 told_answers (Some answer) (Call client seq op) (r, mails) = answer_adds mails r.me (client_actor client) (name_of r) seq answer
@@ -84,7 +84,7 @@ IfCall A command = (client seq : ℕ) (op : Op) → command ≡ Call client seq 
 
 -- what holds of the answer to each call that was asked, by the cause that it has, holds of all answers to entries
 module _ (A : Command → Type 0) (me : ℕ) (name : Draw) (group : Group) (P : Mail → Type 0) where
-  -- .. with its cause among these entries
+  -- the answer to a call that was asked, with its cause among these entries
   abbrev pub Answered : List Command → Type 0
   Answered entries = (client seq : ℕ) (op : Op) (answer : AnswerBody) → A (Call client seq op) → HasCauseAtEntry group entries client seq op answer → P (record { from = me; to = client_actor client; body = Answer name seq answer })
 

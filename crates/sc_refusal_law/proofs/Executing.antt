@@ -119,7 +119,7 @@ module _ (start : ReplicaState) (A : Command → Type 0) (G : Draw → ℕ → T
   counted_fine command r mails k f =
       let effect : Effect = (applied r.group command).1 in effect_fine (order_result command effect) command (told_call (answer_of effect) command (entered command r, mails)) (told_fine (answer_of effect) command r mails f k refl)
 
-  -- one that is learnt is told to no client
+  -- one that is learnt is answered to no client
   pub learning_fine : (effect : Effect) (command : Command) (place : Place) → F place → F (announced false effect command place)
   unfolding announced
   learning_fine effect command place f = effect_fine (order_result command effect) command place f
@@ -272,7 +272,7 @@ module _ (start : ReplicaState) (A : Command → Type 0) (G : Draw → ℕ → T
   next_by true o command e = (refl, e)
   next_by false o command e = cc
 
-  -- .. with the children that are made
+  -- what holds of a replica with its mail and the children that are made
   abbrev FineAfter : Executed → Type 0
   FineAfter step = Fine start A G W Q step.0
 

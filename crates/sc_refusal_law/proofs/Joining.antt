@@ -21,7 +21,7 @@ module _ (before : List Mail) where
   abbrev pub onto : List Mail → List Mail
   onto mails = before ++ mails
 
-  -- .. those of a place
+  -- these mails, and then those of a place
   abbrev pub behind : Place → Place
   behind place = (place.0, onto place.1)
 

@@ -101,7 +101,7 @@ module _ (ahead : Ahead) (words : ℕ → ℕ → ℕ × ℕ) (scenario : Scenar
   loose_input event.Crash input l e = l
 
   module _ (row : Row Mail OrderLine) (step : S row) where
-    -- who is told to go was not told before
+    -- a client that has to go had not started before
     go_once : input_of (mails rows) row.event ≡ Some Go → has_gone rows row.who ≡ false
     go_once e =
         elim step [

@@ -14,7 +14,7 @@ use Rattle.sc_names_law.specs.Definitions.{Opt}
 use Rattle.sc_names_law.proofs.Lemmas.{opt_find, opt_map, opt_either, opt_slot, opt_choice}
 use Rattle.sc_law_lemmas.proofs.Lemmas.{either_way}
 
--- one more at the front, and one more at the end
+-- one more at the start, and one more at the end
 counted_in : (b : Bool) (command : Command) (others : List Command) → length (cond b (command ∷ others) others) ≡ length others + length (cond b (command ∷ []) [])
 counted_in true command others = omega arith
 counted_in false command others = omega arith
@@ -45,11 +45,11 @@ module _ (A : Command → Type 0) (G : Draw → ℕ → Type 0) where
   Kept (Watched tx watch) = Unit {0}
   Kept (RecordWatch tx vote by) = Unit {0}
 
-  -- no more ends of waiting are queued than may be
+  -- no more GiveUp commands are queued than may be
   abbrev pub DueAll : List Command → Type 0
   DueAll acts = (tx : Draw) → (count : ℕ) × (ends_queued tx acts ≤ count) × G tx count
 
-  -- a command may be queued beside these: if it is an end of waiting, one more may be
+  -- a command may be queued beside these: if it is a GiveUp, one more may be
   abbrev pub Due : Command → List Command → Type 0
   Due (GiveUp tx) acts = (count : ℕ) × (ends_queued tx acts + 1 ≤ count) × G tx count
   Due (Call client seq op) acts = Unit {0}
@@ -94,7 +94,7 @@ module _ (A : Command → Type 0) (G : Draw → ℕ → Type 0) where
   pub with_acts : (r : ReplicaState) (commands : List Command) → KeptAll commands → DueAll commands → Holds r → Holds (record r { acts = commands })
   with_acts r commands a d h = record { calls = h.calls; acts = a; due = d; flights = h.flights; ready = h.ready; reports = h.reports }
 
-  -- ---- how many ends of waiting are queued
+  -- ---- how many GiveUp commands are queued
 
   -- fewer may be where more may
   pub fewer_due : (acts fewer : List Command) → ((tx : Draw) → ends_queued tx fewer ≤ ends_queued tx acts) → DueAll acts → DueAll fewer

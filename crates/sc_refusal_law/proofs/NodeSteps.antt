@@ -1,4 +1,4 @@
--- A node's whole step: each of its mails has its cause at a replica, and so has each end of waiting that is queued after it.
+-- A node's whole step: each of its mails has its cause at a replica, and so has each GiveUp that is queued after it.
 use Rattle.std.proofs.Common.{◌≡◌, ◌≤◌, ◌+◌, arith, ◌∙◌, ℕ, ◌-◌, ◌^◌, inl, inr, ◌||◌, not, nat_lt, eqb, Bool, true, false, cond, List, [], ◌∷◌, ◌++◌, length, Option, Some, None, refl, sym, ap, subst, append-nil, append_assoc}
 use Rattle.std.specs.Prelude.{is_some}
 use Rattle.sc_base.specs.Definitions.{Among, Each, Drawer, same_draw, is_member, least_of}
@@ -118,7 +118,7 @@ ticked_parts node after on drawer (r ∷ replicas) mails f =
     let behind : (ticked on names replicas (tick_row on drawer (r, mails)).1).1 ≡ mails ++ (part ++ others.0) = others.1 ∙ ap (λ (p : Place). p.1 ++ others.0) own ∙ append_assoc mails part others.0 in
     (part ++ others.0, behind, (part, others.0, refl, sent, others.2))
 
--- .. and of the replicas
+-- what holds of each replica in its own step holds of the replicas at a tick
 ticked_replicas : (T : ReplicaState → Type 0) (on : Bool) (drawer : Drawer) (replicas : List ReplicaState) (mails : List Mail) → ((r : ReplicaState) → Among r replicas → (names : Drawer) → T (tick_row on names (r, [])).0)
     → Each T (ticked on drawer replicas mails).0
 unfolding ticked

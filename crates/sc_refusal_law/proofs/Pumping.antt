@@ -119,6 +119,6 @@ module _ (start : ReplicaState) (A : Command → Type 0) (G : Draw → ℕ → T
   unfolding pumped
   pumped_fine place f = either_way F (settled place.0 && nat_le (next place.0) last_slot) (pumped_from (next place.0) place.0.sets place) place (from_fine (next place.0) place.0.sets place f) f
 
--- .. whether or not another leader was named
+-- what a replica offers, whether or not another leader was named
 pub pumped_still : (start : ReplicaState) (A : Command → Type 0) (G : Draw → ℕ → Type 0) (W : Ballot → Draw → ℕ) (Q : Type 0) (place : Place) → Fine start A G W Q place → Fine start A G W Q (pumped place)
 pumped_still start A G W Q place (refused, f) = (refused, pumped_fine start A G W Q refused place f)

@@ -14,7 +14,7 @@ use Rattle.sc_refusal_law.proofs.Answering.{entries_push}
 use Rattle.sc_refusal_law.proofs.Locking.{allowed}
 use Rattle.sc_refusal_law.proofs.Plain.{IsPlain, answer_adds, answer_weaker, plain_adds, all_plain}
 
--- the start of a step; which calls were asked; which ends of waiting may be queued; how long a leader may have waited in a ballot and a transaction, where this was so before
+-- the start of a step; which calls were asked; which GiveUp commands may be queued; how long a leader may have waited in a ballot and a transaction, where this was so before
 module _ (start : ReplicaState) (A : Command → Type 0) (G : Draw → ℕ → Type 0) (W : Ballot → Draw → ℕ) (Q : Type 0) where
   -- the cause of an answer to a call that was not executed, after these entries: one that names another leader needs that the replica has stopped, and another that such calls are turned down
   abbrev pub CauseSo : List Command → Bool → Bool → Op → AnswerBody → Type 0

@@ -318,7 +318,7 @@ module _ (start : ReplicaState) (input : Input Mail OrderLine) (W : Ballot → D
           patient = λ q runs. (let none = is.waits runs in omega (arith, none));
         }
 
-  -- .. where it ran, and where it did not
+  -- it takes the state over, where it ran and where it did not
   taken_over : (from slot : ℕ) (base : Base) (sets : List (List ℕ)) → IsTakenOver input → Shows (took_over from slot base sets (start, []))
   unfolding took_over ended
   taken_over from slot base sets over =

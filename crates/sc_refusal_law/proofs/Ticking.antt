@@ -162,7 +162,7 @@ module _ (ahead : Ahead) (scenario : Scenario) (me : ℕ) (some : 1 ≤ me) wher
       (cond_both (eqb row.who me) (acted player_table (value player_table seat rows) (input_of (mails rows) row.event)).0 (value player_table seat rows) (Known (rows ++ row ∷ []))
       (λ e. acted_known rows row (input_of (mails rows) row.event) refl (eqb-true row.who me e) k) (λ _. more_known rows row (value player_table seat rows) k))
 
-  -- a node that is born has waited for nothing
+  -- a node at its birth has waited for nothing
   born_keep : (groups : List Base) → Each (Keeps me (counts seat [])) (born_replicas ahead.slots me groups)
   born_keep [] = tt
   born_keep (base ∷ groups) =

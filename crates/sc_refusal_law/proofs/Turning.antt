@@ -33,7 +33,7 @@ started_number seq client = begun_number (nat_le seq (length client.requests)) s
 
 -- ---- the moves
 
--- what holds of a client before a row: one that was not told to go has begun nothing, and what waits has the next number
+-- what holds of a client before a row: one that has not started has begun nothing, and what waits has the next number
 pub record InPlace (gone : Bool) (client : Client) : Type 0 where
   pub fresh : gone ≡ false → (client.waiting ≡ None) × (client.replies ≡ [])
   pub rises : (seq : ℕ) → client.waiting ≡ Some seq → seq ≡ length client.replies + 1
@@ -57,7 +57,7 @@ module _ (client : Client) (input : Input Mail OrderLine) (gone : Bool) (place :
   turn : InTurn client after input (table client input).1
   turn = sends_in_turn client input
 
-  -- it is told to go
+  -- it starts
   starts : input ≡ Go → after.replies ≡ client.replies → Starts client after input
   starts go replies =
       let fresh = place.fresh (told go) in
@@ -90,7 +90,7 @@ module _ (client : Client) (input : Input Mail OrderLine) (gone : Bool) (place :
         | inr (inr g) ↦ (let is = goes_on g.seq g.reply g.is_reply g.waited g.replies in record { turn = t; rises = goes_rises is; moves = inr (inr is) })
       ]
 
-  -- one that was not told to go begins nothing
+  -- one that has not started begins nothing
   still_fresh : KeepsTurn client after input (table client input).1 → (input ≡ Go → ⊥) → (client.waiting ≡ None) × (client.replies ≡ []) → (after.waiting ≡ None) × (after.replies ≡ [])
   still_fresh k not_go f =
       elim k.moves [

@@ -25,7 +25,7 @@ module _ (start : ReplicaState) (A : Command → Type 0) (G : Draw → ℕ → T
   abbrev After : Place → Type 0
   After place = Fine start A G W Q place
 
-  -- .. and while entries are executed
+  -- what holds of a replica with its mail while entries are executed
   abbrev E : Place → Type 0
   E place = FineAs start A G W Q false false place
 
@@ -124,7 +124,7 @@ module _ (start : ReplicaState) (A : Command → Type 0) (G : Draw → ℕ → T
   still : (place : Place) → E place → After place
   still place f = (false, turned_fine start A G W Q false false place f)
 
-  -- .. with the children that a row made
+  -- what holds of a replica with its mail and the children that a row made
   abbrev AfterAll : Executed → Type 0
   AfterAll step = After step.0
 

@@ -8,7 +8,7 @@ use Rattle.sc_client_table.specs.Definitions.{Client, InTurn, IsReplyTo, Waits}
 abbrev pub number_in : List Op → ℕ → Option ℕ
 number_in requests seq = if nat_le seq (length requests) then Some seq else None
 
--- the first request is begun, by a client that had begun none
+-- the first request begins, at `go`, where the client had begun none
 pub record Starts (before after : Client) (input : Input Mail OrderLine) : Type 0 where
   pub go : input ≡ Go
   pub fresh : before.waiting ≡ None
@@ -16,7 +16,7 @@ pub record Starts (before after : Client) (input : Input Mail OrderLine) : Type 
   pub number : after.waiting ≡ number_in after.requests 1
   pub replies : after.replies ≡ []
 
--- the reply to the waiting request is taken, and the next one is begun; none waits only where that was the last
+-- the client takes the reply to the waiting request, and the next one begins; none waits after it only where that was the last
 pub record GoesOn (before after : Client) (input : Input Mail OrderLine) : Type 0 where
   pub seq : ℕ
   pub reply : Reply
@@ -25,7 +25,7 @@ pub record GoesOn (before after : Client) (input : Input Mail OrderLine) : Type 
   pub number : after.waiting ≡ number_in after.requests (seq + 1)
   pub replies : after.replies ≡ before.replies ++ reply ∷ []
 
--- what an input makes of a client and of its mail, in a lawful journal: what it makes of every client; and the waiting request has the next number after the replies, and while one waits nothing else is begun
+-- what an input makes of a client and its mail in a lawful journal: what it makes of any client; the waiting request has the next number after the replies; and either nothing begins, or the first or the next request does
 pub record KeepsTurn (before after : Client) (input : Input Mail OrderLine) (mails : List Mail) : Type 0 where
   pub turn : InTurn before after input mails
   pub rises : (seq : ℕ) → after.waiting ≡ Some seq → seq ≡ length after.replies + 1

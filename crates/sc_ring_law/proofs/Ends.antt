@@ -1,4 +1,4 @@
--- What is heard, decided and ended keeps the facts; so does a child that is born.
+-- What is heard, decided and ended keeps the facts; so does a child that is created.
 use Rattle.std.proofs.Common.{◌≡◌, ℕ, true, false, inl, inr, Option, Some, None, refl, sym, ◌∙◌, ap, subst}
 use Rattle.std.proofs.lemmas.Bool.{both_ways}
 use Rattle.std.proofs.lemmas.Option.{same_Some}
@@ -153,7 +153,7 @@ finish_facts gs ys owner g s s' tx y o f is of other there decided d =
           }))
     ])
 
--- ---- a child is born
+-- ---- a child is created
 
 pub born_facts : (gs : Groups) (ys : Stories) (owner : Draw → Option Draw) (g child : Draw) (t b : Group) → Facts owner gs ys → gs child ≡ None → b.core.lock ≡ Free → b.core.id ≡ child
     → owner child ≡ Some g → gs g ≡ Some t → has_born t.core child ≡ true → ((y : Story) (place : ℕ) (c : Draw) → ys child ≡ Some y → y.body ≡ At.Split place c → y.outcome ≡ None → ⊥)

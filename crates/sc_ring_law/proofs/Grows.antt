@@ -41,7 +41,7 @@ use Rattle.sc_ring_law.proofs.Start.{at_start}
 use Rattle.sc_ring_law.proofs.Worlds.{KeptWorld, kept_on, kept_after}
 use Rattle.sc_ring_law.proofs.Finds.{some_none}
 
--- a story tells all that another told
+-- a story records all that another recorded
 pub record TellsOn (y z : Story) : Type 0 where
   pub offer : z.offer ≡ y.offer
   pub vote : (f : Frozen) → y.vote ≡ Some (Ballot.Yes f) → z.vote ≡ Some (Ballot.Yes f)
@@ -49,7 +49,7 @@ pub record TellsOn (y z : Story) : Type 0 where
   pub watch_vote : y.watch_vote ≡ Some Cast.Yes → z.watch_vote ≡ Some Cast.Yes
   pub outcome : (o : Outcome) → y.outcome ≡ Some o → z.outcome ≡ Some o
 
--- each story goes on telling what it told
+-- each story goes on recording what it recorded
 abbrev pub Grows : Stories → Stories → Type 0
 Grows ys zs = (tx : Draw) (y : Story) → ys tx ≡ Some y → (z : Story) × (zs tx ≡ Some z) × TellsOn y z
 

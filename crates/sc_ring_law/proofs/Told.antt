@@ -148,7 +148,7 @@ story_outcome : (o : Option Story) → option_and_then (λ (b : Draw × Option O
 story_outcome None = refl
 story_outcome (Some y) = refl
 
--- what was decided is what the story tells
+-- what was decided is what the story records
 pub decision_is : (transactions : List Transaction) (stories : Stories) → Agree transactions stories → (tx : Draw) → decision tx transactions ≡ outcome_of (stories tx)
 decision_is transactions stories agree tx =
     outcome_by (transaction_in tx transactions) ∙ ap (option_and_then (λ (b : Draw × Option Outcome). b.1)) (agree tx) ∙ story_outcome (stories tx)

@@ -1,4 +1,4 @@
--- Which entries may be appended to the logs of groups, one after another: nested consensus without mail, as in Scatter (SOSP 2011).
+-- Which entries may be appended to the logs of groups, one after another: nested consensus without mail (Scatter, SOSP 2011, multi-group operations).
 use Rattle.std.specs.Prelude.{◌≡◌, ℕ, ◌<◌, ◌^◌, List, [], ◌∷◌, fold, Option, Some, None}
 use Rattle.sc_base.specs.declared.names.Draw.{Draw}
 use Rattle.sc_base.specs.declared.ops.Op.{Op}
@@ -16,32 +16,32 @@ use Rattle.sc_log_entries.specs.declared.LogEntry.{LogEntry}
 use Rattle.sc_log_entries.specs.Definitions.{StoreWorld, first_world, named_group, told}
 use Rattle.sc_ring_law.specs.Stories.{Story, Stories, no_stories, unsigned, unsigned_watch, stories_after}
 
--- what is fixed beside the logs
+-- two functions that are fixed beside the logs: whose a name is, and what a client asks
 pub record Sources : Type 0 where
   -- the group that a name was drawn for; none where it is the name of a scenario's group
   pub owner : Draw → Option Draw
   -- what a client asks by each number
   pub request : ℕ → ℕ → Op
 
--- a transaction that is begun has a participant; a boundary is moved to a position
+-- the body of a transaction with a participant, so no split; a boundary moves to a position of the ring
 abbrev pub IsShared : Body → Type 0
 IsShared At.Merge = Unit {0}
 IsShared (At.Repart at) = at < 2 ^ 32
 IsShared (At.Migrate node) = Unit {0}
 IsShared (At.Split at child) = ⊥
 
--- a Yes is what the participant voted; any No may be recorded
+-- a vote may be recorded: a Yes that the participant voted, or any No
 abbrev pub IsVoteCast : Stories → Draw → Vote → Type 0
 IsVoteCast stories tx (Ballot.Yes frozen) = (story : Story) × (stories tx ≡ Some story) × (story.vote ≡ Some (Ballot.Yes frozen))
 IsVoteCast stories tx (Ballot.No why) = Unit {0}
 
--- a Yes is what the watcher voted; anything else may be recorded
+-- a watcher's vote may be recorded: a Yes that the watcher voted, or anything else
 abbrev pub IsWatchVoteCast : Stories → Draw → Past → Type 0
 IsWatchVoteCast stories tx Cast.Yes = (story : Story) × (stories tx ≡ Some story) × (story.watch_vote ≡ Some Cast.Yes)
 IsWatchVoteCast stories tx (Cast.No why) = Unit {0}
 IsWatchVoteCast stories tx Cast.Ended = Unit {0}
 
--- whether an entry may be appended to the log of the group with this name, after what was told
+-- an entry may be appended to the log of the group with this name, by the stories so far
 abbrev pub IsAllowed : Sources → Stories → Draw → Command → Type 0
 IsAllowed sources stories name (Call client seq op) = op ≡ sources.request client seq
 IsAllowed sources stories name (Split at child order) = (sources.owner child ≡ Some name) × (at < 2 ^ 32)
@@ -58,32 +58,32 @@ IsAllowed sources stories name (GiveUp tx) = Unit {0}
 
 -- ---- lists of entries
 
--- all groups, and what was told of their transactions
+-- the world with the stories of its transactions
 pub record ToldWorld : Type 0 where
   pub store : StoreWorld
   pub stories : Stories
 
--- the groups of a scenario, before any entry
+-- the world of a scenario's groups before any entry, with no story
 abbrev pub first_told : List Base → ToldWorld
 first_told bases = record { store = first_world bases; stories = no_stories }
 
--- the stories after a command of a group that was found
+-- the stories after a command of the group that was found; where no group was found they stay as they are
 abbrev pub stories_told : Stories → Option Group → Command → Stories
 stories_told stories None command = stories
 stories_told stories (Some group) command = stories_after group command (applied group command).1 stories
 
--- the world after one entry
+-- the world and the stories after one entry
 abbrev pub told_on : ToldWorld → LogEntry → ToldWorld
 told_on world entry = record {
   store = told world.store entry;
   stories = stories_told world.stories (named_group entry.group world.store.groups) entry.command;
 }
 
--- the world after the entries of all logs, in their order
+-- the world and the stories after a list of entries, in their order
 abbrev pub told_after : ToldWorld → List LogEntry → ToldWorld
 told_after = fold told_on
 
--- each entry is allowed by what was told before it
+-- each entry is allowed by the stories that the entries before it leave
 abbrev pub AreAllowed : Sources → ToldWorld → List LogEntry → Type 0
 AreAllowed sources world [] = Unit {0}
 AreAllowed sources world (entry ∷ entries) = IsAllowed sources world.stories entry.group entry.command × AreAllowed sources (told_on world entry) entries

@@ -29,18 +29,18 @@ Groups = Draw → Option Group
 abbrev pub has_decided : Core → Draw → Bool
 has_decided core tx = list_any (λ decision. same_draw decision.0 tx) core.decided
 
--- whether it has split off a child of this name
+-- whether a group has split off a child of this name
 abbrev pub has_born : Core → Draw → Bool
 has_born core name = list_any (λ child. same_draw child name) core.born
 
--- a boundary is a position, and a child has the transaction's name
+-- a boundary is a position of the ring, and the child of a split has the transaction's name
 abbrev pub IsOwnBody : Body → Draw → Type 0
 IsOwnBody At.Merge tx = Unit {0}
 IsOwnBody (At.Repart at) tx = at < 2 ^ 32
 IsOwnBody (At.Migrate node) tx = Unit {0}
 IsOwnBody (At.Split at child) tx = (at < 2 ^ 32) × (child ≡ tx)
 
--- a coordinator: its story is open, and its record, pairs and client table are those at the entry that began it
+-- a group coordinates by its lock: the story is open, and the group's record, pairs and client table are those at the entry that began the transaction
 pub record IsCoordinating (stories : Stories) (name : Draw) (group : Group) (tx : Draw) (body : Body) (heard : Option Heard) : Type 0 where
   pub story : Story
   pub is : stories tx ≡ Some story
@@ -55,7 +55,7 @@ pub record IsCoordinating (stories : Stories) (name : Draw) (group : Group) (tx 
   pub apart : group.core.succ.group ≡ name → ⊥
   pub own : IsOwnBody body tx
 
--- a participant that has voted Yes: what it has is what it handed over
+-- a participant has voted Yes: what it has is what it handed over
 pub record IsPromised (stories : Stories) (name : Draw) (group : Group) (tx : Draw) (offer : Offer) : Type 0 where
   pub story : Story
   pub is : stories tx ≡ Some story
@@ -64,7 +64,7 @@ pub record IsPromised (stories : Stories) (name : Draw) (group : Group) (tx : Dr
   pub vote : story.vote ≡ Some (Ballot.Yes (frozen_of group))
   pub here : group.core.gone ≡ None
 
--- a watcher that has voted Yes
+-- a watcher has voted Yes to what it was asked
 pub record IsWatching (stories : Stories) (name : Draw) (group : Group) (tx : Draw) (watch : Watch) : Type 0 where
   pub story : Story
   pub is : stories tx ≡ Some story
@@ -72,19 +72,19 @@ pub record IsWatching (stories : Stories) (name : Draw) (group : Group) (tx : Dr
   pub part : watch.part ≡ name
   pub here : group.core.gone ≡ None
 
--- what the lock of a group says
+-- what the lock of a group says agrees with the stories
 abbrev pub LockOk : Stories → Draw → Group → Lock → Type 0
 LockOk stories name group Free = Unit {0}
 LockOk stories name group (Coordinating tx body order heard) = IsCoordinating stories name group tx body heard
 LockOk stories name group (Promised tx offer) = IsPromised stories name group tx offer
 LockOk stories name group (Watching tx watch) = IsWatching stories name group tx watch
 
--- a group has its name, and its lock says what was told
+-- a group has its name, and its lock agrees with the stories
 pub record GroupOk (stories : Stories) (name : Draw) (group : Group) : Type 0 where
   pub named : group.core.id ≡ name
   pub lock_ok : LockOk stories name group group.core.lock
 
--- the participant is promised, and what it has is what it handed over
+-- the participant of a story is locked by its promise, and what it has is what it handed over
 pub record IsFrozen (groups : Groups) (tx : Draw) (story : Story) (frozen : Frozen) : Type 0 where
   pub offer : Offer
   pub offered : story.offer ≡ Some (unsigned offer)
@@ -93,7 +93,7 @@ pub record IsFrozen (groups : Groups) (tx : Draw) (story : Story) (frozen : Froz
   pub lock : group.core.lock ≡ Promised tx offer
   pub same : frozen_of group ≡ frozen
 
--- the watcher watches
+-- the watcher of a story is locked by watching
 pub record IsAgreed (groups : Groups) (tx : Draw) (story : Story) : Type 0 where
   pub watch : Watch
   pub asked : story.watch ≡ Some (unsigned_watch watch)
@@ -101,7 +101,7 @@ pub record IsAgreed (groups : Groups) (tx : Draw) (story : Story) : Type 0 where
   pub is : groups watch.part ≡ Some group
   pub lock : group.core.lock ≡ Watching tx watch
 
--- the participant has voted
+-- the participant of a story is there and has voted
 pub record IsVoter (groups : Groups) (tx : Draw) (story : Story) : Type 0 where
   pub offer : Offer
   pub offered : story.offer ≡ Some offer
@@ -109,7 +109,7 @@ pub record IsVoter (groups : Groups) (tx : Draw) (story : Story) : Type 0 where
   pub is : groups offer.part ≡ Some group
   pub voted : has_voted group.core tx ≡ true
 
--- the watcher has voted
+-- the group that is asked to watch is there and has voted
 pub record IsWatcher (groups : Groups) (tx : Draw) (asked : Option Watch) : Type 0 where
   pub watch : Watch
   pub is_asked : asked ≡ Some watch
@@ -123,7 +123,7 @@ IsEarned story =
     ((offer : Offer) → story.offer ≡ Some offer → (frozen : Frozen) × (story.vote ≡ Some (Ballot.Yes frozen)))
     × ((watch : Watch) → story.watch ≡ Some watch → story.watch_vote ≡ Some Cast.Yes)
 
--- what a story says of the groups; while it is open, its votes hold
+-- what a story says holds of the groups; while it is open, its Yes votes still lock those who gave them
 pub record StoryOk (owner : Draw → Option Draw) (groups : Groups) (tx : Draw) (story : Story) : Type 0 where
   pub named : owner tx ≡ Some story.coordinator
   pub known : (group : Group) → groups story.coordinator ≡ Some group → has_decided group.core tx ≡ false
@@ -141,7 +141,7 @@ abbrev pub Origin : (Draw → Option Draw) → Groups → Draw → Type 0
 Origin owner groups name =
     (owner name ≡ None) ⊎ ((parent : Draw) × (group : Group) × (owner name ≡ Some parent) × (groups parent ≡ Some group) × (has_born group.core name ≡ true))
 
--- every group and every story
+-- each group agrees with the stories, each story with the groups, and each group has an origin
 pub record Facts (owner : Draw → Option Draw) (groups : Groups) (stories : Stories) : Type 0 where
   pub group : (name : Draw) (group : Group) → groups name ≡ Some group → GroupOk stories name group
   pub story : (tx : Draw) (story : Story) → stories tx ≡ Some story → StoryOk owner groups tx story

@@ -1,4 +1,4 @@
--- What all logs together have told of each transaction, entry by entry: of its coordinator, of who takes part and of who watches.
+-- Stories: what the logs of all groups record of each transaction, entry by entry, of its coordinator, its participant and its watcher.
 use Rattle.std.specs.Prelude.{◌&&◌, not, if◌then◌else◌, Option, Some, None}
 use Rattle.std.specs.Option.{option_map}
 use Rattle.sc_base.specs.Definitions.{same_draw}
@@ -23,18 +23,18 @@ use Rattle.sc_cmd.specs.declared.votes.Vote.TheVariants as Ballot
 use Rattle.sc_cmd.specs.Definitions.{is_changed, decided_in, is_alone}
 use Rattle.sc_machine_table.specs.Definitions.{Group, frozen_of, merged_link, right_link}
 
--- what was told of a transaction
+-- what all logs record of one transaction
 pub record Story : Type 0 where
-  -- the group whose log has the Begin, or the Split that only locks
+  -- the group whose log has the Begin, or the Split that locks the group before it divides
   pub coordinator : Draw
   pub body : Body
   -- the coordinator's record, pairs and client table at that entry
   pub standing : Frozen
-  -- what its participant is asked, but for who asks; none of a split
+  -- what the participant is asked, without the node that asks; none for a split
   pub offer : Option Offer
   -- what the participant voted
   pub vote : Option Vote
-  -- what its watcher is asked, but for who asks, from when the watcher is known
+  -- what the watcher is asked, without the node that asks, once the watcher is known
   pub watch : Option Watch
   -- what the watcher voted
   pub watch_vote : Option Past
@@ -45,25 +45,25 @@ pub record Story : Type 0 where
 abbrev pub Stories : Type 0
 Stories = Draw → Option Story
 
--- nothing was told yet
+-- no transaction has a story yet
 abbrev pub no_stories : Stories
 no_stories name = None
 
--- what is known by names, with this for one name
+-- a function of names, with this value for one name
 abbrev pub put : {X : Type 0} → (Draw → X) → Draw → X → Draw → X
 put known name value other = if same_draw other name then value else known other
 
--- a story is changed, where there is one
+-- the stories, with the one of this name changed, where there is one
 abbrev pub retold : Stories → Draw → (Story → Story) → Stories
 retold stories tx change = put stories tx (option_map change (stories tx))
 
 -- ---- what is asked
 
--- an offer and a watch, whoever asks
+-- an offer without the node that asks
 abbrev pub unsigned : Offer → Offer
 unsigned offer = record offer { by = 0 }
 
--- the same of a watch
+-- a watch without the node that asks
 abbrev pub unsigned_watch : Watch → Watch
 unsigned_watch watch = record watch { by = 0 }
 
@@ -71,23 +71,23 @@ unsigned_watch watch = record watch { by = 0 }
 abbrev pub offer_with : Core → Body → Offer
 offer_with core body = record { coord = core.id; part = core.succ.group; arc = core.arc; members = core.members; body = body; by = 0 }
 
--- the offer of a transaction with this body: a split has no participant
+-- the offer of a transaction with this body; none for a split, which has no participant
 abbrev pub offer_for : Core → Body → Option Offer
 offer_for core At.Merge = Some (offer_with core At.Merge)
 offer_for core (At.Repart at) = Some (offer_with core (At.Repart at))
 offer_for core (At.Migrate node) = Some (offer_with core (At.Migrate node))
 offer_for core (At.Split at child) = None
 
--- what a coordinator asks of a watcher: that `next` stand before it, where `old` stands
+-- what a coordinator asks of a watcher: to have `next` as predecessor in place of `old`
 abbrev pub watch_with : Core → Draw → Draw → Link → Watch
 watch_with core part old next = record { coord = core.id; members = core.members; part = part; old = old; next = next; by = 0 }
 
--- of a merge the watcher is known when the participant was heard: its successor
+-- what a coordinator asks of a merge's watcher, once it has heard the participant: the watcher is the participant's successor
 abbrev pub merge_watch : Core → Option Heard → Option Watch
 merge_watch core None = None
 merge_watch core (Some heard) = Some (watch_with core heard.frozen.succ.group core.succ.group (merged_link core heard.frozen))
 
--- the watch of a transaction: of a split the successor watches, and of a moved boundary or member nobody
+-- what a coordinator asks of the watcher of a transaction with this body: a split's watcher is the successor, and a moved boundary or a handed-over member has none
 abbrev pub watch_for : Core → Body → Option Heard → Option Watch
 watch_for core At.Merge heard = merge_watch core heard
 watch_for core (At.Repart at) heard = None
@@ -96,7 +96,7 @@ watch_for core (At.Split at child) heard = Some (watch_with core core.succ.group
 
 -- ---- what an entry adds
 
--- a transaction that is begun
+-- the story of a transaction at the entry that begins it
 abbrev pub new_story : Group → Body → Story
 new_story group body = record {
   coordinator = group.core.id;
@@ -109,13 +109,13 @@ new_story group body = record {
   outcome = None;
 }
 
--- a participant's vote, as the group that casts it makes it: a Yes hands over what it has
+-- a participant's vote, as the group that votes makes it: a Yes hands over what the group has
 abbrev pub vote_by : Group → Past → Option Vote
 vote_by group Cast.Yes = Some (Ballot.Yes (frozen_of group))
 vote_by group (Cast.No why) = Some (Ballot.No why)
 vote_by group Cast.Ended = None
 
--- the vote that an entry casts, if it casts one
+-- the participant's vote that an entry casts, if it casts one
 abbrev pub vote_in : Group → Effect → Option Vote
 vote_in group (Voted past) = vote_by group past
 vote_in group _ = None
@@ -125,31 +125,31 @@ abbrev pub watch_vote_in : Effect → Option Past
 watch_vote_in (Voted past) = Some past
 watch_vote_in _ = None
 
--- a story with a vote, if there is one
+-- a story with this participant's vote, if there is one
 abbrev pub with_vote : Option Vote → Story → Story
 with_vote None story = story
 with_vote (Some vote) story = record story { vote = Some vote }
 
--- with a watcher's vote, if there is one
+-- a story with this watcher's vote, if there is one
 abbrev pub with_watch_vote : Option Past → Story → Story
 with_watch_vote None story = story
 with_watch_vote (Some past) story = record story { watch_vote = Some past }
 
--- with an outcome, if there is one
+-- a story with this outcome, if there is one
 abbrev pub with_decision : Option Outcome → Story → Story
 with_decision None story = story
 with_decision (Some outcome) story = record story { outcome = Some outcome }
 
--- with the watch that a participant's Yes asks for
+-- a story with what the watcher of a merge is asked after the participant's Yes
 abbrev pub with_asked : Core → Vote → Story → Story
 with_asked core (Ballot.Yes frozen) story = record story { watch = merge_watch core (Some (record { frozen = frozen; by = 0 })) }
 with_asked core (Ballot.No why) story = story
 
--- what a participant's vote adds, where it is recorded: it decides, or the watcher is asked
+-- a story after the coordinator records the participant's vote: the vote decides, or the watcher is asked
 abbrev pub with_answer : Core → Vote → Effect → Story → Story
 with_answer core vote effect story = if is_changed effect then with_asked core vote story else with_decision (decided_in effect) story
 
--- the stories after an entry of the log of a group, as it was before
+-- the stories after an entry of a group's log, by the group before it and the entry's effect
 abbrev pub stories_after : Group → Command → Effect → Stories → Stories
 stories_after group (Split at child order) effect stories =
     if is_changed effect && not (is_alone group.core) then put stories child (Some (new_story group (At.Split at child))) else stories

@@ -1,6 +1,6 @@
 //! The law of entries: what the entries of all logs make of the groups and of the ring, where each
-//! entry is allowed by what was told before it. Nested consensus without mail, as in Scatter
-//! (SOSP 2011). Definitions and laws, no logic.
+//! entry is allowed by what the entries before it record. This is nested consensus without mail
+//! (Scatter, SOSP 2011, multi-group operations). Definitions and laws; no code that runs.
 #![tactic(auto)]
 
 ghost use Rattle.sc_ring_law.specs.Laws.{EntriesKeepTheRing, EntriesKeepThePromises};
@@ -8,42 +8,46 @@ ghost use Rattle.sc_ring_law.specs.Laws.{AllowedEntriesStayAllowed, AllowedLists
 ghost use Rattle.sc_ring_law.specs.Laws.{DrawsAreOfOneLog};
 ghost use Rattle.sc_ring_law.specs.Example.{MergeIsAllowed, SplitIsAllowed};
 
-/// After every list of allowed entries the ring covers; the effective record of each cut's group
-/// is not gone, has the cut's arc and names its two neighbours, itself where it is alone; and a
-/// group that serves a key is the group of the cut that holds its position.
+/// Shows that after every list of allowed entries, from groups in place (`BeginInPlace`), the ring
+/// covers; that the effective record of each range's group is not gone, has the range's arc and
+/// names its two neighbours, itself where it is alone; and that a group that serves a key is the
+/// group of the range that holds the key's position.
 pub fn entries_keep_the_ring()
     ensures { EntriesKeepTheRing }
 {}
 
-/// After every list of allowed entries each lock, vote and decision is as was told: a coordinator
-/// is as it was at the entry that began its transaction until it decides, a participant is as it
-/// was frozen from its Yes to the end, and a watcher watches.
+/// Shows that after every list of allowed entries, from groups in place, each lock, vote and
+/// decision is as the stories record it: a coordinator is as it was at the entry that began its
+/// transaction until it decides, a participant is as it was frozen from its Yes to the end, and a
+/// watcher watches.
 pub fn entries_keep_the_promises()
     ensures { EntriesKeepThePromises }
 {}
 
-/// A name stands in the Begins and Splits of one group's log alone.
+/// Shows that a name occurs in the Begins and Splits of one group's log alone.
 pub fn draws_are_of_one_log()
     ensures { DrawsAreOfOneLog }
 {}
 
-/// What allows an entry only grows: an entry that is allowed stays allowed after more entries.
+/// Shows that what allows an entry only grows: an entry that is allowed stays allowed after more
+/// allowed entries, from groups in place.
 pub fn allowed_entries_stay_allowed()
     ensures { AllowedEntriesStayAllowed }
 {}
 
-/// Lists that are allowed one after another are allowed as one.
+/// Shows that lists that are allowed one after another are allowed as one list.
 pub fn allowed_lists_append()
     ensures { AllowedListsAppend }
 {}
 
-/// A worked list of entries, so that the laws are about something: a merge with a watcher, with
-/// calls before, between and after.
+/// Shows a list of entries to which the laws apply: a merge with a watcher, with calls before,
+/// between and after.
 pub fn merge_is_allowed()
     ensures { MergeIsAllowed }
 {}
 
-/// Another: a split that is given up, and ordered again under another name.
+/// Shows a second list of entries to which the laws apply: a split that is given up, and ordered
+/// again under another name.
 pub fn split_is_allowed()
     ensures { SplitIsAllowed }
 {}

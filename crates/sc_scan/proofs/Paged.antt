@@ -46,7 +46,7 @@ past_last first (next ∷ more) rest apart =
     ∙ ap (λ key. after_key key ((next ∷ more) ++ rest)) (sym k.2)
     ∙ past_last next more rest apart.1
 
--- behind the last key of a first part comes the rest
+-- behind the last key of a prefix comes the rest
 behind_last : (front rest : List Pair) → HaveKeysOnce (front ++ rest) → after_key (last_key front) (front ++ rest) ≡ rest
 behind_last [] rest apart = refl
 behind_last (first ∷ front) rest apart = past_last first front rest (pairwise_from KeysDiffer ((first ∷ front) ++ rest) apart)

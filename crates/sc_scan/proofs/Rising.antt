@@ -24,12 +24,12 @@ use Rattle.sc_scan.proofs.Pairs.{pairwise_append}
 
 -- ---- the position of a key, byte by byte
 
--- the weight of a byte that so many more follow
+-- the weight of a byte that a number of more bytes follow
 abbrev weight : ℕ → ℕ
 weight zero = 1
 weight (suc more) = 256 * weight more
 
--- what so many first bytes of a key make
+-- what a number of first bytes of a key make
 abbrev front : ℕ → List ℕ → ℕ
 front zero key = 0
 front (suc more) [] = 0

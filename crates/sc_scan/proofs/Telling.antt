@@ -1,4 +1,4 @@
--- What a scan tells, where rows make one map and entries are logs.
+-- What a scan says, where rows make one map and entries are logs.
 use Rattle.std.proofs.Common.{◌≡◌, ℕ, inl, inr, List, [], ◌∷◌, map, length, find, Option, Some, None, refl, sym, ◌∙◌, ap, subst}
 use Rattle.std.specs.Prelude.{IsTrue}
 use Rattle.std.specs.List.{filter}

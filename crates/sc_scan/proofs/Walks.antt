@@ -81,7 +81,7 @@ parts_stop ring arc some e = parts_step ring arc some ∙ ap (λ o. parts_from o
 pub parts_end : (ring : List Cut) (arc rest : Arc) (before : List Part) → 1 ≤ rest.len → find (holds_start rest) ring ≡ None → before ++ parts_in ring rest ≡ parts_in ring arc → before ≡ parts_in ring arc
 parts_end ring arc rest before some none so_far = sym (ap (λ xs. before ++ xs) (parts_stop ring rest some none) ∙ append-nil before) ∙ so_far
 
--- and so where nothing is left
+-- where nothing is left, those so far are all
 pub parts_over : (ring : List Cut) (arc rest : Arc) (before : List Part) → rest.len ≡ 0 → before ++ parts_in ring rest ≡ parts_in ring arc → before ≡ parts_in ring arc
 parts_over ring arc rest before over so_far = sym (ap (λ xs. before ++ xs) (parts_none ring rest over) ∙ append-nil before) ∙ so_far
 

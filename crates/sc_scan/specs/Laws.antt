@@ -1,4 +1,4 @@
--- What a scan tells of the store: its parts share the arc, its pairs are the map's, and each part is what its group's log gives.
+-- What a scan says of the store: its parts share the arc, its pairs are the map's, and each part is what its group's log gives.
 use Rattle.std.specs.Prelude.{◌≡◌, ◌↔◌, ℕ, ◌<◌, ◌≤◌, ◌^◌, IsTrue, List, ◌++◌, map, length, drop, AllPairs, Some, None}
 use Rattle.std.specs.List.{flat_map}
 use Rattle.std.specs.FinMap.{empty, entries, get}
@@ -29,7 +29,7 @@ use Rattle.sc_scan.specs.Walk.{parts_in}
 
 -- ---- the parts
 
--- a part lies within the cut of its group
+-- a part lies within a range of its group
 pub record IsWithinCut (ring : List Cut) (part : Part) : Type 0 where
   pub cut : Cut
   pub stands : Among cut ring
@@ -42,17 +42,17 @@ ShareNothing part other = (p : ℕ) → IsTrue (holds part.arc p) → IsTrue (ho
 
 -- the parts cover an arc once
 pub record ShareArc (ring : List Cut) (arc : Arc) (parts : List Part) : Type 0 where
-  -- each is an arc, within the cut of its group
+  -- each part has an arc of the ring and lies within a range of its group
   pub arcs : (part : Part) → Among part parts → IsArc part.arc × (part.arc.lo < 2 ^ 32)
   pub cuts : (part : Part) → Among part parts → IsWithinCut ring part
-  -- each position of the arc lies in one
+  -- each position of the arc lies in a part
   pub some : (p : ℕ) → IsTrue (holds arc p) → (part : Part) × Among part parts × IsTrue (holds part.arc p)
-  -- none lies in two
+  -- no position lies in two parts
   pub once : AllPairs ShareNothing parts
-  -- and no other position lies in one
+  -- no position outside the arc lies in a part
   pub only : (part : Part) → Among part parts → (p : ℕ) → IsTrue (holds part.arc p) → IsTrue (holds arc p)
 
--- the walk through a ring that covers shares each arc
+-- the walk through a ring that covers shares each arc out
 abbrev pub WalksShareArcs : Type 0
 WalksShareArcs = (ring : List Cut) → Covers ring → (arc : Arc) → IsArc arc → arc.lo < 2 ^ 32 → ShareArc ring arc (parts_in ring arc)
 
@@ -76,29 +76,29 @@ pub record IsOfItsLog (ahead : Ahead) (bases : List Base) (rows : List (Row Mail
 
 -- ---- all together
 
--- what an arc holds after some rows is told by this scan
+-- a scan is what an arc holds after some rows: its parts share the arc, its pairs are the map's, and each part is of its group's log
 pub record TellsStore (ahead : Ahead) (bases : List Base) (rows : List (Row Mail OrderLine)) (arc : Arc) (scan : List Shown) : Type 0 where
   pub parts : ShareArc (world_at ahead bases rows).ring arc (map (λ shown. shown.part) scan)
   pub pairs : HasMap (world_at ahead bases rows) arc scan
   pub logs : (shown : Shown) → Among shown scan → IsOfItsLog ahead bases rows shown
 
--- a scan of rows that make one map tells what the arc holds
+-- a scan of rows that make one map, and whose entries are the logs of their groups, is what the arc holds
 abbrev pub ScansTell : Type 0
 ScansTell = (ahead : Ahead) (bases : List Base) (rows : List (Row Mail OrderLine)) → IsOneMap (world_at ahead bases rows) → AreItsLogs ahead bases rows
     → (arc : Arc) → IsArc arc → arc.lo < 2 ^ 32 → TellsStore ahead bases rows arc (scan_at ahead bases rows arc)
 
--- where entries are logs, a group has as many entries as its log
+-- where entries are logs, a scan that counts each group's entries is one that takes the length of its log
 abbrev pub EntriesCountLogs : Type 0
 EntriesCountLogs = (ahead : Ahead) (bases : List Base) (rows : List (Row Mail OrderLine)) → AreItsLogs ahead bases rows
     → (arc : Arc) → scan_of (world_at ahead bases rows) (entries_in (entries_at ahead bases rows)) arc ≡ scan_at ahead bases rows arc
 
 -- ---- pages
 
--- pages of some pairs each, at least one, of a list that has each key once
+-- pages of at least one pair, of a list that has each key once, follow one another
 pub record PagesFollow : Type 0 where
-  -- where more pairs are left than a page takes, behind its key come all that it leaves, wherever in the list it begins
+  -- where more pairs are left than a page takes, all that it leaves comes behind its key, wherever in the list the page begins
   pub next : (most : ℕ) (front rest : List Pair) → HaveKeysOnce (front ++ rest) → 0 < most → most < length rest → after_key (next_key most rest) (front ++ rest) ≡ drop most rest
-  -- a page that takes all that is left is the last
+  -- a page that takes all that is left gives no key
   pub last : (most : ℕ) (rest : List Pair) → length rest ≤ most → next_key most rest ≡ None
-  -- so the pages from the front on, one after another, are the list
+  -- the pages from the start on, one after another, are the list
   pub whole : (most many : ℕ) (all : List Pair) → HaveKeysOnce all → 0 < most → length all ≤ many → flat_map (λ page. page) (pages_from many most all None) ≡ all

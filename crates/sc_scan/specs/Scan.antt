@@ -1,4 +1,4 @@
--- What an arc of the circle holds, part by part: each part with the number of entries of its group's log, and its pairs in order, by the group's effective record.
+-- What an arc of the ring holds, part by part: each part with the number of entries of its group's log, and its pairs in order, by the group's effective record.
 use Rattle.std.specs.Prelude.{ℕ, List, [], map, length, count_by, Option, Some, None}
 use Rattle.std.specs.List.{flat_map}
 use Rattle.std.specs.FinMap.{entries}
@@ -20,20 +20,20 @@ use Rattle.sc_scan.specs.declared.scans.Shown.{Shown}
 use Rattle.sc_scan.specs.Order.{Pair, ordered}
 use Rattle.sc_scan.specs.Walk.{parts_in}
 
--- the pairs of a group, if there is one
+-- the pairs of a group; none where there is no group
 abbrev pub pairs_in : Option Group → List Pair
 pairs_in None = []
 pairs_in (Some group) = entries group.pairs
 
--- what is shown of a part
+-- what a scan shows of a part, by the function that gives the length of each log
 abbrev pub shown : StoreWorld → (Draw → ℕ) → Part → Shown
 shown world slot part = record { part = part; slot = slot part.group; pairs = ordered part.arc (pairs_in (effective world part.group)) }
 
--- what an arc holds in a world, whose logs are so long
+-- what an arc holds in a world, by the function that gives the length of each log
 abbrev pub scan_of : StoreWorld → (Draw → ℕ) → Arc → List Shown
 scan_of world slot arc = map (shown world slot) (parts_in world.ring arc)
 
--- how many of these entries are of a group's log
+-- the number of these entries that are of a group's log
 abbrev pub entries_in : List LogEntry → Draw → ℕ
 entries_in entries name = count_by (λ entry. same_draw entry.group name) entries
 

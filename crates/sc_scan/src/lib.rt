@@ -1,5 +1,5 @@
-//! Ordered scans: what an arc of the circle holds after some rows, part by part across the groups
-//! that share it, each part with the log slot that it stands for, in pages.
+//! Ordered scans: what an arc of the ring holds after some rows, part by part across the groups
+//! that share it, each part with the length of its group's log; and the text of a scan, in pages.
 #![tactic(auto)]
 
 mod laws;

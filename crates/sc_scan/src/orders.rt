@@ -1,4 +1,4 @@
-//! The pairs of a part, in their order.
+//! The pairs of a part of an arc, in the order of the ring from the part's start on.
 ghost use Rattle.std.specs.Prelude.{◌≡◌, ◌<◌, ◌^◌, ◌++◌, ◌∷◌, [], not, AllPairs, IfOk, OnOk};
 ghost use Rattle.std.specs.List.{filter};
 ghost use Rattle.sc_base.specs.Among.{Each};
@@ -9,7 +9,7 @@ ghost use Rattle.sc_scan.specs.Order.{held, is_low, ordered, ComesBefore};
 use sc_base::{Dup, Key, OutOfMemory, Pairs, RingArc, Value};
 use std::alloc::Global;
 
-// Says that the keys are texts, as each key is; it does nothing.
+// Proves that the keys are texts, as each key is. It has no effect.
 fn have_texts(pairs: &[(Key, Value)])
     ensures { Each (λ pair. IsText longest_key pair.0) pairs.now }
 {
@@ -18,7 +18,7 @@ fn have_texts(pairs: &[(Key, Value)])
     }
 }
 
-// Adds a pair at the end.
+// Appends a copy of a pair.
 fn add(alloc: Global, list: &mut Vec<(Key, Value)>, pair: &(Key, Value)) -> Result<(), OutOfMemory>
     ensures { OnOk result (list.new.items ≡ list.old.items ++ pair.now ∷ []) }
 {
@@ -28,7 +28,8 @@ fn add(alloc: Global, list: &mut Vec<(Key, Value)>, pair: &(Key, Value)) -> Resu
     Ok(())
 }
 
-// Adds those of the pairs whose keys the part holds from its start up to the top of the circle.
+// Appends those pairs whose keys the part holds from its start up to the end of the ring, in the
+// order in which they are given.
 fn add_high(
     alloc: Global,
     list: &mut Vec<(Key, Value)>,
@@ -47,7 +48,8 @@ fn add_high(
     Ok(())
 }
 
-// Adds those whose keys the part holds below its start, where it goes over the top of the circle.
+// Appends those pairs whose keys the part holds at positions below its start, where it goes over
+// the end of the ring.
 fn add_low(
     alloc: Global,
     list: &mut Vec<(Key, Value)>,
@@ -68,8 +70,8 @@ fn add_low(
     Ok(())
 }
 
-/// The pairs whose keys a part holds, by the distance of their positions from the part's start, and
-/// by the order of their keys where positions are the same.
+/// Returns the pairs whose keys a part holds, by the distance of their positions from the part's
+/// start, and by their keys where positions are the same. The only error is out of memory.
 pub fn ordered(
     alloc: Global,
     part: &RingArc,

@@ -7,7 +7,8 @@ use crate::pages::Page;
 use sc_base::{Dup, Key, OutOfMemory, Value};
 use std::alloc::Global;
 
-// How many pairs there are up to the first with a key, and with it; none where no key is given.
+// Returns the number of pairs up to and with the first one of a key: the length of the list where
+// no pair has the key, and 0 where no key is given.
 fn place_after(all: &[(Key, Value)], after: Option<&Key>) -> usize
     ensures within { result ≤ length all.now }
     ensures rest { drop result all.now ≡ after_key (option_copied after.entry) all.now }
@@ -42,11 +43,11 @@ fn last_key(alloc: Global, pairs: &[(Key, Value)]) -> Result<Option<Key>, OutOfM
     }
 }
 
-/// The first `most` pairs behind a key of the list, or from the front where none is given, and the
-/// last of their keys where more pairs follow. Where the keys of the list differ and `most` is at
-/// least 1, the pages from the front on, each behind the key that the one before it gave, until one
-/// gives none, are the list (`pages_follow`). A page of no pairs gives no key, and behind a key that
-/// the list does not have there is nothing.
+/// Returns the first `most` pairs behind a key of the list, or from the start where no key is
+/// given, and the last of their keys where more pairs follow. A page of no pairs gives no key, and
+/// behind a key that the list lacks there is nothing. Where the keys of the list differ and `most`
+/// is at least 1, the pages from the start on, each behind the key that the one before it gave,
+/// until one gives none, are the list (`pages_follow`). The only error is out of memory.
 pub fn page(
     alloc: Global,
     all: &[(Key, Value)],

@@ -73,7 +73,7 @@ fn pair_line(alloc: Global, pair: &(Key, Value)) -> Result<ReportLine, OutOfMemo
     ended(line)
 }
 
-// The lines of a pair: its own, and where a page ends with it, `page`.
+// Appends the line of a pair, and the line `page` where a page ends with the pair.
 fn add_pair(
     alloc: Global,
     all: &mut Sequence<ReportLine>,
@@ -96,7 +96,8 @@ fn ends_page(most: u32, total: u64, number: u64) -> bool
     number % most as u64 == 0 && number < total
 }
 
-// The lines of pairs, before which so many came. Answers how many came with them.
+// Appends the lines of pairs, before which `number` pairs of all came. Returns how many came with
+// these.
 fn add_pairs(
     alloc: Global,
     all: &mut Sequence<ReportLine>,
@@ -154,7 +155,8 @@ fn add_parts(
     Ok(())
 }
 
-// How many pairs all parts have; so many fit into memory.
+// Returns the number of pairs of all parts. It reports out of memory where a `u64` does not hold
+// the number.
 fn total_of(scan: &[Shown]) -> Result<u64, OutOfMemory>
     ensures { IfOk result (λ total. total ≡ length (all_pairs scan.now)) }
 {
@@ -168,9 +170,10 @@ fn total_of(scan: &[Shown]) -> Result<u64, OutOfMemory>
     Ok(total)
 }
 
-/// The lines of a scan of so many rows: `scatter scan 1`; `rows R`; of each part
+/// Returns the lines of a scan of the first `rows` rows: `scatter scan 1`; `rows R`; for each part
 /// `part LO LEN group G slot N` and then `pair K V` for each pair; last `pairs T`. After every
-/// `most` pairs of all parts, from 1 on, comes the line `page` where more pairs follow.
+/// `most` pairs of all parts comes the line `page`, where more pairs follow. The only error is out
+/// of memory.
 pub fn scan_lines(
     alloc: Global,
     most: u32,

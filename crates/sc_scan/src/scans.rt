@@ -18,18 +18,19 @@ use sc_mail::Mail;
 use sc_store_world::{StoreWorld, world_of};
 use std::alloc::Global;
 
-/// What is shown of a part of an arc.
+/// What a scan shows of a part of an arc.
 #[derive(Drop)]
 pub struct Shown {
-    /// Its positions, and the group that has them.
+    /// The positions of the part, and the group that has them.
     pub part: Part,
-    /// How many entries the group's log has.
+    /// The number of entries of the group's log.
     pub slot: u64,
-    /// The pairs there, by the distance of their positions from the part's start.
+    /// The pairs of the part, by the distance of their positions from the part's start, and by
+    /// their keys where positions are the same.
     pub pairs: Sequence<(Key, Value)>,
 }
 
-// How many of these entries are of a group's log.
+// Returns how many of these entries are of a group's log.
 fn entries_in(entries: &[LogEntry], name: Draw) -> u64
     ensures { result ≡ entries_in entries.now name }
 {
@@ -40,7 +41,7 @@ fn entries_in(entries: &[LogEntry], name: Draw) -> u64
     count as u64
 }
 
-// The pairs of a group by its effective record, if there is one.
+// Returns the pairs of a group by its effective record; none where there is no such group.
 fn pairs_in(alloc: Global, world: &StoreWorld, name: Draw) -> Result<Pairs, OutOfMemory>
     ensures { IfOk result (λ pairs. pairs ≡ pairs_in (effective world.now name)) }
 {
@@ -67,7 +68,7 @@ fn show(
     })
 }
 
-// What an arc holds in a world that these entries made.
+// Returns what an arc holds in a world that these entries made.
 fn scan_of(
     alloc: Global,
     world: &StoreWorld,
@@ -87,9 +88,9 @@ fn scan_of(
     Ok(scan)
 }
 
-/// What an arc of the circle holds after some rows, part by part, from the arc's start on, where the
-/// ring covers after each of their entries. The rows are gone through once, whatever groups there
-/// are. Refused only for want of memory.
+/// Returns what an arc of the ring holds after some rows, part by part from the arc's start on. The
+/// caller ensures that the ring covers after each of the rows' entries. The rows are read once,
+/// whatever groups there are. The only error is out of memory.
 pub fn scan(
     alloc: Global,
     bases: &[Base],

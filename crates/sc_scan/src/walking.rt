@@ -1,4 +1,4 @@
-//! The parts of an arc, in the cuts of a ring.
+//! The parts of an arc, by the ranges of a ring.
 ghost use Rattle.std.specs.Prelude.{◌≡◌, ◌<◌, ◌≤◌, ◌^◌, IsTrue, find, IfOk};
 ghost use Rattle.std.specs.Option.{option_copied};
 ghost use Rattle.sc_base.specs.Arc.{holds, IsArc};
@@ -8,16 +8,16 @@ use sc_base::{Draw, OutOfMemory, RingArc};
 use sc_log_entries::Cut;
 use std::alloc::Global;
 
-/// A part of an arc, and the group in whose cut it lies.
+/// A part of an arc, and the group in whose range it lies.
 #[derive(Clone, Copy)]
 pub struct Part {
     /// The positions of the part.
     pub arc: RingArc,
-    /// The group that has them.
+    /// The group that has these positions.
     pub group: Draw,
 }
 
-// How far a cut reaches from a position that it holds.
+// Returns how many positions a range has from a position on that it holds.
 fn reach(cut: &Cut, p: u32) -> u64
     requires { IsTrue (holds cut.now.arc p) }
     ensures same { result ≡ reach cut.now p }
@@ -26,7 +26,7 @@ fn reach(cut: &Cut, p: u32) -> u64
     cut.arc.len() - p.wrapping_sub(cut.arc.lo()) as u64
 }
 
-// The part with which so many positions from one on begin, in the cut that holds the first.
+// Returns the part with which `len` positions from `lo` on begin, in the range that holds `lo`.
 fn first_part(lo: u32, len: u64, cut: &Cut) -> Part
     requires some { 1 ≤ len }
     requires most { len ≤ 2 ^ 32 }
@@ -44,16 +44,16 @@ fn first_part(lo: u32, len: u64, cut: &Cut) -> Part
     }
 }
 
-// The cut that holds a position.
+// Returns the first range that holds a position, if one does.
 fn cut_at(ring: &[Cut], lo: u32) -> Option<&Cut>
     ensures { option_copied result ≡ find (λ cut. holds cut.arc lo) ring.now }
 {
     ring.iter().find(|cut| cut.arc.holds(lo))
 }
 
-/// The parts of an arc, from its start on: each starts where the last ended, lies in the cut that
-/// holds its start, and ends with that cut or with the arc. Where no cut holds a start, no more
-/// parts come.
+/// Returns the parts of an arc, from its start on: each starts where the last one ended, lies in a
+/// range that holds its start, and ends with that range or with the arc. Where no range holds a
+/// start, no more parts come. The only error is out of memory.
 pub fn parts(alloc: Global, ring: &[Cut], arc: &RingArc) -> Result<Vec<Part>, OutOfMemory>
     ensures parts { IfOk result (λ parts. parts.items ≡ parts_in ring.now arc.now) }
     ensures arc { IsArc arc.now × (arc.now.lo < 2 ^ 32) }

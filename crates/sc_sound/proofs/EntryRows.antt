@@ -21,7 +21,7 @@ pub entries-push : (ahead : Ahead) (bases : List Base) (rows : List (Row Mail Or
     → entries_at ahead bases (rows ++ row ∷ []) ≡ entries_at ahead bases rows ++ entries_by_row ahead bases rows row
 entries-push ahead bases rows row = entries_by_rows-push ahead bases [] rows row
 
--- what a row decides is told to the world before it
+-- what a row decides is applied to the world before it
 pub world-push : (ahead : Ahead) (bases : List Base) (rows : List (Row Mail OrderLine)) (row : Row Mail OrderLine)
     → world_at ahead bases (rows ++ row ∷ []) ≡ world_after (world_at ahead bases rows) (entries_by_row ahead bases rows row)
 world-push ahead bases rows row =

@@ -16,7 +16,7 @@ mail from to body = record { from = from; to = to; body = body }
 abbrev split : Command
 split = Split 1828716544 (draw 1 1) 1
 
--- node 1 is told to split the group, and offers it; both nodes accept
+-- node 1 gets the order to split the group, and offers it; both nodes accept
 abbrev first : Row Mail OrderLine
 first = row 1 (Told (record { number = 1; order = Ordered.Split (draw 0 1) 1828716544 }))
     (mail 1 1 (Accept (draw 0 1) ballot 1 split) ∷ mail 1 2 (Accept (draw 0 1) ballot 1 split) ∷ [])
@@ -34,7 +34,7 @@ early_entries = refl
 early_groups : map (λ base. base.core.id) (groups_at four groups (first ∷ second ∷ [])) ≡ draw 0 1 ∷ []
 early_groups = refl
 
--- the third row decides the split, by which the child is born
+-- the third row decides the split, which creates the child
 third_entries : entries_at four groups (first ∷ second ∷ third ∷ []) ≡ entry (draw 0 1) 1 split ∷ []
 third_entries = refl
 

@@ -1,4 +1,4 @@
--- The definitions of this crate that others cite, under one name.
+-- Re-exports of the definitions of this crate that others cite.
 pub use Rattle.sc_sound.specs.Accepts.{is_accepted, accepts_of, accepts_got, accepts_at, accepts_from, accepts}
 pub use Rattle.sc_sound.specs.Example.{alone, put_it, get_it, ballot, mail, row, example_rows, put_get_scenario, four, example_history}
 pub use Rattle.sc_sound.specs.GroupsOf.{entries_at, groups_at, children_of, birth_at, is_birth_of, world_at, log_at, history_at, children_by, with_birth, with_next_children, with_descendants, log_by, entries_from, entries_after, entries_by_row, AreNamedApart, entries_by_rows, state_at, entries_gained, ring_at}

@@ -1,4 +1,4 @@
--- A journal: a client puts a value at a key and gets it, and the one member of a group leads.
+-- A worked journal: a client puts a value at a key and gets it, from a group of one member, which leads.
 use Rattle.std.specs.Prelude.{ℕ, false, List, [], ◌∷◌, Some, None}
 use Rattle.std.proofs.Common.{lit≤}
 use Rattle.sc_node_table.specs.Values.{Ballot, Op, Get, Put, Call, OrderLine, Value, Mail, MailBody, Request, Answer, Accept, Accepted, Row, Event, Deliver, Go, Entry, Base}
@@ -7,15 +7,15 @@ use Rattle.sc_scenario.specs.declared.scenarios.SchedLine.TheVariants.{Go as GoL
 use Rattle.sc_scenario.specs.declared.scenarios.Scenario.{Scenario}
 use Rattle.sc_sound.specs.Players.{Ahead}
 
--- four slots are open
+-- four slots are open at a time
 abbrev pub four : Ahead
 four = record { slots = 4; some = lit≤ tt }
 
--- the first request: x at the key a
+-- the first request: put x at the key a
 abbrev pub put_it : Op
 put_it = Put (97 ∷ []) (120 ∷ [])
 
--- the second: what is at a
+-- the second request: get the value at the key a
 abbrev pub get_it : Op
 get_it = Get (97 ∷ [])
 
@@ -23,11 +23,11 @@ get_it = Get (97 ∷ [])
 abbrev pub ballot : Ballot
 ballot = record { round = 1; node = 1 }
 
--- what a row sends, of one mail
+-- the list of one mail with this sender, receiver and body
 abbrev pub mail : ℕ → ℕ → MailBody → List Mail
 mail from to body = record { from = from; to = to; body = body } ∷ []
 
--- a row of the journal
+-- a row of this actor, event and mail
 abbrev pub row : ℕ → Event OrderLine → List Mail → Row Mail OrderLine
 row who event sent = record { who = who; event = event; sent = sent }
 
@@ -44,11 +44,11 @@ example_rows =
     ∷ row 1 (Deliver 7) (mail 1 33 (Answer lone_name 2 (Value (record { old = Some (120 ∷ []) }))))
     ∷ row 33 (Deliver 8) [] ∷ []
 
--- its group: the whole circle, with one member
+-- the group of the journal: the whole ring, with one member
 abbrev pub alone : Base
 alone = lone_group 0 (1 ∷ [])
 
--- its scenario
+-- the scenario of the journal
 abbrev pub put_get_scenario : Scenario
 put_get_scenario = record {
   nodes = 1;
@@ -60,7 +60,7 @@ put_get_scenario = record {
   version = 1;
 }
 
--- its history
+-- the history of the journal
 abbrev pub example_history : List Entry
 example_history =
     (record { client = 1; seq = 1; op = put_it; reply = record { old = None } })

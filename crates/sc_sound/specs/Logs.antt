@@ -6,11 +6,11 @@ use Rattle.sc_sound.specs.Players.{Ahead}
 use Rattle.sc_paxos_law.specs.Definitions.{Rule, IsChosenAfter, log_of}
 use Rattle.sc_sound.specs.Accepts.{accepts}
 
--- the members of a slot are those in the state after the entries up to so many slots before it (Paxos Made Simple, section 3)
+-- the rule by which a group's log gives the members of a slot: they are those in the group's state after the entries at least `ahead` slots before it (Paxos Made Simple, section 3)
 abbrev pub rule_of : Ahead → Base → Rule Command
 rule_of ahead base = record { ahead = ahead.slots; some = ahead.some; members = λ entries. (state_after (group_of base) entries).core.members }
 
--- a command is chosen at a slot, whose members come from these entries: a majority of them accepted it in one ballot
+-- a command is chosen at a slot, whose members the given log determines: a majority of them accepted it in one ballot
 abbrev pub IsChosenIn : Ahead → Base → List (Row Mail OrderLine) → List Command → ℕ → Command → Type 0
 IsChosenIn ahead base rows log slot command = IsChosenAfter (rule_of ahead base) (accepts base.core.id rows) log slot command
 
@@ -18,6 +18,6 @@ IsChosenIn ahead base rows log slot command = IsChosenAfter (rule_of ahead base)
 abbrev pub decided_log : Ahead → Base → List (Row Mail OrderLine) → List Command
 decided_log ahead base rows = log_of (rule_of ahead base) (accepts base.core.id rows)
 
--- the group's state by its decided log
+-- the group's state after its decided log
 abbrev pub decided_state : Ahead → Base → List (Row Mail OrderLine) → Group
 decided_state ahead base rows = state_after (group_of base) (decided_log ahead base rows)

@@ -1,4 +1,4 @@
--- The players of a scenario, as the system that the walk runs: each node and each client as the value of its table.
+-- The players of a scenario as the system that the walk runs: each node and each client is a value of its table.
 use Rattle.std.specs.Prelude.{ℕ, ◌+◌, ◌≤◌, Bool, List, [], ◌∷◌, ◌++◌, length, map, All}
 use Rattle.std.proofs.Common.{lit≤}
 use Rattle.sc_node_table.specs.Values.{Reply, Base, Route, OrderLine, Mail, Row, Seat, Line, Role, Node, Client}
@@ -13,20 +13,20 @@ use Rattle.sc_node_table.specs.Definitions.{slots_ahead, numbers_from, NodeState
 use Rattle.sc_client_table.specs.Definitions.{Client as ClientState, born_client, table}
 use Rattle.sc_mail.specs.Definitions.{role_table}
 
--- a node or a client, as the value of its table
+-- a node or a client, as a value of its table
 abbrev pub Player : Type 0
 Player = Role NodeState ClientState
 
--- a player's table is that of its node or of its client
+-- the table of a player: that of nodes or that of clients
 abbrev pub player_table : Table Player Mail OrderLine
 player_table = role_table node_table table
 
--- how many slots are open at a time: at least one
+-- the number of slots that are open at a time, at least one
 pub record Ahead : Type 0 where
   pub slots : ℕ
   pub some : 1 ≤ slots
 
--- as many slots are open as nodes have
+-- the number of open slots that the program's nodes have
 abbrev pub as_nodes : Ahead
 as_nodes = record { slots = slots_ahead; some = lit≤ tt }
 
@@ -34,32 +34,32 @@ as_nodes = record { slots = slots_ahead; some = lit≤ tt }
 abbrev pub most_actor : ℕ
 most_actor = client_actor most_clients
 
--- a node at the birth of the groups, so many slots of which are open at a time: it has a replica of each of which it is a member, and perhaps a policy
+-- a node at its birth, with this many open slots: it has a replica of each group of which it is a member, and a policy where the flag says so
 abbrev pub node_seat : Ahead → List Base → Bool → ℕ → Seat Player
 node_seat ahead groups policy me = record { who = me; actor = Node (born_node ahead.slots me groups policy) }
 
--- the way to a group at its birth
+-- the route that a client is given to a group: its name, its first position and its members
 abbrev pub route_of : Base → Route
 route_of base = record { group = base.core.id; lo = base.core.arc.lo; members = base.core.members }
 
--- a client at its birth: it has its requests, and knows the first group
+-- a client at its birth: it has its requests, and knows one route
 abbrev pub client_seat : Route → Asks → Seat Player
 client_seat first asks = record { who = client_actor asks.client; actor = Client (born_client asks.client asks.ops first) }
 
--- the clients, which ask the scenario's first group
+-- the clients at their births: each knows the scenario's first group
 abbrev pub client_seats : List Base → List Asks → List (Seat Player)
 client_seats [] clients = []
 client_seats (base ∷ bases) clients = map (client_seat (route_of base)) clients
 
--- no client has more requests than it may
+-- no client has more requests than the limit
 abbrev pub AreFew : Scenario → Type 0
 AreFew scenario = All (λ asks. length asks.ops ≤ most_requests) scenario.clients
 
--- the nodes and then the clients, in order of number, as they are born where so many slots are open
+-- the nodes and then the clients at their births, in the order of their numbers, with this many open slots
 abbrev pub births : Ahead → Scenario → List (Seat Player)
 births ahead scenario = map (node_seat ahead scenario.groups scenario.policy) (numbers_from 1 scenario.nodes) ++ client_seats scenario.groups scenario.clients
 
--- a line of a scenario, as the walk takes it
+-- a line of a scenario as a line of the walk
 abbrev pub line_of : SchedLine → Line OrderLine
 line_of (Go client) = line.Go (client_actor client)
 line_of (Deliver who k) = line.Deliver who k
@@ -72,31 +72,31 @@ line_of (Settle most) = line.Settle most
 line_of (Free most workers) = line.Free most workers
 line_of (Storm number most) = line.Storm number most
 
--- the schedule of a scenario
+-- the schedule of a scenario, as lines of the walk
 abbrev pub schedule : Scenario → List (Line OrderLine)
 schedule scenario = map line_of scenario.lines
 
--- whom a mail is for
+-- the receiver of a mail
 abbrev pub receiver_of : Mail → ℕ
 receiver_of mail = mail.to
 
--- the system of a scenario, where so many slots are open, and whatever words its storms draw
+-- the system that the walk runs for a scenario, with this many open slots and these words for storms
 abbrev pub system_of : Ahead → (ℕ → ℕ → ℕ × ℕ) → Scenario → System Player Mail OrderLine
 system_of ahead words scenario = system player_table receiver_of words (births ahead scenario)
 
--- a journal that the scenario allows
+-- the journal is one that the scenario allows
 abbrev pub Lawful : Ahead → (ℕ → ℕ → ℕ × ℕ) → Scenario → List (Row Mail OrderLine) → Type 0
 Lawful ahead words scenario journal = IsLawful (system_of ahead words scenario) (schedule scenario) journal
 
--- a journal that has come past the scenario's last line
+-- the journal has passed the scenario's last line
 abbrev pub Whole : Ahead → (ℕ → ℕ → ℕ × ℕ) → Scenario → List (Row Mail OrderLine) → Type 0
 Whole ahead words scenario journal = IsWhole (system_of ahead words scenario) (schedule scenario) journal
 
--- each player, as its rows leave it
+-- the players after a journal, each as its own rows leave it
 abbrev pub parties : Ahead → Scenario → List (Row Mail OrderLine) → List Player
 parties ahead scenario journal = map (λ seat. seat.actor) (values player_table (births ahead scenario) journal)
 
--- the replies that a player took, in order of its requests: a node takes none
+-- the replies that a player took, in the order of its requests: a node takes none
 abbrev pub replies_of : Player → List Reply
 replies_of (Node node) = []
 replies_of (Client client) = client.replies

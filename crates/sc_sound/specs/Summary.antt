@@ -1,4 +1,4 @@
--- What the report tells of players and rows.
+-- What a report says of the requests of players.
 use Rattle.std.specs.Prelude.{ℕ, ◌+◌, Bool, List, [], ◌∷◌, if◌then◌else◌, Option, Some, None, slice_get}
 use Rattle.sc_node_table.specs.Values.{Op, Reply, Node, Client}
 use Rattle.sc_report.specs.declared.summaries.Progress.{Progress}
@@ -12,16 +12,16 @@ abbrev pub got_by : Option Reply → Bool → Progress
 got_by (Some reply) waits = Replied reply
 got_by None waits = if waits then Unanswered else Unsent
 
--- how far a request came: its client has the reply, waits for it, or has not sent it
+-- how far a client's request with a number came: its client has the reply, waits for it, or has not sent it
 abbrev pub got_of : Option Reply → ClientState → ℕ → Progress
 got_of reply client seq = got_by reply (waits_for client.waiting seq)
 
--- the request after so many
+-- the request of a client after its first `done` requests, with how far it came
 abbrev pub asked_after : ClientState → ℕ → Op → Asked
 asked_after client done op =
     record { client = client.me; seq = done + 1; op = op; got = got_of (slice_get client.replies done) client (done + 1) }
 
--- the client's requests after so many
+-- the requests of a client after its first `done` requests, each with how far it came
 abbrev pub asked_from : ClientState → ℕ → List Op → List Asked
 asked_from client done [] = []
 asked_from client done (op ∷ ops) = asked_after client done op ∷ asked_from client (done + 1) ops

@@ -1,6 +1,7 @@
-//! The players of a scenario, which journals it allows, and what a journal says: chosen commands,
-//! decided logs, its history, and where requests are issued and answered. Players are nodes and
-//! clients as their tables' values. Definitions, no logic but what is told of a request.
+//! What it means that a journal is sound. The players of a scenario (its nodes and clients, as
+//! values of their tables), the journals that the scenario allows, and what a journal shows: chosen
+//! commands, decided logs, the ring, the history, and where requests are issued and answered.
+//! Definitions, and one function of code.
 #![tactic(auto)]
 
 ghost use Rattle.std.specs.Prelude.{◌≡◌, [], ◌∷◌, Some, None};
@@ -14,8 +15,8 @@ mod summaries;
 
 pub use summaries::got_by;
 
-/// The definitions on a small journal: the log and the history of a put and a get, the rows that
-/// decide them and the rows that issue them.
+/// Shows the definitions on a small journal: the log and the history of a put and a get, the rows
+/// that decide the two entries, and the row that issues the second request.
 pub fn a_journal_and_its_history()
     ensures log { decided_log four alone example_rows ≡ Call 1 1 put_it ∷ Call 1 2 get_it ∷ [] }
     ensures first { decided_row four alone 0 example_rows ≡ Some 3 }

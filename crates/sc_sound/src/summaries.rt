@@ -1,11 +1,12 @@
-//! What a report tells of a request.
+//! How far a request came, as a report says it.
 ghost use Rattle.std.specs.Prelude.{◌≡◌};
 ghost use Rattle.sc_sound.specs.Summary.{got_by};
 
 use sc_base::Reply;
 use sc_report::Progress;
 
-/// How far a request came, by its reply and whether its client waits for it.
+/// Returns how far a request came: replied where there is a reply, else unanswered where its client
+/// waits for it, else unsent.
 pub fn got_by(reply: Option<Reply>, waits: bool) -> Progress
     ensures { result ≡ got_by reply waits }
 {

@@ -178,7 +178,7 @@ module _ (ahead : Ahead) (base other : Base) (made made_there : Command → Type
   apart_answer h mail group seq (Says.Value reply) e = λ t. (let no_way : true ≡ false = sym t ∙ e in absurd (cc))
   apart_answer h mail group seq _ e = λ t. tt
 
-  -- ... of whatever mail
+  -- a mail of another group, whatever it is, is true apart from this one
   pub apart_true : (h there : Steps) (mail : Mail) (body : MailBody) → IsApart base.core.id body → IsTrue ahead other made_there heard there mail body → IsTrue ahead base made heard h mail body
   apart_true h there mail (Request group client seq op) e t = calls client seq op t
   apart_true h there mail (Answer group seq answer) e t = apart_answer h mail group seq answer e

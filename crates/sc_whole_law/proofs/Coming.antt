@@ -286,7 +286,7 @@ module _ (group : Group) (P : Command → Group × Effect → Type 0) (k : Cases
 
   -- ---- a party
 
-  -- an end that a participant is told
+  -- an end that a participant learns
   by_outcome : (tx : Draw) → Binds group.core.lock tx → (offer : Offer) (outcome : Outcome) → P (Finish tx outcome) (settled_in (participant_after outcome group offer) group tx outcome)
   by_outcome tx binds offer Is.Abort = k.finished tx binds group Is.Abort (as_it_was group)
   by_outcome tx binds offer (Is.Merged into) = k.finished tx binds (gone_group group into) (Is.Merged into) (record { voted = refl; decided = refl; roster = λ r. r })

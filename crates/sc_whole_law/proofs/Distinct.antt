@@ -26,7 +26,7 @@ apart_put ys tx o new old t story =
     cond_both (same_draw t tx) o (ys t) (λ (x : Option Story). x ≡ Some story → (offer : Offer) (watch : Watch) → story.offer ≡ Some offer → story.watch ≡ Some watch → offer.part ≡ watch.part → ⊥)
     (λ _ e. new story e) (λ _ e. old t story e)
 
--- with one story told anew
+-- with one story that goes on
 apart_retold : (ys : Stories) (tx : Draw) (f : Story → Story) → ((y : Story) → ys tx ≡ Some y → IsApartStory (f y)) → PartiesAreApart ys → PartiesAreApart (retold ys tx f)
 apart_retold ys tx f new old = by (ys tx) refl
   where
@@ -41,7 +41,7 @@ apart_new s (At.Repart at) offer watch o w same = (let no_way : None ≡ Some wa
 apart_new s (At.Migrate node) offer watch o w same = (let no_way : None ≡ Some watch = w in cc)
 apart_new s (At.Split at child) offer watch o w same = (let no_way : None ≡ Some offer = o in cc)
 
--- what is told on keeps whom it asks
+-- a story that goes on keeps whom it asks
 voted_same : (o : Option Vote) (y : Story) → IsApartStory y → IsApartStory (with_vote o y)
 voted_same None y k = k
 voted_same (Some vote) y k = k

@@ -16,14 +16,14 @@ text_sound law text scenario read rows lawful = law four refl no_words scenario 
 pub election_is_read : scenario_of election_text ≡ Some election_scenario
 election_is_read = refl
 
--- .. of the join
+-- the scenario of the join
 pub join_is_read : scenario_of join_text ≡ Some join_scenario
 join_is_read = refl
 
--- .. of two groups
+-- the scenario of two groups
 pub two_are_read : scenario_of two_text ≡ Some two_scenario
 two_are_read = refl
 
--- .. of the split
+-- the scenario of the split
 pub split_is_read : scenario_of split_text ≡ Some split_scenario
 split_is_read = refl

@@ -36,7 +36,7 @@ AllFit ys = (tx : Draw) (y : Story) → ys tx ≡ Some y → FitsStory y
 fit_put : (ys : Stories) (tx : Draw) (o : Option Story) → ((y : Story) → o ≡ Some y → FitsStory y) → AllFit ys → AllFit (put ys tx o)
 fit_put ys tx o new old t story = cond_both (same_draw t tx) o (ys t) (λ (x : Option Story). x ≡ Some story → FitsStory story) (λ _ e. new story e) (λ _ e. old t story e)
 
--- with one story told anew
+-- with one story that goes on
 fit_retold : (ys : Stories) (tx : Draw) (f : Story → Story) → ((y : Story) → ys tx ≡ Some y → FitsStory (f y)) → AllFit ys → AllFit (retold ys tx f)
 fit_retold ys tx f new old = by (ys tx) refl
   where
@@ -166,7 +166,7 @@ replaced name after (group ∷ groups) roster all = (
   replaced name after groups roster all.1,
 )
 
--- a group that is born is so
+-- a group that is created is so
 kids : (o : Option Base) → ((kid : Base) → o ≡ Some kid → IsFresh kid) → HaveRosters (map group_of (option_to_list o))
 kids None f = tt
 kids (Some kid) f = ((f kid refl).roster, tt)

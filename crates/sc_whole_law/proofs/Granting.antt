@@ -41,7 +41,7 @@ noted_found tx outcome (Some noted) e = (noted, refl, cc)
 module _ (sources : Sources) (ahead : Ahead) (scenario : Scenario) (start : BeginInPlace sources scenario.groups) (rows : Rows) (turn : DecideInTurn sources ahead scenario.groups [] rows)
     (apart : PartiesAreApart (stories_at ahead scenario.groups rows)) (fit : MergesFit (stories_at ahead scenario.groups rows))
     (base : Base) (among : Among base (groups_at ahead scenario.groups rows)) (lawful : IsLawfulHistory (rule ahead base) (first ahead base) (h_of rows base)) (fresh : IsFresh base) where
-  -- what all logs told
+  -- the stories of all logs
   abbrev told : Stories
   told = stories_at ahead scenario.groups rows
 
@@ -97,7 +97,7 @@ module _ (sources : Sources) (ahead : Ahead) (scenario : Scenario) (start : Begi
   shared : (c : Command) → Queues c → BeginsShared c
   shared c m tx body order is = (subst Queues is m).0.1
 
-  -- so the group after a log acts by what was told
+  -- so the group after a log acts by what the stories record
   stands : (log : List Command) → Log log → Each Queues log → Stands sources told fit name (after log)
   stands log is all = record {
     allows = state_allows log is;

@@ -15,16 +15,16 @@ use Rattle.sc_whole_law.proofs.Apart.{IsApart, IsNew, IsOldOrNew, named_apart, n
 
 -- a name of one of these groups is one of those
 module _ (heard : MailBody → Type 0) (bases more : List Base) (all : (b : Base) → Among b bases → Among b more) where
-  -- ... of a group
+  -- a group of these is one of those
   more_one : (group : Draw) → IsOneOf bases group → IsOneOf more group
   more_one group (b, a, is) = (b, all b a, is)
 
-  -- ... of an answer
+  -- what an answer names is of those groups
   more_answer : (group : Draw) (answer : AnswerBody) → IsNamedAnswer bases group answer → IsNamedAnswer more group answer
   more_answer group (Says.Value reply) one = more_one group one
   more_answer group _ one = tt
 
-  -- ... of a mail
+  -- what a mail names is of those groups
   more_named : (body : MailBody) → IsNamedIn heard bases body → IsNamedIn heard more body
   more_named (Request group client seq op) one = tt
   more_named (Answer group seq answer) one = more_answer group answer one

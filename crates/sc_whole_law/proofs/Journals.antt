@@ -1,4 +1,4 @@
--- Every lawful journal decides in turn, row by row, whatever its groups order; and one value per slot, executed fronts, issued calls and decided replies hold beside.
+-- Every lawful journal decides in turn, row by row, whatever its groups order; and one value per slot, executed prefixes, issued calls and decided replies hold beside.
 use Rattle.std.proofs.Common.{◌≡◌, ℕ, ◌+◌, ◌≤◌, ◌||◌, not, Bool, cond, List, [], ◌∷◌, ◌++◌, length, Some, None, refl, sym, ◌∙◌, subst, append_assoc, append-nil}
 use Rattle.std.specs.Prelude.{is_some, slice_get}
 use Rattle.std.proofs.lemmas.Bool.{cond-false}
@@ -77,7 +77,7 @@ module _ (sources : Sources) (ahead : Ahead) (words : ℕ → ℕ → ℕ × ℕ
   -- ---- beside, where all holds
 
   module _ (rows : Rows) (h : All rows) where
-    -- a node's replicas have executed fronts
+    -- a node's replicas have executed prefixes
     node_has_run : (n : ℕ) (node : NodeState) → IsNode ahead (bases rows) (MayQueue sources ahead scenario rows) (h_of rows) n node → (r : ReplicaState) → Among r node.replicas
         → (b : Base) × Among b (bases rows) × (b.core.id ≡ name_of r) × HasRun ahead b rows r
     node_has_run n node at r a =
@@ -100,7 +100,7 @@ module _ (sources : Sources) (ahead : Ahead) (words : ℕ → ℕ → ℕ × ℕ
   -- ---- row by row
 
   module _ (all : Rows) (orders : OrdersAreAllowed sources ahead scenario all) where
-    -- what holds of each first part of the journal
+    -- what holds of each prefix of the journal
     abbrev P : Rows → Type 0
     P rows = (more : Rows) → all ≡ rows ++ more → All rows
 
@@ -112,7 +112,7 @@ module _ (sources : Sources) (ahead : Ahead) (words : ℕ → ℕ → ℕ × ℕ
         holds_next sources ahead words scenario route start seats asks_are rows h row (may_tell all rows row more are orders h row.event refl) step
 
     module _ (lawful : Lawful ahead words scenario all) where
-      -- its first parts are lawful
+      -- its prefixes are lawful
       first_lawful : (rows more : Rows) → all ≡ rows ++ more → Lawful ahead words scenario rows
       first_lawful rows more e = lawful-prefix (system_of ahead words scenario) (schedule scenario) rows more (subst (Lawful ahead words scenario) e lawful)
 

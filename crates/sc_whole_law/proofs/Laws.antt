@@ -7,11 +7,11 @@ use Rattle.sc_scenario.proofs.Lemmas.{valid_scenarios_are_bounded}
 use Rattle.sc_whole_law.proofs.StartLaws.{valid_scenarios_begin_well}
 use Rattle.sc_names_law.proofs.Lemmas.{orders_are_allowed_allowed, orders_are_allowed_wishes, orders_are_allowed_positions, names_have_one_owner_others}
 
--- So each first part of a lawful journal is sound, whatever its groups order.
+-- Each prefix of a lawful journal is sound, whatever its groups order.
 pub lawful_journals_are_sound : LawfulJournalsAreSound
 lawful_journals_are_sound = lawful_journals_are_sound_by journals_in_turn_are_sound
 
--- Each first part of a lawful journal of a valid scenario is sound, whatever its orders join, leave, split, merge or move, whatever is lost, repeated, late or crashed, and with no majority alive. Each group has one log, which only grows (Paxos Made Simple, sections 2.2 and 3); each replica of each node has executed a front of its group's log; the ring covers, and the group of each cut is placed in it and holds its part of the map; the history is legal (Herlihy and Wing, 1990), with the replies that clients keep; and each entry is decided after its issue and before its answer, whichever group decides it. As many slots are open as a child that is born has: its log would else be read by other members than its replicas count.
+-- Each prefix of a lawful journal of a valid scenario is sound.
 pub valid_journals_are_sound : ValidJournalsAreSound
 valid_journals_are_sound = valid_sound valid_scenarios_are_bounded valid_scenarios_begin_well orders_are_allowed_allowed orders_are_allowed_wishes orders_are_allowed_positions names_have_one_owner_others lawful_journals_are_sound
 

@@ -95,7 +95,7 @@ answer_found route asks seq before (row ∷ rows) answered e =
 -- ---- what was decided
 
 module _ (ahead : Ahead) (scenario : Scenario) (rows : Rows) where
-  -- what a log told was decided before the row that comes next
+  -- a reply by a log was decided before the row that comes next
   pub decided_before : (before : Rows) (row : Row Mail OrderLine) (later : Rows) → rows ≡ before ++ row ∷ later
       → ((b : Base) → Among b (groups_at ahead scenario.groups before) → IsLawfulHistory (rule ahead b) (first ahead b) (h_of before b))
       → (client seq : ℕ) (reply : Reply) → IsAnswered ahead (groups_at ahead scenario.groups before) (h_of before) client seq reply → IsDecidedBefore ahead scenario.groups rows client seq reply (length before + 1)

@@ -25,7 +25,7 @@ at_position nodes (An.Split group at) bounded = bounded
 at_position nodes (An.Repart group at) bounded = bounded
 at_position nodes _ bounded = tt
 
--- an order at a position, whoever is told it
+-- an order at a position, whichever node gets it
 abbrev IsPlaced : ℕ → OrderLine → Type 0
 IsPlaced who line = IsAtPosition line.order
 
@@ -48,7 +48,7 @@ placed_lines nodes clients (line ∷ lines) bounded = (placed_line nodes clients
 -- ---- its rows
 
 module _ (ahead : Ahead) (words : ℕ → ℕ → ℕ × ℕ) (scenario : Scenario) (bounded : IsBounded scenario) where
-  -- a row that tells no order but at a position
+  -- a row that brings no order but at a position
   abbrev IsPlacedRow : Row Mail OrderLine → Type 0
   IsPlacedRow row = IsToldSo IsPlaced row.who row.event
 
@@ -57,7 +57,7 @@ module _ (ahead : Ahead) (words : ℕ → ℕ → ℕ × ℕ) (scenario : Scenar
       told_induction IsPlaced (system_of ahead words scenario) (Each IsPlacedRow) (λ before row p told step. Each-append IsPlacedRow before (row ∷ []) p (told, tt)) (schedule scenario) rows
       (placed_lines scenario.nodes scenario.clients scenario.lines (Each-from_All (IsBoundedLine scenario.nodes scenario.clients) scenario.lines bounded.lines)) tt lawful
 
-  -- what is queued for what is told is allowed by the owners of the whole journal
+  -- what is queued for an order of the schedule is allowed by the owners of the whole journal
   told_allowed : TakenOrdersAreAllowed → (rows : Rows) → Lawful ahead words scenario rows → ToldAreAllowed (record { owner = owner_in ahead scenario rows; request = section_op scenario }) ahead scenario rows
   told_allowed law rows lawful before row later are line told low high node value_is r found taken stories =
       let all = subst (Each IsPlacedRow) are (placed_rows rows lawful) in

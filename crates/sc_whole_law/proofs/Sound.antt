@@ -17,7 +17,7 @@ pub lawful_journals_hold_beside : LawfulJournalsHoldBeside
 lawful_journals_hold_beside sources ahead words scenario route b rows orders lawful =
     beside sources ahead words scenario route b.place b.seats b.asks b.apart b.fresh rows orders lawful
 
--- what is asked of a journal's orders is asked of those of its first part
+-- what is asked of a journal's orders is asked of those of its prefix
 pub fewer_orders : (sources : Sources) (ahead : Ahead) (scenario : Scenario) (rows more : Rows) → OrdersAreAllowed sources ahead scenario (rows ++ more) → OrdersAreAllowed sources ahead scenario rows
 fewer_orders sources ahead scenario rows more orders = record {
   told = λ before row later e. orders.told before row (later ++ more) (longer before row later e);

@@ -1,4 +1,4 @@
--- What a group that has executed a front of its log says to the parties of transactions is true, by what all logs told.
+-- What a group that has executed a prefix of its log says to the parties of transactions is true, by the stories of all logs.
 use Rattle.std.proofs.Common.{◌≡◌, ℕ, true, cond, nat_le, List, [], ◌∷◌, ◌++◌, length, Option, Some, None, refl, sym, ◌∙◌, ap, subst}
 use Rattle.std.proofs.lemmas.Bool.{le-leb, cond-true, cond_both}
 use Rattle.std.proofs.lemmas.Option.{same_Some}
@@ -43,7 +43,7 @@ module _ (sources : Sources) (by : Draw) (group : Group) where
 
 -- ---- what is said
 
--- a group as it stands after a front of its log, by what is true of it and allowed
+-- a group as it stands after a prefix of its log, by what is true of it and allowed
 module _ (sources : Sources) (stories : Stories) (fit : MergesFit stories) (name : Draw) where
   -- each of these mails is heard
   abbrev Said : List Mail → Type 0
@@ -145,7 +145,7 @@ module _ (sources : Sources) (stories : Stories) (fit : MergesFit stories) (name
     dull_said me group was effect d (RecordWatch tx vote by) = subst (λ o. Said (watch_answered_by o vote me was tx by [])) (sym (dull_decides effect d)) tt
     dull_said me group was effect d _ = tt
 
-    -- an end that is told
+    -- an end that is sent
     abbrev Told : Draw → Outcome → Type 0
     Told tx outcome = (part : Draw) → IsAllowed sources stories part (Finish tx outcome)
 
@@ -172,7 +172,7 @@ module _ (sources : Sources) (stories : Stories) (fit : MergesFit stories) (name
         (λ _. cond_both (asks_watcher body got) (aborted group tx) (group, Was.NoEffect tx) (λ (x : Group × Effect). x.1 ≡ Was.Decided outcome → outcome ≡ Is.Abort) (λ _. decided_aborts outcome) (λ _. nothing_aborts tx outcome))
         (λ _. nothing_aborts tx outcome) e
 
-    -- an abort is heard by the group that it is told
+    -- an abort is true for the group that learns it
     aborted_said : (me : ℕ) (tx : Draw) (link : Link) (before : List Mail) → Told tx Is.Abort → Said before → Said (aborted_to me tx link before)
     aborted_said me tx link before told e = said_to_all me link.members (TxOutcome tx link.group Is.Abort) before (told link.group) e
 
@@ -213,7 +213,7 @@ module _ (sources : Sources) (stories : Stories) (fit : MergesFit stories) (name
     abbrev EntryAllows : Group → Command → Type 0
     EntryAllows group c = (other : Draw) (d : Command) → MakesAllowed sources name group c other d → IsAllowed sources stories other d
 
-    -- who is told of the end is told what was decided
+    -- who learns of the end learns what was decided
     pub told_by : (group : Group) (c : Command) (tx : Draw) (outcome : Outcome) → EntryAllows group c → EndsIt tx c → (applied group c).1 ≡ Was.Decided outcome → Told tx outcome
     told_by group (RecordVote t vote by) tx outcome may ends e part = subst (λ d. IsAllowed sources stories part (Finish d outcome)) ends (may part (Finish t outcome) ((al group).votes t vote by outcome e part))
     told_by group (GiveUp t) tx outcome may ends e part = subst (λ d. IsAllowed sources stories part (Finish d outcome)) ends (may part (Finish t outcome) ((al group).gives_up t outcome e part))

@@ -3,6 +3,6 @@ use Rattle.sc_whole_law.proofs.StartValid.{valid_begin_well}
 use Rattle.sc_scenario.proofs.Lemmas.{valid_scenarios_are_bounded}
 use Rattle.sc_whole_law.specs.Definitions.{ValidScenariosBeginWell}
 
--- Every valid scenario has one to sixteen groups under names of their own, which start with some members and no pairs. Their arcs cover the ring, and each group stands between its neighbours, a lone one beside itself. Its nodes and clients are seated, each under a number of its own, and its clients ask the first group what their sections say. This is so for whichever groups names are drawn, where none is drawn for a name of the scenario's groups; and as many slots are taken to be open as a child that is born has.
+-- Every valid scenario begins well.
 pub valid_scenarios_begin_well : ValidScenariosBeginWell
 valid_scenarios_begin_well = valid_begin_well valid_scenarios_are_bounded

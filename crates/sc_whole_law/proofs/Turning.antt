@@ -72,7 +72,7 @@ module _ (sources : Sources) (ahead : Ahead) (words : ℕ → ℕ → ℕ × ℕ
     found : AreFound ahead scenario.groups rows
     found = groups_are_found sources ahead scenario.groups start rows h.turn
 
-    -- what the entries of their logs tell
+    -- what the entries of their logs record
     told : Told sources ahead scenario.groups rows
     told = told_rows sources ahead scenario.groups start rows h.turn
 
@@ -105,7 +105,7 @@ module _ (sources : Sources) (ahead : Ahead) (words : ℕ → ℕ → ℕ × ℕ
           Each-drop (IsAllowed sources (stories_at ahead scenario.groups rows) b.core.id) before (decided_log ahead b next)
           (Each-weaker (made rows b) (IsAllowed sources (stories_at ahead scenario.groups rows) b.core.id) (λ c m. m.0) (decided_log ahead b next) all)
 
-      -- the children that it names were born by nobody
+      -- the children that it names were created by nobody
       born : Steps rows row → (b : Base) (a : Among b (bases rows)) → BornBy b.core.id (world_at ahead scenario.groups rows) (length (decided_log ahead b rows) + 1) (decided_state ahead b rows) (added b)
       born steps b a =
           let old = entries_at ahead scenario.groups rows in
@@ -171,7 +171,7 @@ module _ (sources : Sources) (ahead : Ahead) (words : ℕ → ℕ → ℕ × ℕ
       some = λ older b a log all. (let roster = members_stay_rosters (group_of b) log (h.fresh b a).roster in first_of (state_after (group_of b) log).core.members roster.some);
     }
 
-    -- a child that is born is one of the groups, under a name of its own
+    -- a child that is created is one of the groups, under a name of its own
     offspring : KnowsOffspring ahead words scenario scenario.groups (bases rows) route made heard players rows
     offspring n b a child is =
         let log = is.front ++ is.command ∷ [] in
@@ -209,7 +209,7 @@ module _ (sources : Sources) (ahead : Ahead) (words : ℕ → ℕ → ℕ × ℕ
           (Each-weaker (made rows b) (IsIssuedCall scenario rows) (λ d m. m.1) (decided_log ahead b next) all) in
           Each-among (IsIssuedCall scenario rows) (added_by ahead rows row b) (Call client seq op) each c
 
-      -- each reply that a client keeps after it was told by the logs before it
+      -- each reply that a client keeps after it was one by the logs before it
       pub told_now : (asks : Asks) → Among asks scenario.clients → (place : ℕ) (reply : Reply) → slice_get (kept_replies route asks (rows ++ row ∷ [])) place ≡ Some reply
           → IsAnswered ahead (bases rows) (h_of rows) asks.client (place + 1) reply
       told_now asks stands place reply at =

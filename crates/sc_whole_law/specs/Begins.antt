@@ -9,14 +9,14 @@ use Rattle.sc_scenario.specs.declared.scenarios.Scenario.{Scenario}
 use Rattle.sc_hist_law.specs.Definitions.{BeginBare}
 use Rattle.sc_ring_law.specs.Definitions.{Sources, BeginInPlace}
 
--- a group at its birth is bound in nothing, and has voted and decided nothing
+-- a group begins with no lock, vote or decision, and with a roster of members
 pub record IsFresh (base : Base) : Type 0 where
   pub free : base.core.lock ≡ Free
   pub unvoted : base.core.voted ≡ []
   pub decided : base.core.decided ≡ []
   pub roster : IsRoster base.core.members
 
--- the nodes are numbered up to the most, and the clients from one, each once; as many slots are open as children have
+-- the players are the nodes from 1 on and the clients, which know this route; the nodes are at most the limit, each client has its own number from 1 on, and as many slots are open as a created child has
 pub record HasSeats (ahead : Ahead) (scenario : Scenario) (route : Route) : Type 0 where
   pub seats : births ahead scenario ≡ map (node_seat ahead scenario.groups scenario.policy) (numbers_from 1 scenario.nodes) ++ map (client_seat route) scenario.clients
   pub nodes : scenario.nodes ≤ most_nodes
@@ -24,12 +24,12 @@ pub record HasSeats (ahead : Ahead) (scenario : Scenario) (route : Route) : Type
   pub once : (one other : Asks) → Among one scenario.clients → Among other scenario.clients → one.client ≡ other.client → one ≡ other
   pub open_slots : ahead.slots ≡ slots_ahead
 
--- the operation that was found, if any was
+-- the operation that was found; where none was found, a get of the empty key
 abbrev pub op_or_get : Option Op → Op
 op_or_get None = Get []
 op_or_get (Some op) = op
 
--- what the section of a client says by a number
+-- the operation that a client's section has under a number
 abbrev pub section_op : Scenario → ℕ → ℕ → Op
 section_op scenario client seq = op_or_get (option_and_then (λ asks. slice_get asks.ops (seq - 1)) (find (λ asks. asks.client == client) scenario.clients))
 
@@ -37,7 +37,7 @@ section_op scenario client seq = op_or_get (option_and_then (λ asks. slice_get 
 abbrev pub AsksAre : Sources → Scenario → Type 0
 AsksAre sources scenario = (asks : Asks) → Among asks scenario.clients → (seq : ℕ) (op : Op) → 1 ≤ seq → slice_get asks.ops (seq - 1) ≡ Some op → op ≡ sources.request asks.client seq
 
--- a scenario's groups stand in place under names of their own, and nothing has happened to them; its players are seated
+-- a scenario's groups are in place under names of their own, nothing has happened to them, and its players are seated
 pub record BeginsWell (sources : Sources) (ahead : Ahead) (scenario : Scenario) (route : Route) : Type 0 where
   pub place : BeginInPlace sources scenario.groups
   pub apart : AreNamedApart scenario.groups
@@ -45,7 +45,7 @@ pub record BeginsWell (sources : Sources) (ahead : Ahead) (scenario : Scenario) 
   pub seats : HasSeats ahead scenario route
   pub asks : AsksAre sources scenario
 
--- it begins so with a group at least, its groups hold nothing, and its clients ask the first of them
+-- a scenario begins well with at least one group, its groups hold nothing, and its clients know the first of them
 pub record IsReady (sources : Sources) (ahead : Ahead) (scenario : Scenario) : Type 0 where
   pub first : Base
   pub others : List Base

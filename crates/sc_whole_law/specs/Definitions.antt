@@ -1,4 +1,4 @@
--- The definitions of this crate that others cite, under one name.
+-- Re-exports of the definitions of this crate that others cite.
 pub use Rattle.sc_whole_law.specs.Begins.{BeginsWell, section_op, IsReady, IsFresh, HasSeats, AsksAre, op_or_get}
 pub use Rattle.sc_whole_law.specs.Laws.{MembersStayRosters, LawfulJournalsDecideInTurn, LawfulJournalsAreSound, LawfulJournalsHoldBeside}
 pub use Rattle.sc_whole_law.specs.Orders.{OrdersAreAllowed, ToldAreAllowed, WishedAreAllowed}

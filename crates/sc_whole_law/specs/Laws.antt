@@ -1,4 +1,4 @@
--- What every lawful journal says of all its groups, whatever these order.
+-- What every lawful journal of a scenario that begins well says of all its groups, where what its orders queue is allowed.
 use Rattle.std.specs.Prelude.{ℕ, List, [], ◌++◌}
 use Rattle.sc_node_table.specs.Values.{Command, Route}
 use Rattle.sc_machine_table.specs.Definitions.{Group, state_after}
@@ -11,21 +11,21 @@ use Rattle.sc_log_law.specs.Definitions.{HoldsBeside, Rows, DecideInTurn}
 use Rattle.sc_whole_law.specs.Orders.{OrdersAreAllowed}
 use Rattle.sc_whole_law.specs.Begins.{BeginsWell}
 
--- the members of a group stay one to nine nodes, ascending
+-- the members of a group stay one to nine nodes, ascending, after every log
 abbrev pub MembersStayRosters : Type 0
 MembersStayRosters = (group : Group) (log : List Command) → IsRoster group.core.members → IsRoster (state_after group log).core.members
 
--- each row decides what was allowed, and nothing yet for a group that it gives birth to
+-- each row of such a lawful journal decides what was allowed before it, and nothing yet for a group that it creates
 abbrev pub LawfulJournalsDecideInTurn : Type 0
 LawfulJournalsDecideInTurn = (sources : Sources) (ahead : Ahead) (words : ℕ → ℕ → ℕ × ℕ) (scenario : Scenario) (route : Route) → BeginsWell sources ahead scenario route
     → (rows : Rows) → OrdersAreAllowed sources ahead scenario rows → Lawful ahead words scenario rows → DecideInTurn sources ahead scenario.groups [] rows
 
--- one value per slot, executed fronts, issued calls and decided replies hold beside
+-- in such a lawful journal each group has one value per slot, each replica has executed a prefix, calls were issued before they were decided, and replies were decided before they were taken
 abbrev pub LawfulJournalsHoldBeside : Type 0
 LawfulJournalsHoldBeside = (sources : Sources) (ahead : Ahead) (words : ℕ → ℕ → ℕ × ℕ) (scenario : Scenario) (route : Route) → BeginsWell sources ahead scenario route
     → (rows : Rows) → OrdersAreAllowed sources ahead scenario rows → Lawful ahead words scenario rows → HoldsBeside ahead scenario rows
 
--- so each first part is sound
+-- each prefix of such a lawful journal is sound, where its groups begin with nothing held
 abbrev pub LawfulJournalsAreSound : Type 0
 LawfulJournalsAreSound = (sources : Sources) (ahead : Ahead) (words : ℕ → ℕ → ℕ × ℕ) (scenario : Scenario) (route : Route) → BeginsWell sources ahead scenario route → BeginBare scenario.groups
     → (rows more : Rows) → OrdersAreAllowed sources ahead scenario (rows ++ more) → Lawful ahead words scenario (rows ++ more) → IsSound ahead scenario rows more

@@ -1,4 +1,4 @@
--- What is asked of a journal's orders, told and of policies: that what they queue is allowed.
+-- What is asked of a journal's orders, those of its schedule and those of policies: that what they queue is allowed.
 use Rattle.std.specs.Prelude.{◌≡◌, ◌≤◌, List, ◌∷◌, ◌++◌, None, Some}
 use Rattle.sc_base.specs.Definitions.{next_name}
 use Rattle.sc_node_table.specs.Values.{OrderLine, Mail, Tick, Row, Node}
@@ -11,14 +11,14 @@ use Rattle.sc_ring_law.specs.Definitions.{Sources, IsAllowed, Stories}
 use Rattle.sc_names_law.specs.Definitions.{waited, wished_at}
 use Rattle.sc_log_law.specs.Definitions.{Rows}
 
--- what a node of the scenario queues for an order that it takes, in a row of the journal, is allowed at the order's group, whatever was told
+-- what a node of the scenario queues for an order that it takes, in a row of the journal, is allowed at the order's group, whatever the stories are
 abbrev pub ToldAreAllowed : Sources → Ahead → Scenario → Rows → Type 0
 ToldAreAllowed sources ahead scenario rows = (before : Rows) (row : Row Mail OrderLine) (later : Rows) → rows ≡ before ++ row ∷ later
     → (line : OrderLine) → row.event ≡ Told line → 1 ≤ row.who → row.who ≤ scenario.nodes → (node : NodeState) → value player_table (node_seat ahead scenario.groups scenario.policy row.who) before ≡ Node node
     → (r : ReplicaState) → replica_of (group_of_order line.order) node.replicas ≡ Some r → untaken node.draws line r ≡ None
     → (stories : Stories) → IsAllowed sources stories (group_of_order line.order) (ordered_command (next_name node.draws) line.number line.order)
 
--- what it queues for what a policy orders, in a row that is its tick, is so at the replica's group: each replica takes of the names that those before it left
+-- what a node of the scenario queues at its tick for what a policy orders is allowed at the replica's group, whatever the stories are; each replica takes of the names that those before it left
 abbrev pub WishedAreAllowed : Sources → Ahead → Scenario → Rows → Type 0
 WishedAreAllowed sources ahead scenario rows = (before : Rows) (row : Row Mail OrderLine) (later : Rows) → rows ≡ before ++ row ∷ later
     → row.event ≡ Tick → 1 ≤ row.who → row.who ≤ scenario.nodes → (node : NodeState) → value player_table (node_seat ahead scenario.groups scenario.policy row.who) before ≡ Node node
@@ -26,7 +26,7 @@ WishedAreAllowed sources ahead scenario rows = (before : Rows) (row : Row Mail O
     → untaken (names_after_ticks node.policy node.draws older) line (waited r) ≡ None
     → (stories : Stories) → IsAllowed sources stories (name_of r) (ordered_command (next_name (names_after_ticks node.policy node.draws older)) line.number line.order)
 
--- both
+-- what is queued for orders of the schedule and of policies is allowed
 pub record OrdersAreAllowed (sources : Sources) (ahead : Ahead) (scenario : Scenario) (rows : Rows) : Type 0 where
   pub told : ToldAreAllowed sources ahead scenario rows
   pub wished : WishedAreAllowed sources ahead scenario rows

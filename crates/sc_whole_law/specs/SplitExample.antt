@@ -1,4 +1,4 @@
--- A journal of two nodes: a lone group splits, the second node makes the child, and a client that asks the parent for a key of the child is sent on to it, which decides the request.
+-- A worked journal of two nodes: a lone group splits, the second node makes the child, and a client that asks the parent for a key of the child is sent on to the child, which decides the request.
 use Rattle.std.specs.Prelude.{ℕ, false, List, [], ◌∷◌}
 use Rattle.sc_node_table.specs.Values.{Ballot, Draw, Op, Put, Command, Call, Split, Base, Link, OrderLine, Mail, Request, Answer, Accept, Accepted, Learn, Told as ToldMail, Row, Deliver, Go}
 use Rattle.sc_cmd.specs.declared.orders.Order.TheVariants as An
@@ -12,15 +12,15 @@ use Rattle.sc_scenario.specs.declared.scenarios.SchedLine.TheVariants as line
 use Rattle.sc_scenario.specs.declared.scenarios.Scenario.{Scenario}
 use Rattle.sc_sound.specs.Definitions.{mail, row}
 
--- a group of both nodes, with the whole circle
+-- the group: both nodes, with the whole ring
 abbrev pub pair : Base
 pair = lone_group 0 (1 ∷ 2 ∷ [])
 
--- where it splits: keys from p on go to the child
+-- the position at which the group splits: keys from p on go to the child
 abbrev pub place : ℕ
 place = 1879048192
 
--- the first name that node 1 draws
+-- the name of the child, the first that node 1 draws
 abbrev pub kid_name : Draw
 kid_name = record { node = 1; count = 1 }
 
@@ -32,11 +32,11 @@ split_order = record { number = 1; order = An.Split lone_name place }
 abbrev pub lone_split : Command
 lone_split = Split place kid_name 1
 
--- the child, whose one member is node 2
+-- the birth record of the child, whose one member is node 2
 abbrev pub kid : Base
 kid = child_of (group_of pair) place kid_name
 
--- the one request: x at the key z, which is the child's
+-- the one request: put x at the key z, which is the child's
 abbrev pub put_z : Op
 put_z = Put (122 ∷ []) (120 ∷ [])
 
@@ -44,7 +44,7 @@ put_z = Put (122 ∷ []) (120 ∷ [])
 abbrev pub lone_call : Command
 lone_call = Call 1 1 put_z
 
--- the split is ordered and carried out, and then the client starts
+-- the scenario: the split is ordered and carried out, and then the client starts
 abbrev pub split_scenario : Scenario
 split_scenario = record {
   nodes = 2;
@@ -56,19 +56,19 @@ split_scenario = record {
   version = 1;
 }
 
--- the ballots of the first leaders
+-- the first ballot of the parent's leader
 abbrev pub lone_ballot : Ballot
 lone_ballot = record { round = 1; node = 1 }
 
--- the child's first leader is its own member
+-- the first ballot of the child, whose leader is its own member
 abbrev pub kid_leads : Ballot
 kid_leads = record { round = 1; node = 2 }
 
--- the way to the child
+-- the link to the child: its name and its member
 abbrev pub kid_link : Link
 kid_link = record { group = kid_name; members = 2 ∷ [] }
 
--- both nodes decide the split; node 2 executes it when it learns it, and leads the child from birth
+-- the rows: both nodes decide the split; node 2 executes it when it learns it, and leads the child from its birth
 abbrev pub split_example : List (Row Mail OrderLine)
 split_example =
     row 1 (Told split_order) (record { from = 1; to = 1; body = Accept lone_name lone_ballot 1 lone_split } ∷ record { from = 1; to = 2; body = Accept lone_name lone_ballot 1 lone_split } ∷ [])
@@ -83,6 +83,6 @@ split_example =
     ∷ row 2 (Deliver 10) (mail 2 2 (Accept kid_name kid_leads 1 lone_call))
     ∷ row 2 (Deliver 11) (mail 2 2 (Accepted kid_name kid_leads 1)) ∷ []
 
--- the ring afterwards
+-- the ring after the rows
 abbrev pub parts : List Cut
 parts = record { arc = record { lo = 0; len = place }; group = lone_name } ∷ record { arc = record { lo = place; len = 2415919104 }; group = kid_name } ∷ []

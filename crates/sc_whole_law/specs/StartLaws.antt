@@ -7,7 +7,7 @@ use Rattle.sc_scenario.specs.Definitions.{IsValid}
 use Rattle.sc_scenario.specs.declared.scenarios.Scenario.{Scenario}
 use Rattle.sc_whole_law.specs.Begins.{IsReady, section_op}
 
--- each valid scenario is ready, with requests as its clients' sections say, for whichever groups nodes draw names
+-- each valid scenario is ready, with the requests of its clients' sections, for any owners of names that own no name of the scenario's groups
 abbrev pub ValidScenariosBeginWell : Type 0
 ValidScenariosBeginWell = (owner : Draw → Option Draw) → ((name : Draw) → name.node ≡ 0 → owner name ≡ None) → (ahead : Ahead) → ahead.slots ≡ slots_ahead
     → (scenario : Scenario) → IsValid scenario → IsReady (record { owner = owner; request = section_op scenario }) ahead scenario

@@ -1,22 +1,23 @@
--- A journal of two groups on one node: a client asks the first, is sent on to the second, and the node ticks, at which each replica has its part.
+-- A worked journal of two groups on one node: a client asks the first, is sent on to the second, and the node ticks, which each of its replicas does in turn.
 use Rattle.std.specs.Prelude.{ℕ, false, List, [], ◌∷◌, None}
 use Rattle.sc_node_table.specs.Values.{Draw, Command, Call, Base, Free, Link, OrderLine, NotMine, Mail, Request, Answer, Accept, Accepted, Row, Deliver, Tick, Go}
 use Rattle.sc_scenario.specs.declared.scenarios.SchedLine.TheVariants as line
 use Rattle.sc_scenario.specs.declared.scenarios.Scenario.{Scenario}
 use Rattle.sc_sound.specs.Definitions.{ballot, put_it, mail, row}
 
--- the names of the groups
+-- the name of the first group
 abbrev pub one : Draw
 one = record { node = 0; count = 1 }
 
+-- the name of the second group
 abbrev pub two : Draw
 two = record { node = 0; count = 2 }
 
--- the way to a group whose one member is node 1
+-- the link to a group whose one member is node 1
 abbrev pub link : Draw → Link
 link name = record { group = name; members = 1 ∷ [] }
 
--- a group with this arc and the other for a neighbour on both sides
+-- the birth record of a group with this arc, which has the other group as neighbour on both sides
 abbrev pub half : Draw → Draw → ℕ → ℕ → Base
 half name other lo len = record {
   core = record {
@@ -37,15 +38,15 @@ half name other lo len = record {
   clients = [];
 }
 
--- the positions below those of keys that begin with a lower letter
+-- the first group: it has the keys whose first byte is below 96, so none that begins with a lower-case letter
 abbrev pub lower_group : Base
 lower_group = half one two 0 1610612736
 
--- and the others
+-- the second group: it has the other positions
 abbrev pub upper_group : Base
 upper_group = half two one 1610612736 2684354560
 
--- one client puts a value at a key of the second group
+-- the scenario: one client puts a value at a key of the second group
 abbrev pub two_scenario : Scenario
 two_scenario = record {
   nodes = 1;
@@ -61,7 +62,7 @@ two_scenario = record {
 abbrev pub put_it_call : Command
 put_it_call = Call 1 1 put_it
 
--- the first group does not hold the key; the second offers it, once more at the tick, and accepts it
+-- the rows: the first group does not hold the key; the second offers the request, once more at the tick, and accepts it
 abbrev pub two_example : List (Row Mail OrderLine)
 two_example =
     row 33 Go (mail 33 1 (Request one 1 1 put_it))

@@ -6,12 +6,12 @@ use Rattle.sc_scenario.specs.Definitions.{IsValid}
 use Rattle.sc_scenario.specs.declared.scenarios.Scenario.{Scenario}
 use Rattle.sc_log_law.specs.Definitions.{Rows, AreItsLogs}
 
--- each first part of a lawful journal of a valid scenario is sound, whatever its orders are and whatever words storms draw: a child that is born has as many open slots as a node's groups at birth
+-- each prefix of a lawful journal of a valid scenario is sound, whatever its orders are and whatever words storms draw, where as many slots are open as a created child has
 abbrev pub ValidJournalsAreSound : Type 0
 ValidJournalsAreSound = (ahead : Ahead) → ahead.slots ≡ slots_ahead → (words : ℕ → ℕ → ℕ × ℕ) (scenario : Scenario) → IsValid scenario
     → (journal : Rows) → Lawful ahead words scenario journal → IsSoundThroughout ahead scenario journal
 
--- the entries of such a journal are the logs of its groups
+-- the entries of a lawful journal of a valid scenario are the logs of its groups
 abbrev pub ValidEntriesAreLogs : Type 0
 ValidEntriesAreLogs = (ahead : Ahead) → ahead.slots ≡ slots_ahead → (words : ℕ → ℕ → ℕ × ℕ) (scenario : Scenario) → IsValid scenario
     → (journal : Rows) → Lawful ahead words scenario journal → AreItsLogs ahead scenario.groups journal

@@ -1,6 +1,7 @@
 //! What lawful journals say of all their groups, whatever these order: which commands may be queued
-//! and which mails of transactions are true, by what all logs told, and that each row decides in
-//! turn. So lawful journals of valid scenarios are sound. Definitions and laws, no logic.
+//! and which mails of transactions are true, by the stories of all logs, and that each row decides
+//! in turn. So lawful journals of valid scenarios are sound. Definitions and laws; no code that
+//! runs.
 #![tactic(auto)]
 
 mod starting;
@@ -24,50 +25,55 @@ ghost use Rattle.sc_whole_law.specs.Valid.{ValidEntriesAreLogs, ValidJournalsAre
 use sc_group_law::{a_journal_with_a_join, a_journal_with_an_election};
 pub use starting::valid_scenarios_begin_well;
 
-/// The members of a group are one to nine nodes, ascending, after every log, whatever stands in it.
+/// Shows that the members of a group stay one to nine nodes, ascending, after every log, whatever
+/// stands in it.
 pub fn members_stay_rosters()
     ensures { MembersStayRosters }
 {}
 
-/// Each row of a lawful journal decides in turn, whatever its groups order, split, merge and move:
-/// the logs go on, each entry is allowed by what the entries before the row told, and a group that
-/// a row gives birth to begins with no entry. So a replica queues no command, and sends no mail of
-/// a transaction, that the logs of the groups before it did not make allowed.
+/// Shows that each row of a lawful journal decides in turn, whatever its groups order, split, merge
+/// and move, where the scenario begins well (`BeginsWell`) and what its orders queue is allowed
+/// (`OrdersAreAllowed`): the logs go on, each entry is allowed by the stories that the entries
+/// before the row leave, and a group that a row creates begins with no entry. So a replica queues
+/// no command, and sends no mail of a transaction, that the logs of the groups before it did not
+/// make allowed.
 pub fn lawful_journals_decide_in_turn()
     ensures { LawfulJournalsDecideInTurn }
 {}
 
-/// Each group of such a journal has one value per slot, each replica has executed a front of its
-/// group's log, each call was issued before the row that decides it, and each reply that a client
-/// keeps was decided before the row in which the client takes it.
+/// Shows that, in a lawful journal of a scenario that begins well, where what its orders queue is
+/// allowed, each group has one value per slot, each replica has executed a prefix of its group's
+/// log, each call was issued before the row that decides it, and each reply that a client keeps was
+/// decided before the row in which the client takes it.
 pub fn lawful_journals_hold_beside()
     ensures { LawfulJournalsHoldBeside }
 {}
 
-/// So each first part of a lawful journal is sound, whatever its groups order.
+/// Shows that each prefix of a lawful journal is sound, whatever its groups order, where the
+/// scenario begins well with groups that hold nothing, and what its orders queue is allowed.
 pub fn lawful_journals_are_sound()
     ensures { LawfulJournalsAreSound }
 {}
 
-/// Each first part of a lawful journal of a valid scenario is sound, whatever its orders join,
-/// leave, split, merge or move, whatever is lost, repeated, late or crashed, and with no majority
-/// alive. Each group has one log, which only grows (Paxos Made Simple, sections 2.2 and 3); each
-/// replica of each node has executed a front of its group's log; the ring covers, and the group of
-/// each cut is placed in it and holds its part of the map; the history is legal (Herlihy and Wing,
-/// 1990), with the replies that clients keep; and each entry is decided after its issue and before
-/// its answer, whichever group decides it. As many slots are open as a child that is born has: its
-/// log would else be read by other members than its replicas count.
+/// Shows that each prefix of a lawful journal of a valid scenario is sound, whatever its orders
+/// join, leave, split, merge or move, whatever is lost, repeated, late or crashed, and with no
+/// majority alive. Each group has one log, which only grows (Paxos Made Simple, sections 2.2 and
+/// 3); each replica of each node has executed a prefix of its group's log; the ring covers, and the
+/// group of each range has its place in it and holds its part of the map; the history is legal
+/// (Herlihy and Wing, 1990), with the replies that clients keep; and each entry is decided after
+/// its issue and before its answer, whichever group decides it. As many slots are open as a created
+/// child has: else its log would be read by other members than its replicas count.
 pub fn valid_journals_are_sound()
     ensures { ValidJournalsAreSound }
 {}
 
-/// The entries of such a journal, row by row, are the logs of its groups, and make of each the state
-/// after its log.
+/// Shows that the entries of a lawful journal of a valid scenario, row by row, are the logs of its
+/// groups, and make of each the state after its log.
 pub fn valid_entries_are_logs()
     ensures { ValidEntriesAreLogs }
 {}
 
-/// The law is about something: a journal of a text's scenario in which a request is decided and
+/// Shows that the law applies to a journal of a text's scenario in which a request is decided and
 /// another node is elected.
 pub fn an_election_is_sound()
     ensures text { scenario_of election_text ≡ Some election_scenario }
@@ -77,8 +83,8 @@ pub fn an_election_is_sound()
     valid_journals_are_sound();
 }
 
-/// The law is about groups that change: a journal of a text's scenario in which the one member of a
-/// group decides that another node joins, and sends it the state.
+/// Shows that the law applies to a journal of a text's scenario in which the one member of a group
+/// decides that another node joins, and sends it the state.
 pub fn a_join_is_sound()
     ensures text { scenario_of join_text ≡ Some join_scenario }
     ensures sound { IsSound four join_scenario join_example [] }
@@ -87,8 +93,8 @@ pub fn a_join_is_sound()
     valid_journals_are_sound();
 }
 
-/// The law is about several groups: a journal of two of them on one node, in which a client asks
-/// the first and is sent on to the second, and the node's tick goes through both.
+/// Shows that the law applies to a journal of two groups on one node, in which a client asks the
+/// first and is sent on to the second, and the node's tick goes through both.
 pub fn a_journal_of_two_groups()
     ensures text { scenario_of two_text ≡ Some two_scenario }
     ensures lawful { Lawful four no_words two_scenario two_example }
@@ -99,8 +105,8 @@ pub fn a_journal_of_two_groups()
     valid_journals_are_sound();
 }
 
-/// The law is about groups that are born: a journal of two nodes in which a lone group splits, the
-/// second node makes the child, and the child decides a request that its parent sends on.
+/// Shows that the law applies to a journal of two nodes in which a lone group splits, the second
+/// node makes the child, and the child decides a request that its parent sends on.
 pub fn a_journal_with_a_split()
     ensures text { scenario_of split_text ≡ Some split_scenario }
     ensures lawful { Lawful four no_words split_scenario split_example }

@@ -13,7 +13,7 @@ use Rattle.sc_sound.specs.Soundness.{IsSoundThroughout}
 use Rattle.sc_refusal_law.specs.Journals.{RefusesWithCause}
 use Rattle.sc_world.specs.Worlds.{WorldHolds}
 
--- what a replay leaves is what a world holds, where each first part of the rows is sound and their refusals have causes
+-- what a replay leaves is what a world holds, where each prefix of the rows is sound and their refusals have causes
 pub holds : (scenario : Scenario) (rows : List (Row Mail OrderLine)) (parties : List Player) (left : Replayed Player) → IsSoundThroughout as_nodes scenario rows → RefusesWithCause as_nodes scenario rows → length rows < 2 ^ 31 → length (mails rows) < 2 ^ 31 →
     parties ≡ map (λ seat. seat.actor) left.seats.items → Leaves (system_of as_nodes two_words scenario) (schedule scenario) rows left → WorldHolds scenario rows parties left.skipped left.quiet
 holds scenario rows parties left sound refuses few_rows few_mails are leaves = record {

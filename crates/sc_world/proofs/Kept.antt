@@ -10,7 +10,7 @@ use Rattle.sc_sound.specs.GroupsOf.{entries_at, world_at}
 use Rattle.sc_sound.specs.Players.{as_nodes}
 use Rattle.sc_sound.specs.Soundness.{IsOneMap, IsSoundThroughout}
 
--- what is told of the scenario's groups and of rows of which each first part is sound
+-- what is shown of the scenario's groups and of rows of which each prefix is sound
 pub one_map : (scenario : Scenario) (rows : List (Row Mail OrderLine)) → IsSoundThroughout as_nodes scenario rows
     → (groups : List Base) (read : List (Row Mail OrderLine)) (told : StoreWorld) → groups ≡ scenario.groups → read ≡ rows → told ≡ world_at as_nodes groups read → IsOneMap told
 one_map scenario rows sound groups read told groups_are rows_are is =

@@ -58,7 +58,7 @@ parted_all nodes clients (x ∷ xs) few all each =
     All-cons Parted (line_of x) (map line_of xs) (parted_one nodes clients x few all (each 0 x (omega arith)))
     (parted_all nodes clients xs few all (λ k d lt. each (suc k) d (omega (arith, lt))))
 
--- no actor that is told to go may crash
+-- no actor with a `go` line may crash
 pub spared : (scenario : Scenario) → IsBounded scenario → (who : ℕ) → Contains (schedule scenario) (line.Go who) → ¬ Contains (schedule scenario) (line.Crash who)
 spared scenario bounded who goes crashes =
     let each : All Parted (schedule scenario) = parted_all scenario.nodes scenario.clients scenario.lines bounded.nodes.1 bounded.clients bounded.lines in

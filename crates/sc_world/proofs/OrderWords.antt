@@ -1,4 +1,4 @@
--- What mails tell of orders, with one more mail or row.
+-- What mails report of orders, with one more mail or row.
 use Rattle.std.proofs.Common.{◌≡◌, ℕ, zero, suc, ◌+◌, ◌<◌, List, [], ◌∷◌, ◌++◌, map, length, get_or, Option, Some, None, refl, sym, ap, ◌∙◌, arith}
 use Rattle.sc_mail.specs.declared.bodies.Mail.{Mail}
 use Rattle.sc_node_table.specs.Slots.{numbers_from}
@@ -6,16 +6,16 @@ use Rattle.sc_node_table.specs.Replica.{either}
 use Rattle.sc_law_lemmas.proofs.Ways.{either_assoc, either_none}
 use Rattle.sc_world.specs.Summary.{told_in_mail, told_of}
 
--- what more mails tell of an order
+-- what more mails report of an order
 pub told-append : (number : ℕ) (xs ys : List Mail) → told_of number (xs ++ ys) ≡ either (told_of number xs) (told_of number ys)
 told-append number [] ys = refl
 told-append number (x ∷ xs) ys = ap (either (told_in_mail number x.body)) (told-append number xs ys) ∙ sym (either_assoc (told_in_mail number x.body) (told_of number xs) (told_of number ys))
 
--- what one more mail tells of an order
+-- what one more mail reports of an order
 pub told-last : (number : ℕ) (xs : List Mail) (x : Mail) → told_of number (xs ++ x ∷ []) ≡ either (told_of number xs) (told_in_mail number x.body)
 told-last number xs x = told-append number xs (x ∷ []) ∙ ap (either (told_of number xs)) (either_none (told_in_mail number x.body))
 
--- so many are made of so many numbers
+-- a list made of a number of numbers has that length
 pub length-numbered : {X : Type 0} (f : ℕ → X) (from count : ℕ) → length (map f (numbers_from from count)) ≡ count
 length-numbered f from zero = refl
 length-numbered f from (suc count) = ap suc (length-numbered f (from + 1) count)

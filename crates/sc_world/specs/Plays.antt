@@ -7,7 +7,7 @@ use Rattle.sc_scenario.specs.declared.scenarios.Scenario.{Scenario}
 use Rattle.sc_node_table.specs.Node.{are_in_order}
 use Rattle.sc_sound.specs.Players.{most_actor, births, schedule, AreFew, as_nodes}
 
--- what a play asks of a scenario: groups in the order of their names, actors with different numbers from 1 to 96, no actor that is told to go and may crash, and no client with more requests than it may have
+-- what playing a scenario needs: groups in the order of their names, actors with different numbers from 1 to 96, no actor with both a `go` line and a `crash` line, and no client with more requests than the limit
 pub record CanPlay (scenario : Scenario) : Type 0 where
   pub ordered : are_in_order scenario.groups ≡ true
   pub apart : are_apart (births as_nodes scenario) ≡ true

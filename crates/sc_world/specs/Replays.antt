@@ -1,4 +1,4 @@
--- How rows stand with a scenario.
+-- Why rows of a scenario are not replayed.
 use Rattle.std.specs.Prelude.{ℕ, List, ⊤}
 use Rattle.sc_cmd.specs.declared.orders.OrderLine.{OrderLine}
 use Rattle.sc_mail.specs.declared.bodies.Mail.{Mail}
@@ -10,11 +10,11 @@ use Rattle.sc_world.specs.declared.replaying.ReplayFault.{ReplayFault}
 use Rattle.sc_world.specs.declared.replaying.ReplayFault.TheVariants.{BadRow, OutOfMemory}
 use Rattle.sc_chance.specs.Words.{two_words}
 
--- the row at a place, from 1, is the first that is not lawful for a scenario
+-- the row with this number, from 1, is the first that is not lawful for a scenario
 abbrev pub IsBadRow : Scenario → List (Row Mail OrderLine) → ℕ → Type 0
 IsBadRow scenario rows at = IsBadRowOf (system_of as_nodes two_words scenario) (schedule scenario) rows at
 
--- why rows are not replayed; out of memory is free
+-- why rows are not replayed: the named row is the first that is not lawful; out of memory has no condition
 abbrev pub IsFault : Scenario → List (Row Mail OrderLine) → ReplayFault → Type 0
 IsFault scenario rows (BadRow at) = IsBadRow scenario rows at
 IsFault scenario rows OutOfMemory = ⊤

@@ -1,4 +1,4 @@
--- What the report tells of a scenario and a journal of it.
+-- What the report says of a scenario and a journal of it.
 use Rattle.std.specs.Prelude.{ℕ, ◌+◌, ◌==◌, nat_lt, Bool, true, false, List, [], ◌∷◌, length, map, fold, count_by, if◌then◌else◌, Option, Some, None}
 use Rattle.std.specs.List.{flat_map, insert}
 use Rattle.std.specs.Option.{option_map, option_to_list}
@@ -24,39 +24,39 @@ use Rattle.sc_log_entries.specs.Worlds.{StoreWorld, named_group}
 use Rattle.sc_sound.specs.GroupsOf.{world_at}
 use Rattle.sc_chance.specs.Words.{two_words}
 
--- what a mail tells of the order of a number
+-- the result that a mail reports of the order with a number, if it reports one
 abbrev pub told_in_mail : ℕ → MailBody → Option ToldResult
 told_in_mail number (TellsOrder order result) = if order == number then Some result else None
 told_in_mail number _ = None
 
--- what these mails tell of an order: what the first that tells of it says
+-- the result of an order: that of the first of these mails which reports one
 abbrev pub told_of : ℕ → List Mail → Option ToldResult
 told_of number [] = None
 told_of number (mail ∷ more) = either (told_in_mail number mail.body) (told_of number more)
 
--- whether a line is an order
+-- whether a line of the schedule is an order
 abbrev pub is_order : SchedLine → Bool
 is_order (Told node line) = true
 is_order _ = false
 
--- what these mails tell of so many orders, which are numbered from 1
+-- the results that these mails report of the orders 1 to `count`
 abbrev pub orders_told : ℕ → List Mail → List (Option ToldResult)
 orders_told count sent = map (λ number. told_of number sent) (numbers_from 1 count)
 
--- how many orders a scenario has
+-- the number of orders that a scenario has
 abbrev pub orders_in : Scenario → ℕ
 orders_in scenario = count_by is_order scenario.lines
 
--- the line of a cut: where it begins, and the members of its group, as the group's own log makes it; none of a group that was not born
+-- the report's line of a range: its first position, its group, and the members by the group's own log; none where there is no such group
 abbrev pub cut_route : StoreWorld → Cut → Option Route
 cut_route world cut = option_map (λ group. record { group = cut.group; lo = cut.arc.lo; members = group.core.members }) (named_group cut.group world.groups)
 
--- where a line that begins at a position stands among lines by ascending beginning: before the first that begins later
+-- the place of a line that begins at a position, among lines by ascending beginning: before the first that begins later
 abbrev pub place_in : List Route → ℕ → ℕ
 place_in [] lo = 0
 place_in (other ∷ lines) lo = if nat_lt lo other.lo then 0 else 1 + place_in lines lo
 
--- these lines and one more, in its place
+-- these lines with one more, in its place
 abbrev pub placed : List Route → Route → List Route
 placed lines line = insert lines (place_in lines line.lo) line
 
@@ -64,7 +64,7 @@ placed lines line = insert lines (place_in lines line.lo) line
 abbrev pub ring_lines : StoreWorld → List Route
 ring_lines world = fold placed [] (flat_map (λ cut. option_to_list (cut_route world cut)) world.ring)
 
--- the summary of a journal
+-- the summary of a journal for the report
 abbrev pub summary_of : Scenario → List (Row Mail OrderLine) → Summary
 summary_of scenario journal = record {
   version = scenario.version;

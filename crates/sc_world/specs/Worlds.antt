@@ -1,4 +1,4 @@
--- What a world stands for, and what it holds of it.
+-- What a world stands for, and what it holds.
 use Rattle.std.specs.Prelude.{◌≡◌, ℕ, ◌<◌, ◌^◌, Bool, List, length}
 use Rattle.sc_cmd.specs.declared.orders.OrderLine.{OrderLine}
 use Rattle.sc_mail.specs.declared.bodies.Mail.{Mail}
@@ -16,7 +16,7 @@ pub record Standing : Type 0 where
   pub scenario : Scenario
   pub rows : List (Row Mail OrderLine)
 
--- what a world holds: rows that are lawful, of which each first part is sound and whose refusals have causes, fewer than 2^31 as are their mails, the parties as these leave them, how many lines were skipped, and whether no mail is pending
+-- what a world holds: lawful rows of which each prefix is sound and each refusal has its cause, fewer than 2^31 as are their mails; the nodes and clients as these rows leave them; the number of skipped lines; and whether no mail is pending
 pub record WorldHolds (scenario : Scenario) (rows : List (Row Mail OrderLine)) (left : List Player) (skips : ℕ) (quiet : Bool) : Type 0 where
   pub lawful : Lawful as_nodes two_words scenario rows
   pub sound : IsSoundThroughout as_nodes scenario rows
@@ -27,7 +27,7 @@ pub record WorldHolds (scenario : Scenario) (rows : List (Row Mail OrderLine)) (
   pub skips_are : skips ≡ skipped (system_of as_nodes two_words scenario) (schedule scenario) rows
   pub quiet_is : quiet ≡ is_quiet (system_of as_nodes two_words scenario) rows
 
--- a world stands for these rows of a scenario, which are lawful, each first part of which is sound, and whose refusals have causes
+-- a world stands for these rows of a scenario, which are lawful, each prefix of which is sound, and each refusal in which has its cause
 pub record StandsFor (scenario : Scenario) (rows : List (Row Mail OrderLine)) (world : Standing) : Type 0 where
   pub lawful : Lawful as_nodes two_words scenario rows
   pub sound : IsSoundThroughout as_nodes scenario rows

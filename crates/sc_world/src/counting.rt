@@ -26,7 +26,7 @@ fn got_at(alloc: Global, client: &ClientCore, i: usize, seq: u32) -> Result<Prog
     Ok(got_by(None, waits))
 }
 
-// The request after so many.
+// Returns the request of a client after its first `i` requests, with how far it came.
 fn asked_at(alloc: Global, client: &ClientCore, i: usize, op: &Op) -> Result<Asked, OutOfMemory>
     requires { i < most_requests }
     ensures { IfOk result (λ asked. asked ≡ asked_after client.now i op.now) }
@@ -65,7 +65,7 @@ fn add_party(alloc: Global, asked: &mut Sequence<Asked>, party: &Party) -> Resul
     }
 }
 
-/// The requests of the clients, each with how far it came.
+/// Returns the requests of all clients, each with how far it came. The only error is out of memory.
 pub(crate) fn all_asked(alloc: Global, parties: &[Party]) -> Result<Sequence<Asked>, OutOfMemory>
     ensures { IfOk result (λ asked. asked ≡ flat_map asked_by parties.now) }
 {
@@ -85,7 +85,7 @@ fn is_delivery(event: &Event<OrderLine>) -> bool
     }
 }
 
-/// How many rows deliver a mail.
+/// Returns the number of rows that deliver a mail.
 pub(crate) fn deliveries(rows: &[Row<Mail, OrderLine>]) -> u32
     requires { length rows.now < 2 ^ 31 }
     ensures { result ≡ count_by (λ row. is_delivery row.event) rows.now }
@@ -99,7 +99,7 @@ pub(crate) fn deliveries(rows: &[Row<Mail, OrderLine>]) -> u32
     total
 }
 
-/// How many mails the rows send.
+/// Returns the number of mails that the rows send.
 pub(crate) fn mail_count(rows: &[Row<Mail, OrderLine>]) -> u32
     requires { length (mails rows.now) < 2 ^ 31 }
     ensures { result ≡ length (mails rows.now) }
@@ -111,7 +111,7 @@ pub(crate) fn mail_count(rows: &[Row<Mail, OrderLine>]) -> u32
     total
 }
 
-/// The actors without their numbers.
+/// Returns the actors without their numbers. The only error is out of memory.
 pub(crate) fn parties_of(
     alloc: Global,
     seats: Vec<Seat<Party>>,

@@ -1,6 +1,6 @@
-//! The parties of a scenario, and what a journal of theirs says: whether it is lawful, what it
-//! leaves of each party, each group's decided log, the decided ring, its history, what was decided
-//! of each group, and its summary.
+//! The nodes and clients of a scenario, and what a journal of theirs shows: whether it is lawful,
+//! what it leaves of each node and client, each group's decided log, the decided ring, the history,
+//! each group's effective record, and the summary for the report.
 #![tactic(auto)]
 
 mod counting;

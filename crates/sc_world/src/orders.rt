@@ -1,4 +1,4 @@
-//! What the desk was told of the orders.
+//! What the rows of a journal report of the orders.
 ghost use Rattle.std.specs.Prelude.{◌≡◌, ℕ, ◌+◌, ◌<◌, ◌==◌, length, get_or, replicate, count_by, if◌then◌else◌, Some, None, IfOk};
 ghost use Rattle.sc_actor.specs.Mail.{mails};
 ghost use Rattle.sc_node_table.specs.Replica.{either};
@@ -20,14 +20,14 @@ fn is_order(line: &SchedLine) -> bool
     }
 }
 
-/// How many lines of a schedule are orders.
+/// Returns the number of orders in a schedule.
 pub(crate) fn order_count(lines: &[SchedLine]) -> usize
     ensures { result ≡ count_by is_order lines.now }
 {
     lines.iter().filter(|line| is_order(line)).count()
 }
 
-// The word on an order is kept, if it is the first on it.
+// Keeps a result of an order, if it is the first of that order.
 fn keep(told: &mut [Option<ToldResult>], order: u32, word: ToldResult)
     ensures len { length told.new ≡ length told.old }
     ensures kept { (k : ℕ) → k < length told.old → get_or told.new k None ≡
@@ -73,7 +73,7 @@ fn note_rows(told: &mut [Option<ToldResult>], rows: &[Row<Mail, OrderLine>])
     }
 }
 
-// No order is told of yet.
+// Returns a list of `count` orders without a result.
 fn untold(alloc: Global, count: usize) -> Result<Vec<Option<ToldResult>>, OutOfMemory>
     ensures { IfOk result (λ told. told.items ≡ replicate count None) }
 {
@@ -84,7 +84,8 @@ fn untold(alloc: Global, count: usize) -> Result<Vec<Option<ToldResult>>, OutOfM
     Ok(told)
 }
 
-/// What these rows' mails tell of so many orders: what the first mail on each says.
+/// Returns the result of each order, from 1 to `count`: that of the first mail which reports one.
+/// The only error is out of memory.
 pub(crate) fn orders_told(
     alloc: Global,
     count: usize,

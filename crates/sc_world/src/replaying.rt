@@ -1,4 +1,5 @@
-//! The world that a lawful journal of a scenario leaves, or the first row that is not lawful.
+//! The replay of rows: the world that a lawful journal of a scenario leaves, or the first row that
+//! is not lawful.
 ghost use Rattle.std.specs.Prelude.{◌<◌, ◌^◌, length, IfOk, MatchResult};
 ghost use Rattle.sc_actor.specs.Mail.{mails};
 ghost use Rattle.sc_scenario.specs.Valid.{IsValid};
@@ -26,7 +27,8 @@ use std::alloc::Global;
 /// Why rows are not replayed.
 #[derive(Clone, Copy, Debug, PartialEq, Eq)]
 pub enum ReplayFault {
-    /// The row at this place, from 1, is the first that is not lawful.
+    /// The rows are no lawful journal: the row with this number, from 1, is the first that is not
+    /// lawful.
     BadRow { at: u32 },
     OutOfMemory,
 }
@@ -42,7 +44,7 @@ impl From<OutOfMemory> for ReplayFault {
     }
 }
 
-// What rows leave if they are lawful for a scenario, and else the first that is not.
+// Returns what rows leave where they are lawful for a scenario, and else the first row that is not.
 fn taken(
     alloc: Global,
     scenario: &Scenario,
@@ -61,10 +63,11 @@ fn taken(
     replay(alloc, seats, lines.as_slice(), rows)
 }
 
-/// Replays rows: the world that they leave where they are a lawful journal of a scenario, of which
-/// each first part is sound and each refusal has its cause, and else which row, from 1, is the
-/// first that is not lawful. The scenario is one that some text is, or that is made, and rows and
-/// their mails are fewer than 2^31 each.
+/// Replays the rows of a scenario and returns the world that they leave, where they are lawful;
+/// each prefix of them is then sound, and each refusal has its cause. The scenario has to be valid,
+/// and rows and their mails fewer than 2^31 each.
+///
+/// Errors: `BadRow` names the first row that is not lawful; `OutOfMemory` may come for any rows.
 pub fn replay_rows<'a>(
     alloc: Global,
     scenario: &'a Scenario,

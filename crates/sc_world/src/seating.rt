@@ -34,6 +34,7 @@ fn node_seat(
     })
 }
 
+/// Returns the route that a client is given to a group at its birth.
 pub(crate) fn route_of(base: &Base) -> Route
     ensures { result ≡ route_of base.now }
 {
@@ -104,8 +105,9 @@ fn add_clients(
     }
 }
 
-/// The nodes and then the clients of a scenario, as they are born. Its groups stand in the order of
-/// their names, and no client has more requests than it may.
+/// Returns the nodes and then the clients of a scenario at their births. The groups have to stand
+/// in the order of their names, and no client may have more requests than the limit. The only error
+/// is out of memory.
 pub fn births(alloc: Global, scenario: &Scenario) -> Result<Vec<Seat<Party>>, OutOfMemory>
     requires ordered { are_in_order scenario.now.groups ≡ true }
     requires few { AreFew scenario.now }
@@ -152,7 +154,7 @@ fn line_of(line: &SchedLine) -> Line<OrderLine>
     }
 }
 
-/// The lines of a scenario's schedule, as the walk takes them.
+/// Returns the schedule of a scenario, as lines of the walk. The only error is out of memory.
 pub fn schedule(alloc: Global, scenario: &Scenario) -> Result<Vec<Line<OrderLine>>, OutOfMemory>
     ensures { IfOk result (λ lines. lines.items ≡ schedule scenario.now) }
 {
@@ -163,7 +165,7 @@ pub fn schedule(alloc: Global, scenario: &Scenario) -> Result<Vec<Line<OrderLine
     Ok(lines)
 }
 
-/// Whether no client has more requests than it may.
+/// Returns whether no client has more requests than the limit.
 pub fn has_few_requests(scenario: &Scenario) -> bool
     ensures { IsTrue result ↔ AreFew scenario.now }
 {

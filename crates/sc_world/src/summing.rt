@@ -25,7 +25,7 @@ use sc_scenario::Scenario;
 use sc_store_world::StoreWorld;
 use std::alloc::Global;
 
-// The line of a cut, if its group was born.
+// Returns the report's line of a range, if its group is there.
 fn cut_route(world: &StoreWorld, cut: &Cut) -> Option<Route>
     ensures { result ≡ cut_route world.now cut.now }
 {
@@ -39,7 +39,7 @@ fn cut_route(world: &StoreWorld, cut: &Cut) -> Option<Route>
     }
 }
 
-// Where a line that begins at a position stands among lines by ascending beginning.
+// Returns the place of a line that begins at a position, among lines by ascending beginning.
 fn place_in(lines: &[Route], lo: u32) -> usize
     ensures value { result ≡ place_in lines.now lo }
     ensures within { result ≤ length lines.now }
@@ -77,7 +77,7 @@ fn ring_lines(alloc: Global, world: &StoreWorld) -> Result<Vec<Route>, OutOfMemo
     Ok(lines)
 }
 
-// The lines of the ring of a journal.
+// Returns the lines of the ring of a journal.
 fn ring_of(
     alloc: Global,
     groups: &[Base],
@@ -91,9 +91,10 @@ fn ring_of(
     Ok(Sequence::from_vec(lines))
 }
 
-/// What the report tells of a journal of which each first part is sound, with the parties that its
-/// rows leave, the lines that were skipped, and whether no mail is pending; its rows and their mails
-/// are fewer than 2^31 each. Refused only for want of memory.
+/// Returns the summary of a journal for the report. The caller gives what the rows leave of the
+/// nodes and clients, the number of skipped lines, and whether no mail is pending. Each prefix of
+/// the journal has to be sound, and rows and mails fewer than 2^31 each. The only error is out of
+/// memory.
 pub fn sum_up(
     alloc: Global,
     scenario: &Scenario,
@@ -126,8 +127,8 @@ pub fn sum_up(
     })
 }
 
-/// What the report tells of a journal that was replayed for this scenario. Refused only for want of
-/// memory.
+/// Returns the summary of a replayed journal for the report. `scenario` has to be the world's. The
+/// only error is out of memory.
 pub fn summary(
     alloc: Global,
     scenario: &Scenario,

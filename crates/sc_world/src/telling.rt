@@ -1,5 +1,5 @@
-//! What the rows of a journal tell: each group's decided log, the decided ring, the history, and
-//! what was decided of each group. Read from the mail that the rows deliver and send, never from
+//! What the rows of a journal show: each group's decided log, the decided ring, the history, and
+//! each group's effective record. It is read off the mail that the rows deliver and send, never off
 //! what an actor holds.
 ghost use Rattle.std.specs.Prelude.{◌≡◌, IfOk};
 ghost use Rattle.std.specs.Option.{option_map};
@@ -22,8 +22,8 @@ use sc_mail::Mail;
 use sc_store_world::{StoreWorld, world_of};
 use std::alloc::Global;
 
-/// What the entries of rows make of the groups that the rows begin with, where the ring covers after
-/// each of them. Refused only for want of memory.
+/// Returns what the entries of rows make of the groups of a scenario. The ring has to cover after
+/// each prefix of the entries. The only error is out of memory.
 pub(crate) fn store_world(
     alloc: Global,
     groups: &[Base],
@@ -37,8 +37,9 @@ pub(crate) fn store_world(
     Ok(world)
 }
 
-/// The decided log of the group with a name in a journal: the longest list whose entry k is chosen
-/// at slot k. It is empty where the journal has no such group. Refused only for want of memory.
+/// Returns the decided log of the group with a name in a journal: the longest list whose entry k is
+/// chosen at slot k. It is empty where the journal has no such group. The only error is out of
+/// memory.
 pub fn decided_log(
     alloc: Global,
     world: &World<'_>,
@@ -55,8 +56,9 @@ pub fn decided_log(
     )
 }
 
-/// The decided ring of a journal: the cuts of the scenario's groups, as the entries of coordinators
-/// change them. It covers: each position lies in the arc of exactly one cut.
+/// Returns the decided ring of a journal: the ranges of the scenario's groups, as the entries of
+/// coordinators change them. The ring covers: each position lies in the arc of exactly one range.
+/// The only error is out of memory.
 pub fn decided_ring(alloc: Global, world: &World<'_>) -> Result<Vec<Cut>, OutOfMemory>
     ensures told { IfOk result (λ ring. ring.items ≡
         ring_at as_nodes world.now.scenario.groups world.now.rows) }
@@ -71,8 +73,8 @@ pub fn decided_ring(alloc: Global, world: &World<'_>) -> Result<Vec<Cut>, OutOfM
     Ok(ring)
 }
 
-/// The history of a journal: row by row the calls decided there that took effect, by slot,
-/// whichever group they are of. It is legal.
+/// Returns the history of a journal: row by row the calls decided there that took effect, in any
+/// group. The history is legal. The only error is out of memory.
 pub fn history(alloc: Global, world: &World<'_>) -> Result<Vec<Entry>, OutOfMemory>
     ensures told { IfOk result (λ entries. entries.items ≡
         history_at as_nodes world.now.scenario.groups world.now.rows) }
@@ -87,8 +89,8 @@ pub fn history(alloc: Global, world: &World<'_>) -> Result<Vec<Entry>, OutOfMemo
     Ok(history)
 }
 
-/// The effective record of a group in a journal, if it was born: as its own log makes it and as
-/// what was decided elsewhere makes it.
+/// Returns the effective record of a group in a journal, if there is such a group: what its own log
+/// makes of it, and then what was decided elsewhere. The only error is out of memory.
 pub fn effective(alloc: Global, world: &World<'_>, group: Draw) -> Result<Option<Base>, OutOfMemory>
     ensures { IfOk result (λ base. base ≡ option_map base_of
         (effective (world_at as_nodes world.now.scenario.groups world.now.rows) group)) }

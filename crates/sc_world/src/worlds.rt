@@ -13,13 +13,12 @@ use sc_mail::Mail;
 use sc_scenario::Scenario;
 use std::marker::Model;
 
-/// A scenario and a lawful journal of it, of which each first part is sound and each refusal has its
-/// cause, replayed: the nodes and then the clients, as their rows leave them, how many lines of the
-/// schedule were skipped, and whether no mail is pending. Its rows and their mails are fewer than
-/// 2^31 each.
+/// The replay of a lawful journal of a scenario: the nodes and then the clients as their rows leave
+/// them, the number of skipped lines, and whether no mail is pending. Each prefix of the journal is
+/// sound, each refusal in it has its cause, and its rows and mails are fewer than 2^31 each.
 ///
-/// Contracts see the scenario and the rows that it refers to; that these are lawful and sound, and
-/// refuse with cause, every world says (`stands`).
+/// Contracts see the scenario and the rows. That these are lawful and sound, and refuse with cause,
+/// holds of every world (`stands`).
 #[derive(Drop)]
 pub struct World<'a> {
     pub(crate) scenario: &'a Scenario,
@@ -40,8 +39,8 @@ impl<'a> Model for World<'a> {
 }
 
 impl<'a> World<'a> {
-    /// The rows are a lawful journal of the scenario, each first part of it is sound, and each of
-    /// its refusals has its cause.
+    /// Shows that the rows are a lawful journal of the scenario, that each prefix of it is sound,
+    /// and that each of its refusals has its cause. It has no effect.
     pub fn stands(&self)
         ensures lawful { Lawful as_nodes two_words self.now.scenario self.now.rows }
         ensures sound { IsSoundThroughout as_nodes self.now.scenario self.now.rows }
@@ -50,7 +49,8 @@ impl<'a> World<'a> {
         let _kept = self.quiet;
     }
 
-    /// The nodes and then the clients, in order of number, each as its rows leave it.
+    /// Returns the nodes and then the clients, in the order of their numbers, each as its rows
+    /// leave it.
     pub fn parties(&self) -> &[Party]
         ensures { result.now ≡ parties as_nodes self.now.scenario self.now.rows }
     {

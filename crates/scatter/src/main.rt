@@ -15,8 +15,8 @@ impl Gate for Open {
     fn pass(&self, _who: u32) {}
 }
 
-// The words behind the program's name. A word that is not Unicode is none that the program knows,
-// so all words together are then as good as none.
+// Returns the arguments behind the program's name. An argument that is not Unicode is none that the
+// program knows, so then no argument is returned.
 fn words_of(rt: &HostRuntime) -> Result<Vec<String>, OutOfMemory> {
     let mut words = Vec::new(rt.alloc());
     match env::args(rt) {

@@ -3,7 +3,7 @@ use Rattle.sc_node_table.specs.Replica.{either}
 use Rattle.sc_world.specs.Summary.{told_of}
 use Rattle.sc_world.proofs.orders.note_all.Given as goal
 
--- what the mails so far tell
+-- what the mails so far report
 abbrev pub invariant-loop-mail : goal.invariant-loop-mail
 invariant-loop-mail l = record {
   len : length l.told ≡ length l.initial.told;

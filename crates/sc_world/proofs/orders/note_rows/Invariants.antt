@@ -4,7 +4,7 @@ use Rattle.sc_node_table.specs.Replica.{either}
 use Rattle.sc_world.specs.Summary.{told_of}
 use Rattle.sc_world.proofs.orders.note_rows.Given as goal
 
--- what the rows so far tell
+-- what the rows so far report
 abbrev pub invariant-loop-row : goal.invariant-loop-row
 invariant-loop-row l = record {
   len : length l.told ≡ length l.initial.told;
