@@ -35,7 +35,7 @@ left_told (Tells slot) before left (inl is) never = absurd (never slot refl)
 left_told Other before left (inl is) never = ap told is
 left_told taken before left (inr is) never = ap told is.1
 
--- .. what is asked for behind a vote is above it
+-- what is asked for behind a vote is above it
 above_vote : (low : ℕ) (taken : Mark) (before left : List Mark) (node slot other : ℕ) → IsTaken taken before left → AreInOrder low before → taken ≡ Votes node slot → Among (Asks other) left → slot < other
 above_vote low taken before left node slot other (inl is) o same a =
     let first : AreInOrder low (Votes node slot ∷ left) = subst (λ m. AreInOrder low (m ∷ left)) same (subst (AreInOrder low) is o) in
@@ -43,7 +43,7 @@ above_vote low taken before left node slot other (inl is) o same a =
     omega (arith, at)
 above_vote low taken before left node slot other (inr is) o same a = absurd (votes≢other node slot (sym same ∙ is.0))
 
--- .. and so its slot is not the one whose vote is taken
+-- a slot that is asked for behind a vote is not the slot of the vote
 elsewhere : (low : ℕ) (taken : Mark) (before left : List Mark) (slot : ℕ) → IsTaken taken before left → AreInOrder low before → Among (Asks slot) left → IsElsewhere taken slot
 elsewhere low (Votes node other) before left slot t o a = λ same. (let at = above_vote low (Votes node other) before left node other slot t o refl a in omega (arith, at, same))
 elsewhere low (Asks other) before left slot t o a = tt

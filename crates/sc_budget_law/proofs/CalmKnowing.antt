@@ -184,7 +184,7 @@ module _ (frames : List Frame) (ring : AreRoundRing frames) where
         let w = parts_of front frame a in
         behind p frame a near lacks w.0 w.1 back refl w.2 (parts ∙ (ap (λ (fs : List Frame). fs ++ back) w.2 ∙ append_assoc w.0 (frame ∷ w.1) back))
 
-  -- ---- a client is told that a key is not the chosen group's
+  -- ---- a client learns that a key is not the chosen group's
 
   module _ (reached p : ℕ) (frame : Frame) (known : KnownGroups) (k : KnowsFirst frames reached known) (a : Among frame frames) (c : chosen p known ≡ Some frame.core.id) (lacks : holds frame.core.arc p ≡ false) where
     best : IsChosen p known frame.core.id
