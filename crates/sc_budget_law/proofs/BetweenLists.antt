@@ -100,7 +100,7 @@ asks≢other slot e = cc
 pub votes≢other : (node slot : ℕ) → Votes node slot ≡ Other → ⊥
 votes≢other node slot e = cc
 
--- ---- what is told
+-- ---- the slots of Tells marks
 
 pub told-append : (xs ys : List Mark) → told (xs ++ ys) ≡ told xs ++ told ys
 told-append [] ys = refl

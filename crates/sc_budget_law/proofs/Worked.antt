@@ -107,7 +107,7 @@ answered first others groups_are one a is =
       | inr none ↦ absurd none
     ]
 
--- the one member is told to leave its group, which is refused
+-- the one member gets the order to leave its group, which is refused
 abbrev pub leave_it : OrderLine
 leave_it = record { number = 1; order = Leave 1 lone_name }
 

@@ -36,7 +36,7 @@ pub record Accepts (frame : Frame) (now after : View) (node : ℕ) (taken : Mark
   pub lead : sent frame.lead ≡ Votes node slot ∷ []
   pub others : (who : ℕ) → (who ≡ frame.lead → ⊥) → Each IsOther (sent who)
 
--- a node that does not lead executes the entry that it is told
+-- a node that does not lead executes the entry that a Learn brings
 pub record Learns (frame : Frame) (now after : View) (node : ℕ) (taken : Mark) (sent : ℕ → List Mark) : Type 0 where
   pub slot : ℕ
   pub takes : taken ≡ Tells slot
