@@ -1,4 +1,4 @@
--- That the mail of clients' requests lowers the potential of a calm journal, between two orders.
+-- The mail of clients' requests lowers the potential of a calm journal, between two orders.
 use Rattle.std.specs.Prelude.{◌≡◌, ℕ, false, List, []}
 use Rattle.sc_node_table.specs.Values.{Op, OrderLine, Mail, Row, MailBody, Request}
 use Rattle.sc_scenario.specs.declared.scenarios.Scenario.{Scenario}
