@@ -72,7 +72,7 @@ module _ (words : ℕ → ℕ → ℕ × ℕ) (births : List (Seat Player)) (row
   same_is : (x : ReplicaState) → view_at births (with_event rows seat event) base.core.id seat.who ≡ Some x → x ≡ after.0
   same_is x e = same_some (view_at births (with_event rows seat event) base.core.id seat.who) x after.0 e row.is
 
-  -- if it runs after it, it has elected itself by an entry that it is told
+  -- if it runs after it, it has elected itself by an entry that it learns
   told_last : after.0.running ≡ true → (slot : ℕ) × (taken_mark base.core.id (mails rows) event ≡ Some (Tells slot))
   told_last runs = elim g.step.row [
     | RowPasses e idle ↦ elim idle.view [

@@ -51,6 +51,6 @@ led_rows_go_on = led_rows_go_on_by scenarios_are_well_born scenarios_are_kept_bo
 pub groups_begin_taught : GroupsBeginTaught
 groups_begin_taught = groups_begin_taught_by valid_scenarios_are_bounded groups_are_born_or_not slots_have_rosters groups_begin_standing ends_are_logged scenarios_begin_taught children_begin_taught
 
--- So after each row each has learnt it or does by its mail, and nobody else is told one; and the group's log is one.
+-- So after each row each has learnt it or does by its mail, and nobody else learns one; and the group's log is one.
 pub groups_are_taught : GroupsAreTaught
 groups_are_taught = groups_are_taught_by scenarios_are_well_born groups_are_taught_through groups_are_led led_logs_are_one groups_begin_taught

@@ -1,4 +1,4 @@
--- In a line of requests a client that was not told to go stays as it was, and nothing is sent to who is no actor but what is nothing to any group.
+-- In a line of requests a client that has not started stays as it was, and nothing is sent to who is no actor but what is nothing to any group.
 use Rattle.std.proofs.Common.{◌≡◌, ℕ, ◌+◌, ◌≤◌, ◌&&◌, ◌||◌, eqb, Bool, true, false, List, [], ◌∷◌, ◌++◌, length, drop, filter, find, Some, inl, inr, refl, sym, ◌∙◌, ap, subst, arith, append_assoc, append-nil}
 use Rattle.std.proofs.lemmas.Bool.{cond_both, cases_eq, both_ways, eqb-true, eq-eqb, or_right}
 use Rattle.std.proofs.lemmas.List.Folds.{list_any-append}
@@ -202,7 +202,7 @@ module _ (words : ℕ → ℕ → ℕ × ℕ) (scenario : Scenario) (begins : Is
           ))
     ]
 
-    -- .. and of clients alone
+    -- what is kept of clients alone
     pub fresh_row : (Born : Asks → ClientState → Type 0) (row : Row Mail OrderLine) → IsOrderly (system_of as_nodes words scenario) rows row → AreFresh Born rows → AreFresh Born (rows ++ row ∷ [])
     fresh_row Born row o h = elim (of_player words scenario begins rows row o) [
       | inl n ↦ (

@@ -1,4 +1,4 @@
--- The segments of a calm journal: quiet fronts that rest, requests behind them, and orders.
+-- The segments of a calm journal: quiet prefixes that rest, requests behind them, and orders.
 use Rattle.std.proofs.Common.{◌≡◌, ℕ, ◌+◌, ◌≤◌, true, false, true≢false, List, [], ◌∷◌, ◌++◌, length, refl, sym, ◌∙◌, ap, subst, arith, append_assoc, append-nil}
 use Rattle.sc_base.specs.Definitions.{Each}
 use Rattle.sc_node_table.specs.Values.{Base, OrderLine, Mail, Seat, Event, Deliver, Row}
@@ -17,7 +17,7 @@ use Rattle.sc_calm_charts_law.specs.Definitions.{chart_at, names_at, quiet_front
 use Rattle.sc_calm_answers_law.specs.Definitions.{IsCalmJournal, IsFront, GoesOnBy, RestsAt, JournalsBeginResting, GoesHome, RequestsSendNoErrands, HomewardGoesToActors, IsAskedSince, RequestsBeginAsked, AskedRowsGoOn, AskedRowsFindCalm, RequestsKeepGroups, RequestsRestAgain, IsOrderedSince, OrdersBeginOrdered, DeliveriesKeepOrdered, OrdersLeaveResting, HasFewNames, ClientsAreNear, NamesStayFew}
 use Rattle.sc_calm_answers_law.proofs.Segments.{Parts, IsSegment, segments}
 
--- an order that is told
+-- an order that is given
 pub told_line : (event : Event OrderLine) → is_told event ≡ true → (line : OrderLine) × (event ≡ Told line)
 told_line (Told line) told = (line, refl)
 told_line _ told = absurd (true≢false (sym told))
@@ -51,7 +51,7 @@ module _ (laws : SegmentLaws) (words : ℕ → ℕ → ℕ × ℕ) (scenario : S
   abbrev s : System Player Mail OrderLine
   s = players words (births as_nodes scenario)
 
-  -- a quiet front that rests, in which errands went to nodes, and no more groups were led than there were groups and orders
+  -- a quiet prefix that rests, in which errands went to nodes, and no more groups were led than there were groups and orders
   pub record RestsSo (quiet : Rows) : Type 0 where
     pub rests : RestsAt words scenario first journal quiet
     pub home : Each (GoesHome scenario) (mails quiet)
@@ -90,7 +90,7 @@ module _ (laws : SegmentLaws) (words : ℕ → ℕ → ℕ × ℕ) (scenario : S
             (λ name there. (laws.groups_law words scenario first others far sends journal quiet (rows ++ row ∷ []) frame.calm frame.groups later name).0 (subst (λ l. IsThere all l name) shift there)) a.named;
       }
 
-  -- .. which finds what keeps the journal calm
+  -- a row of requests finds what keeps the journal calm
   pub asks_find : (quiet rows : Rows) → quiet_front s (quiet ++ rows) ≡ quiet → RestsSo quiet → AsksSo quiet rows → (seat : Seat Player) (event : Event OrderLine) → IsSeat all seat → IsInOrder s (quiet ++ rows) seat.who event
       → FindsCalm (chart_at far sends s (quiet ++ rows)) all (quiet ++ rows) seat event
   asks_find quiet rows last r a seat event seated order =
@@ -172,6 +172,6 @@ module _ (laws : SegmentLaws) (words : ℕ → ℕ → ℕ × ℕ) (scenario : S
           let same = ap orders (append_assoc quiet (row ∷ []) rows) in
           omega (arith, one, more, same)
 
-  -- each front falls into such segments
+  -- each prefix falls into such segments
   pub segment_at : (rows : Rows) → IsFront journal rows → AreInTime s rows → IsSegment s RestsSo AsksSo OrdersSo rows
   segment_at rows front timely = segments s RestsSo AsksSo OrdersSo (IsFront journal) parts rows front timely
