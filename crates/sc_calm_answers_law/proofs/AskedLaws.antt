@@ -32,7 +32,7 @@ sent_nodes_may_pump = sent_nodes_pump valid_scenarios_are_bounded lawful_replica
 pub requests_begin_asked : RequestsBeginAsked
 requests_begin_asked = begin_asked resting_fronts_are_known requests_begin requests_keep_ballots no_mail_for_strangers
 
--- Whatever comes in order while clients ask alone, which tells no order, leaves it so.
+-- Whatever comes in order while clients ask alone, which gives no order, leaves it so.
 pub requests_stay_asked : RequestsStayAsked
 requests_stay_asked = stay_asked valid_scenarios_are_bounded fronts_are_found slots_are_left requests_stay requests_leave_young next_rows_are_sent next_rows_rise requests_keep_ballots
 

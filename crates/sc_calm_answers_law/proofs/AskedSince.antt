@@ -229,7 +229,7 @@ module _ (all_bounded : ValidScenariosAreBounded) (found_law : FrontsAreFound) (
 pub stay_asked : ValidScenariosAreBounded → FrontsAreFound → SlotsAreLeft → RequestsStay → RequestsLeaveYoung → NextRowsAreSent → NextRowsRise → RequestsKeepBallots → RequestsStayAsked
 stay_asked = stays
 
--- so does each row of the journal that tells no order
+-- so does each row of the journal that gives no order
 pub rows_asked : RequestsStayAsked → AskedRowsGoOn
 rows_asked stay_law words scenario first others far sends journal quiet after row calm groups asked front untold =
     let s : System Player Mail OrderLine = players words (births as_nodes scenario) in

@@ -135,7 +135,7 @@ module _ (bear : EntriesBearChildren) (words : ℕ → ℕ → ℕ × ℕ) (scen
             let low = (one.told rows seat number mail slot command r d body (view_of r here) place).0 in
             child_there child (bear.learnt as_nodes words scenario journal base group rows seat node r (has d.row) number mail slot command d.sent body place low child b (ap (is_member child.core.members) holds.well.0 ∙ member))
 
-    -- where a mail tells it of an entry
+    -- where a mail brings it an entry
     module _ (number : ℕ) (mail : Mail) (d : Delivers front rows seat number mail) (timely : AreInTime (players words (births as_nodes scenario)) (with_event rows seat (Deliver number))) (slot : ℕ) (marked : mark_of base.core.id mail.from mail.body ≡ Some (Tells slot)) where
       no_mark : mark_of base.core.id mail.from mail.body ≡ None → ⊥
       no_mark none = none-some (Tells slot) (sym none ∙ marked)

@@ -33,7 +33,7 @@ named_is name group mark other e = elim (cases_Bool (same_draw group name)) [
   | inr f ↦ (let s : None ≡ Some other = sym (cond-false (same_draw group name) (Some mark) None f) ∙ e in cc)
 ]
 
--- only a mail that tells an entry has the mark of one
+-- only a mail that brings an entry has the mark of one
 tells_body : (name : Draw) (from slot : ℕ) (body : MailBody) → mark_of name from body ≡ Some (Tells slot) → (group : Draw) × (command : Command) × (body ≡ Learn group slot command)
 tells_body name from slot (Learn group other command) e = (group, command, (let same : Tells other ≡ Tells slot = named_is name group (Tells other) (Tells slot) e in cc))
 tells_body name from slot (Accept group ballot other command) e = (let bad : Asks ballot other ≡ Tells slot = named_is name group (Asks ballot other) (Tells slot) e in cc)

@@ -17,7 +17,7 @@ use Rattle.sc_calm_answers_law.specs.Definitions.{RequestsBegin, RequestsStay, R
 pub requests_begin : RequestsBegin
 requests_begin = requests_begin_by valid_scenarios_are_bounded quiet_journals_have_frames chart_hints_rise quiet_journals_ask quiet_groups_have_cuts standing_groups_are_round quiet_settings_are_linked views_agree quiet_charts_count quiet_journals_know_one lawful_quiet_journals_count_once requests_go_on request_rows_find_calm slots_are_left replicas_last
 
--- Whatever comes in order while clients ask alone, which tells no order, leaves it so.
+-- Whatever comes in order while clients ask alone, which gives no order, leaves it so.
 pub requests_stay : RequestsStay
 requests_stay = requests_stay_by valid_scenarios_are_bounded quiet_journals_have_frames chart_hints_rise quiet_journals_ask quiet_groups_have_cuts standing_groups_are_round quiet_settings_are_linked views_agree quiet_charts_count quiet_journals_know_one lawful_quiet_journals_count_once requests_go_on request_rows_find_calm slots_are_left replicas_last
 

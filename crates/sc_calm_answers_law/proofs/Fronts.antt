@@ -29,7 +29,7 @@ journal_few few_law words scenario journal calm base rows more who r e view =
     let low = left.0 in
     (omega (arith, low), left.1)
 
--- what comes in time and tells no order comes in order
+-- what comes in time and gives no order comes in order
 pub untold_in_order : (s : System Player Mail OrderLine) (rows : Rows) (who : ℕ) (event : Event OrderLine) → is_told event ≡ false → IsCalmEvent s rows who event → IsInOrder s rows who event
 untold_in_order s rows who Go untold fine = fine
 untold_in_order s rows who (Deliver number) untold fine = fine

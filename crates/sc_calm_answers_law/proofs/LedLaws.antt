@@ -15,7 +15,7 @@ use Rattle.sc_calm_answers_law.proofs.Taught.{groups_are_taught as groups_are_ta
 pub groups_begin_standing : GroupsBeginStanding
 groups_begin_standing = groups_begin_standing_by valid_scenarios_are_bounded valid_scenarios_begin_well orders_are_allowed_allowed orders_are_allowed_wishes orders_are_allowed_positions names_have_one_owner_others
 
--- A group that is gone by its log stays so, is not as it begins, and each replica says so of it at its next slot, also with an entry more that a mail tells it.
+-- A group that is gone by its log stays so, is not as it begins, and each replica says so of it at its next slot, also with an entry more that a Learn brings.
 pub ends_are_logged : EndsAreLogged
 ends_are_logged = ends_are_logged_by valid_scenarios_are_bounded valid_scenarios_begin_well orders_are_allowed_allowed orders_are_allowed_wishes orders_are_allowed_positions names_have_one_owner_others
 

@@ -78,7 +78,7 @@ module _ (words : ℕ → ℕ → ℕ × ℕ) (scenario : Scenario) (begins : Is
       (λ slot m. (let at = seated.voters p.frame slot mail.to p.is_frame m in both_ways (is_born sys who) away (ap (is_born sys) (sym to) ∙ node_is_born mail.to at.0 at.1))) mail.body p.says
   calm_nothing begun who away mail (inr s) to name = aside_mark begun set name mail mail.body refl s
 
-  -- what holds after each row: of the desk, and of clients that were not told to go
+  -- what holds after each row: of the desk, and of clients that have not started
   abbrev pub AtDesk : Journal → Type 0
   AtDesk rows = (who : ℕ) → is_born (system_of as_nodes words scenario) who ≡ false → Each IsNothing (rest (system_of as_nodes words scenario) rows who)
 
@@ -133,7 +133,7 @@ module _ (words : ℕ → ℕ → ℕ × ℕ) (scenario : Scenario) (begins : Is
       client_sent Tick fine who = absurd fine
       client_sent _ fine who = absurd fine
 
-      -- ---- no mail is for one that was not told to go
+      -- ---- no mail is for one that has not started
 
       begun_none : has_gone rows (client_actor asks.client) ≡ false → (client seq : ℕ) (op : Op) → IsBegun scenario rows client seq op → client_actor asks.client ≡ client_actor client → ⊥
       begun_none not_gone client seq op b e =

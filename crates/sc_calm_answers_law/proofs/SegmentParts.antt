@@ -38,7 +38,7 @@ pub record SegmentLaws : Type 0 where
   pub keep_law : DeliveriesKeepOrdered
   pub over_law : OrdersLeaveResting
 
--- a calm journal that tells few orders, by how long ways may be, and how often clients may be sent on
+-- a calm journal with few orders, by how long ways may be, and how often clients may be sent on
 pub record IsFramed (words : ℕ → ℕ → ℕ × ℕ) (scenario : Scenario) (first : Base) (others : List Base) (far sends : ℕ) (journal : Rows) : Type 0 where
   pub groups : scenario.groups ≡ first ∷ others
   pub calm : IsCalmJournal words scenario journal
@@ -102,7 +102,7 @@ module _ (laws : SegmentLaws) (words : ℕ → ℕ → ℕ × ℕ) (scenario : S
   abbrev event_of : Row Mail OrderLine → Event OrderLine
   event_of row = row.event
 
-  -- what an order tells
+  -- what the row of an order gives
   module _ (quiet : Rows) (row : Row Mail OrderLine) (front : IsFront journal (quiet ++ row ∷ [])) (timely : AreInTime s (quiet ++ row ∷ [])) (r : RestsSo quiet) (seat : Seat Player) (line : OrderLine) (is : row ≡ row_of player_table seat quiet (Told line)) (seated : IsSeat all seat) where
     abbrev told_all : IsOrderedSince words scenario first journal quiet (with_event quiet seat (Told line)) × StageAfter all quiet seat (Told line) Still × ((far_ sent : ℕ) → FindsCalm (chart_at far_ sent s quiet) all quiet seat (Told line))
     told_all =

@@ -1,4 +1,4 @@
--- What the parties of an order are after some rows since a quiet journal, by what all logs tell.
+-- What the parties of an order are after some rows since a quiet journal, by what all logs record.
 use Rattle.std.proofs.Common.{◌≡◌, ℕ, false, true≢false, List, [], ◌∷◌, ◌++◌, Option, Some, None, ◌⊎◌, inl, inr, sym, ◌∙◌, ap, subst}
 use Rattle.sc_base.specs.Definitions.{Each}
 use Rattle.sc_node_table.specs.Values.{Draw, Seat, Body, Offer, Command, Split, Begin, RecordVote, Base, Coordinating, Free, Promised, Frozen, Heard, Flight}

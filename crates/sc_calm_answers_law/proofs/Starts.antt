@@ -22,7 +22,7 @@ use Rattle.sc_calm_answers_law.proofs.Hinting.{no_append}
 
 -- ---- what clients know
 
--- In a quiet journal a client that was not told to go knows one group alone.
+-- In a quiet journal a client that has not started knows one group alone.
 pub know_one : QuietJournalsKnowOne
 know_one words scenario first rows q asks client a not_gone v =
     let p = q.players asks a in

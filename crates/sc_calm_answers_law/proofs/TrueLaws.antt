@@ -19,7 +19,7 @@ replicas_tell =
     replicas_tell_by valid_scenarios_are_bounded valid_scenarios_begin_well orders_are_allowed_allowed orders_are_allowed_wishes orders_are_allowed_positions
     names_have_one_owner_others
 
--- What a journal tells a transaction to have come to can be carried out by its participant, as it was when it voted.
+-- The outcome that a journal records of a transaction can be carried out by its participant, as it was when it voted.
 pub outcomes_are_taken : OutcomesAreTaken
 outcomes_are_taken =
     outcomes_taken valid_scenarios_are_bounded valid_scenarios_begin_well orders_are_allowed_allowed orders_are_allowed_wishes orders_are_allowed_positions
@@ -59,7 +59,7 @@ finishes_are_true = finishes_true replicas_tell valid_journals_are_sound valid_e
 pub entries_are_true : EntriesAreTrue
 entries_are_true = entries_true replicas_tell valid_journals_are_sound valid_entries_are_logs outcomes_are_taken votes_are_true records_are_true
 
--- Since a quiet journal nobody is asked to promise a ballot in the group that gets an order, or coordinates its transaction: not by the row that tells it.
+-- Since a quiet journal nobody is asked to promise a ballot in the group that gets an order, or coordinates its transaction: not by the row that gives it.
 pub settled_orders_begin : SettledOrdersBegin
 settled_orders_begin = settled_begin replicas_tell
 
