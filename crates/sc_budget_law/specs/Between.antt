@@ -75,8 +75,7 @@ pub record IsLearning (from to : ℕ) (marks : List Mark) : Type 0 where
 abbrev pub IsVoting : ℕ → ℕ → List ℕ → List Mark → List Mark → Type 0
 IsVoting node slot voters to_node to_lead = (is_member voters node ≡ true) ⊎ (Among (Asks slot) to_node ⊎ Among (Votes node slot) to_lead)
 
--- what stands between the leader of a group and its nodes, where `marks` are the marks of the mail that each has not taken: what a member has to learn is under way to it in order; what is asked or told is of slots below the first that was never offered;
--- and of each command in flight each member's vote is counted, under way or still asked for
+-- what stands between the leader of a group and its nodes, where `marks` are the marks of the mail that each has not taken: what a member has to learn is under way to it in order; what is asked or told is of slots below the first that was never offered; and of each command in flight each member's vote is counted, under way or still asked for
 pub record IsBetween (frame : Frame) (view : View) (marks : ℕ → List Mark) : Type 0 where
   pub learners : (node : ℕ) → is_member frame.core.members node ≡ true → (node ≡ frame.lead → ⊥) → IsLearning (view.next node) (view.next frame.lead) (marks node)
   pub order : (node : ℕ) → AreInOrder (view.next node) (marks node)

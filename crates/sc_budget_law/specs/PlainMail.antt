@@ -45,8 +45,7 @@ IsPlainCommand begun frame (Finish tx outcome) = ⊥
 IsPlainCommand begun frame (Watched tx watch) = ⊥
 IsPlainCommand begun frame (RecordWatch tx vote by) = ⊥
 
--- what an answer to a request may say: a reply, whose value was written by a begun request; NotMine with the group's arc and successor, where the arc does not hold the key;
--- or Stale with the number of a later request of the client, which is begun
+-- what an answer to a request may say: a reply, whose value was written by a begun request; NotMine with the group's arc and successor, where the arc does not hold the key; or Stale with the number of a later request of the client, which is begun
 abbrev pub IsPlainAnswer : Requests → Frame → ℕ → ℕ → Op → AnswerBody → Type 0
 IsPlainAnswer begun frame client seq op (Value reply) = (value : List ℕ) → reply.old ≡ Some value → IsWrittenValue begun value
 IsPlainAnswer begun frame client seq op (NotMine arc succ) = (holds_key frame.core.arc (key_of op) ≡ false) × (arc ≡ frame.core.arc) × (succ ≡ frame.core.succ)

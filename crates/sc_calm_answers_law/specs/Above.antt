@@ -37,8 +37,7 @@ AreAbove top (d ∷ dated) = IsAbove top d.0 d.1 × AreAbove (top_by top d.0) da
 abbrev pub HasBelow : ℕ → ReplicaState → Type 0
 HasBelow top r = Each (λ report. report.slot < top) r.acceptor.accepted
 
--- what holds of a group after some rows, in a course: no node has accepted, or is asked to accept, anything at a slot at which nothing was offered; each node is asked to promise only from above all that it has accepted by then;
--- no replica keeps a report, and none has seen a later ballot than the course's
+-- what holds of a group after some rows, in a course: no node has accepted, or is asked to accept, anything at a slot at which nothing was offered; each node is asked to promise only from above all that it has accepted by then; no replica keeps a report, and none has seen a later ballot than the course's
 pub record IsAskedOn (words : ℕ → ℕ → ℕ × ℕ) (births : List (Seat Player)) (rows : Rows) (base : Base) (course : Course) : Type 0 where
   pub tops : ℕ → ℕ
   pub low : (node : ℕ) → tops node ≤ course.bound

@@ -22,8 +22,7 @@ use Rattle.sc_calm_answers_law.specs.JournalUnder.{IsUnder}
 abbrev pub Knows : Draw → ReplicaState → Type 0
 Knows name r = list_any (λ other. same_draw other name) r.group.core.born ≡ true
 
--- of the groups of a journal, one that had no replica in the quiet prefix has one only if it is the child of an order that splits; a node with a replica of that child has a replica of the parent that lists it;
--- and a first member of the child whose replica of the parent lists it has a replica of the child
+-- of the groups of a journal, one that had no replica in the quiet prefix has one only if it is the child of an order that splits; a node with a replica of that child has a replica of the parent that lists it; and a first member of the child whose replica of the parent lists it has a replica of the child
 pub record AreBorneSo (scenario : Scenario) (journal quiet rows : Rows) (task : Task) : Type 0 where
   pub only : (base : Base) → Among base (groups_at as_nodes scenario.groups journal) → IsNowhere (births as_nodes scenario) quiet base.core.id → IsThere (births as_nodes scenario) rows base.core.id → (task.splits ≡ true) × (base.core.id ≡ task.name)
   pub known : task.splits ≡ true → (base : Base) → Among base (groups_at as_nodes scenario.groups journal) → base.core.id ≡ task.name → (who : ℕ) (x : ReplicaState) → view_at (births as_nodes scenario) rows task.name who ≡ Some x

@@ -16,8 +16,7 @@ pub record IsFated (at : Sets) (by : Tellers) (now : Progress) (hints : ℕ → 
 abbrev pub EndsGone : Progress → (ℕ → List Mark) → ℕ → Type 0
 EndsGone now marks who = (now.course.gone ≡ true) × (reached (now.next who) (marks who) ≡ now.course.newest)
 
--- each node that decides no open slot is as `IsFated` says, and in a group that is gone so is each that has not executed all;
--- the node that led last has executed all of a group that is gone, and decides an open slot of one that stands but has no leader
+-- each node that decides no open slot is as `IsFated` says, and in a group that is gone so is each that has not executed all; the node that led last has executed all of a group that is gone, and decides an open slot of one that stands but has no leader
 pub record AreFated (at : Sets) (by : Tellers) (now : Progress) (hints : ℕ → Option ℕ) (marks : ℕ → List Mark) : Type 0 where
   pub fates : (who : ℕ) → (IsOpen at now.course.newest who → now.course.gone ≡ true) → EndsGone now marks who ⊎ IsFated at by now hints marks who
   pub last : now.course.runs ≡ false → now.course.gone ≡ true → now.next now.course.ballot.node ≡ now.course.newest

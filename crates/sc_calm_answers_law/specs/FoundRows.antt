@@ -26,8 +26,7 @@ pub record IsToldCalmly (words : ℕ → ℕ → ℕ × ℕ) (births : List (Sea
   pub strangers : (name : Draw) (who : ℕ) → is_born (players words births) who ≡ false → marks_at (players words births) rows name who ≡ []
   pub room : (name : Draw) (node : ℕ) (r : ReplicaState) → view_at births rows name node ≡ Some r → r.running ≡ true → (next r ≤ last_slot) × WaitsForFlights r
 
--- what is known of a row that comes in time while an order is under way: each group that has a replica, or of which a state comes, is guided; mail of transactions is as `IsUnsettled` says; no request comes;
--- a leader that counts a vote has only work in flight, and only true entries; an order is given as `IsToldCalmly` says; and no client takes mail of a transaction
+-- what is known of a row that comes in time while an order is under way: each group that has a replica, or of which a state comes, is guided; mail of transactions is as `IsUnsettled` says; no request comes; a leader that counts a vote has only work in flight, and only true entries; an order is given as `IsToldCalmly` says; and no client takes mail of a transaction
 pub record IsOrdersRow (words : ℕ → ℕ → ℕ × ℕ) (scenario : Scenario) (rows : Rows) (seat : Seat Player) (event : Event OrderLine) : Type 0 where
   pub bounded : IsBounded scenario
   pub seated : IsSeat (births as_nodes scenario) seat

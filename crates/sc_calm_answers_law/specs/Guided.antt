@@ -25,8 +25,7 @@ IsReached births rows base course = (node : ℕ) × (r : ReplicaState) × (view_
 abbrev pub IsReachedSo : List (Seat Player) → Rows → Base → Course → Type 0
 IsReachedSo births rows base course = IsThere births rows base.core.id → IsReached births rows base course
 
--- a group is guided at a row: it is well led before the row and after it; up to the row its log is one and its mail is as `IsSentSo` says;
--- what a replica is bound by depends only on how much it has executed, before the row and after it; and some replica has the newest state
+-- a group is guided at a row: it is well led before the row and after it; up to the row its log is one and its mail is as `IsSentSo` says; what a replica is bound by depends only on how much it has executed, before the row and after it; and some replica has the newest state
 pub record IsGuided (words : ℕ → ℕ → ℕ × ℕ) (births : List (Seat Player)) (rows : Rows) (seat : Seat Player) (event : Event OrderLine) (base : Base) : Type 0 where
   pub at : Sets
   pub over : Ends

@@ -25,8 +25,7 @@ pub record IsOfGroup (scenario : Scenario) (rows : Rows) (name : Draw) (r : Repl
   pub named : base.core.id ≡ name
   pub run : HasRun as_nodes base rows r
 
--- what is known of a prefix of a journal: its groups are groups of the journal, no two with the same name; their logs are logs, and prefixes of those of the journal;
--- each replica is of one of them and at a node of the scenario; and a player has the replicas that its node has
+-- what is known of a prefix of a journal: its groups are groups of the journal, no two with the same name; their logs are logs, and prefixes of those of the journal; each replica is of one of them and at a node of the scenario; and a player has the replicas that its node has
 pub record IsFoundFront (words : ℕ → ℕ → ℕ × ℕ) (scenario : Scenario) (journal front : Rows) : Type 0 where
   pub lawful : Lawful as_nodes words scenario front
   pub apart : (one other : Base) → Among one (groups_at as_nodes scenario.groups journal) → Among other (groups_at as_nodes scenario.groups journal) → one.core.id ≡ other.core.id → one ≡ other

@@ -37,8 +37,7 @@ use Rattle.sc_calm_answers_law.specs.Works.{AreAtWork, IsTaskOf}
 abbrev pub IsOfJournal : Scenario → Rows → Mail → Type 0
 IsOfJournal scenario journal mail = (name : Draw) → group_of_mail mail.body ≡ Some name → IsNamedGroup scenario journal name
 
--- what holds while one order is under way since a quiet prefix that rests: its stage and the groups that it has not touched, hints and rounds of each group, what its leaders have executed, the groups that go, its coordinator and whom it asks,
--- the commands that wait at groups, the child that it makes and the names of groups; clients are as they were, each mail under way is of a group of the journal, errands go to nodes, and no act waits with nothing in flight
+-- what holds while one order is under way since a quiet prefix that rests: its stage and the groups that it has not touched, hints and rounds of each group, what its leaders have executed, the groups that go, its coordinator and whom it asks, the commands that wait at groups, the child that it makes and the names of groups; clients are as they were, each mail under way is of a group of the journal, errands go to nodes, and no act waits with nothing in flight
 pub record IsOrderedSince (words : ℕ → ℕ → ℕ × ℕ) (scenario : Scenario) (first : Base) (journal quiet rows : Rows) : Type 0 where
   pub behind : Rows
   pub rows_are : rows ≡ quiet ++ behind

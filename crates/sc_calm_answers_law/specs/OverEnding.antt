@@ -22,8 +22,7 @@ use Rattle.sc_calm_answers_law.specs.RiseRising.{IsRisingOn}
 use Rattle.sc_calm_answers_law.specs.Journal.{AreSent}
 use Rattle.sc_calm_answers_law.specs.Resting.{RestsAt}
 
--- no part of an order is left, and a replica that runs has nothing waiting; hints rise and rounds are few; a client that has started has all replies, and each other is as at its birth;
--- the node that clients ask first has a replica; and groups went one after another
+-- no part of an order is left, and a replica that runs has nothing waiting; hints rise and rounds are few; a client that has started has all replies, and each other is as at its birth; the node that clients ask first has a replica; and groups went one after another
 pub record EndsQuietly (words : ℕ → ℕ → ℕ × ℕ) (scenario : Scenario) (first : Base) (journal front : Rows) (sent : AreSent words scenario journal front) : Type 0 where
   pub still : IsAt Still (scene_at (births as_nodes scenario) front)
   pub done : (name : Draw) (node : ℕ) (r : ReplicaState) → view_at (births as_nodes scenario) front name node ≡ Some r → r.running ≡ true → (r.acts ≡ []) × (r.calls ≡ [])

@@ -5,10 +5,10 @@ use sc_budget_law::{plain_journals_are_answered, plain_lines_end_quiet};
 use sc_scenario::valid_scenarios_are_bounded;
 use sc_whole_law::valid_journals_are_sound;
 
-/// Proves that a valid calm scenario at its budget that gives an order has charts by which each row
-/// of its lawful journals finds what the potential needs, and that each lawful journal of it with
-/// no mail pending is a quiet journal, from which requests or an order may begin. A journal is a
-/// sequence of segments, requests or one order, each from a quiet prefix on.
+/// Proves that a valid calm scenario at its budget that gives an order has charts as `AreCharted`
+/// asks, by which the rows of its lawful journals find what the potential needs, and that each
+/// lawful journal of it with no mail pending is a quiet journal (`IsQuietJournal`). The proof cuts
+/// a journal into segments, requests or one order, each from a quiet prefix on.
 pub fn calm_journals_go_on()
     ensures { CalmJournalsGoOn }
 {
