@@ -37,7 +37,7 @@ frame_at_rest lead = record {
   from = next lead;
 }
 
--- the view of such a group, in which no slot has a command in flight
+-- the view of a group that stands in a quiet journal, in which no slot has a command in flight
 abbrev pub view_at_rest : Replicas → ReplicaState → View
 view_at_rest at lead = record {
   next = λ node. next_in (at (name_of lead) node);

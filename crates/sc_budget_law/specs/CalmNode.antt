@@ -62,7 +62,7 @@ IsAsideAnswer set group from (Value reply) = ⊥
 IsAsideAnswer set group from (NotMine arc succ) = ⊥
 IsAsideAnswer set group from (Stale last) = ⊥
 
--- such an answer goes to the client of a request that is begun
+-- an answer as `IsAsideAnswer` says goes to the client of a request that is begun
 pub record IsAsideReply (begun : Requests) (set : Setting) (from to : ℕ) (group : Draw) (seq : ℕ) (answer : AnswerBody) : Type 0 where
   pub client : ℕ
   pub op : Op
@@ -70,7 +70,7 @@ pub record IsAsideReply (begun : Requests) (set : Setting) (from to : ℕ) (grou
   pub is_begun : begun client seq op
   pub says : IsAsideAnswer set group from answer
 
--- a client sends a begun request to a node that has a replica of the group, or such a node answers as `IsAsideAnswer` says
+-- a client sends a begun request to a node that has a replica of the group, or a node answers as `IsAsideAnswer` says
 abbrev pub IsAsideBody : Requests → Setting → ℕ → ℕ → MailBody → Type 0
 IsAsideBody begun set from to (Request group client seq op) = (from ≡ client_actor client) × IsHome set group to × begun client seq op
 IsAsideBody begun set from to (Answer group seq answer) = IsAsideReply begun set from to group seq answer

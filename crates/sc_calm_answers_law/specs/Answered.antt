@@ -31,7 +31,7 @@ CalmRequestsAreAnswered =
 abbrev pub charts_of : (ℕ → ℕ → ℕ × ℕ) → Scenario → Rows → Chart
 charts_of words scenario = chart_at (orders_of scenario + 1) (length scenario.groups + orders_of scenario) (players words (births as_nodes scenario))
 
--- for each valid calm scenario at its budget that gives an order these charts are as `AreCharted` says: by them each row of its lawful journals finds what the potential needs, and journals with no mail pending rest, as long as no more than `calm_deliveries_of` deliveries are made
+-- for each valid calm scenario at its budget that gives an order the charts of `charts_of` are as `AreCharted` says: by them each row of its lawful journals finds what the potential needs, and journals with no mail pending rest, as long as no more than `calm_deliveries_of` deliveries are made
 abbrev pub CalmJournalsAreCharted : Type 0
 CalmJournalsAreCharted = (words : ℕ → ℕ → ℕ × ℕ) (scenario : Scenario) → IsValid scenario → IsCalmAtBudget scenario → 1 ≤ orders_of scenario → AreCharted words scenario (charts_of words scenario)
 

@@ -20,12 +20,12 @@ pub record IsBirth (all : List Command) (base : Base) (slot : ℕ) (child : Base
 
 -- a replica makes the child of each entry that it executes, where its node is a member of the child
 pub record EntriesBearChildren : Type 0 where
-  -- it does so for its next entry, which a Learn brings
+  -- a replica makes the child of its next entry, which a Learn brings
   pub learnt : (ahead : Ahead) (words : ℕ → ℕ → ℕ × ℕ) (scenario : Scenario) (journal : Rows) (base : Base) → IsGroupOf ahead words scenario journal base
       → (rows : Rows) (seat : Seat Player) (node : NodeState) (r : ReplicaState) → HasReplica ahead scenario journal base rows seat node r
       → (number : ℕ) (mail : Mail) (slot : ℕ) (command : Command) → numbered (mails rows) number ≡ Some mail → mail.body ≡ Learn base.core.id slot command → slot ≡ next r → slot ≤ last_slot
       → (child : Base) → IsBirth (decided_log ahead base journal) base slot child → is_member child.core.members r.me ≡ true → Among child (mailed mail.from mail.body (r, [])).1
-  -- it does so for each entry that it executes by a vote
+  -- a replica makes the child of each entry that it executes by a vote
   pub voted : (ahead : Ahead) (words : ℕ → ℕ → ℕ × ℕ) (scenario : Scenario) (journal : Rows) (base : Base) → IsGroupOf ahead words scenario journal base
       → (rows : Rows) (seat : Seat Player) (node : NodeState) (r : ReplicaState) → HasReplica ahead scenario journal base rows seat node r → r.running ≡ true
       → (number : ℕ) (mail : Mail) (ballot : Ballot) (slot : ℕ) → numbered (mails rows) number ≡ Some mail → mail.body ≡ Accepted base.core.id ballot slot

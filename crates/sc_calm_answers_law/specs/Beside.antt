@@ -44,7 +44,7 @@ pub record BesidesAreFound : Type 0 where
       → r.running ≡ false → IsBeside births rows seat (Deliver number) base.core.id (mailed mail.from mail.body (r, [])).0
   pub finds : (words : ℕ → ℕ → ℕ × ℕ) (births : List (Seat Player)) (rows : Rows) (seat : Seat Player) (number : ℕ) (mail : Mail) (base : Base) (node : NodeState) (r : ReplicaState) → IsHere words births rows seat number mail base node r
       → r.running ≡ false → IsPosted births mail → IsUnsettled r mail.body → BesideFinds mail r mail.body
-  -- an order given to a replica that does not run is refused, and the row is of the same kind
+  -- an order given to a replica that does not run is refused; either another replica leads alone, or none runs and the newest state stays bound as it was
   pub told : (words : ℕ → ℕ → ℕ × ℕ) (births : List (Seat Player)) (rows : Rows) (seat : Seat Player) (line : OrderLine) (node : NodeState) (base : Base) (r : ReplicaState) → IsGuided words births rows seat (Told line) base
       → IsOrdered words births rows seat line node r → base.core.id ≡ group_of_order line.order → r.running ≡ false
       → IsBeside births rows seat (Told line) (group_of_order line.order) (ordered_row node.draws line (r, [])) × ((why : OrderRefusal) × (untaken node.draws line r ≡ Some why))

@@ -10,7 +10,7 @@ pub record IsFirstChart (scenario : Scenario) (first : Chart) : Type 0 where
   pub most : first.ways.most ≡ orders_of scenario + 1
   pub reach : first.reach.most ≡ length scenario.groups + orders_of scenario
 
--- by such a chart, where there is an order, what clients owe at their births and the most that one order raises are together at most the budget
+-- by a first chart (`IsFirstChart`), where there is an order, what clients owe at their births and the most that one order raises are together at most the budget
 abbrev pub BirthsAreCovered : Type 0
 BirthsAreCovered =
     (scenario : Scenario) (first : Chart) → IsFirstChart scenario first → 1 ≤ orders_of scenario

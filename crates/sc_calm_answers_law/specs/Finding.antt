@@ -26,7 +26,7 @@ pub record MeetsIn (chart : Chart) (words : ℕ → ℕ → ℕ × ℕ) (by : Te
   pub named : group_of_mail mail.body ≡ Some base.core.id
   pub once : StandsOnce base.core.id chart.groups
 
--- such a mail finds what the potential needs, where it has what its kind needs besides (`NeedsAt`)
+-- a mail as `MeetsIn` says finds what the potential needs, where it has what its kind needs besides (`NeedsAt`)
 abbrev pub GroupMailFinds : Type 0
 GroupMailFinds =
     (chart : Chart) (words : ℕ → ℕ → ℕ × ℕ) (by : Tellers) (scenario : Scenario) (journal front rows : Rows) (seat : Seat Player) (number : ℕ) (mail : Mail) (node : NodeState) (base : Base) (course : Course)
@@ -39,7 +39,7 @@ StatesStand =
     → IsSentSo (births as_nodes scenario) front base
     → (rows : Rows) (seat : Seat Player) (number : ℕ) (mail : Mail) (slot : ℕ) (state : Base) (sets : List (List ℕ)) → Delivers front rows seat number mail → mail.body ≡ Install base.core.id slot state sets → over_at as_nodes base journal (slot + 1) ≡ false
 
--- all mail of a group that is delivered to a node in such a prefix finds what the potential needs, where it has what its kind needs besides
+-- in a prefix of a journal whose rows come in time, where a group's mail is as `IsSentSo` says, all mail of the group that is delivered to a node finds what the potential needs, where it has what its kind needs besides (`NeedsAt`)
 abbrev pub JournalMailFinds : Type 0
 JournalMailFinds =
     (chart : Chart) (words : ℕ → ℕ → ℕ × ℕ) (scenario : Scenario) (journal front more : Rows) (base : Base) → IsGroupOf as_nodes words scenario journal base → AreInTime (players words (births as_nodes scenario)) journal → AreFew as_nodes scenario journal base → journal ≡ front ++ more

@@ -59,6 +59,6 @@ pub record MeetsOrder (words : ℕ → ℕ → ℕ × ℕ) (births : List (Seat 
 abbrev pub OrdersRowsMeet : Type 0
 OrdersRowsMeet = (words : ℕ → ℕ → ℕ × ℕ) (scenario : Scenario) (rows : Rows) (seat : Seat Player) (number : ℕ) → IsOrdersRow words scenario rows seat (Deliver number) → MeetsOrder words (births as_nodes scenario) rows seat number
 
--- such a row finds what an order needs, where the children that it makes are young
+-- a row as `IsOrdersRow` says finds what an order needs, where the children that it makes are young
 abbrev pub OrdersRowsFind : Type 0
 OrdersRowsFind = (words : ℕ → ℕ → ℕ × ℕ) (scenario : Scenario) (rows : Rows) (seat : Seat Player) (event : Event OrderLine) → IsOrdersRow words scenario rows seat event → MakesYoung words scenario rows seat event → FindsOrder words (births as_nodes scenario) rows seat event

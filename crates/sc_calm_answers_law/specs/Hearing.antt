@@ -77,7 +77,7 @@ abbrev pub KnowOne : Scenario → Base → List (Row Mail OrderLine) → Type 0
 KnowOne scenario first rows =
     (asks : Asks) (client : ClientState) → Among asks scenario.clients → has_gone rows (client_actor asks.client) ≡ false → value player_table (client_seat (route_of first) asks) rows ≡ Client client → (entry : Draw × Way) × (client.known ≡ entry ∷ [])
 
--- throughout such a line of requests clients ask leaders
+-- throughout a line of requests from a journal in which no request waits, a client that has not started knows one group alone, and each client's request is under way once at most, clients ask leaders
 abbrev pub LinesAskLeaders : Type 0
 LinesAskLeaders =
     (words : ℕ → ℕ → ℕ × ℕ) (scenario : Scenario) (set : Setting) (first : Base) (others : List Base) (before after : List (Row Mail OrderLine))

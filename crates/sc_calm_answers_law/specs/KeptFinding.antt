@@ -46,7 +46,7 @@ pub record IsKnownDelivery (words : ℕ → ℕ → ℕ × ℕ) (scenario : Scen
   pub nodes : (client : ClientState) → value player_table seat rows ≡ Client client → ⊥
   pub mail : (mail : Mail) (node : NodeState) (name : Draw) → numbered (mails rows) number ≡ Some mail → value player_table seat rows ≡ Node node → group_of_mail mail.body ≡ Some name → IsKnownMail scenario journal mail node name
 
--- such a delivery finds what the potential needs, by the chart of the rows before it
+-- a delivery as `IsKnownDelivery` says finds what the potential needs, by the chart of the rows before it
 abbrev pub OrderRowsFindCalm : Type 0
 OrderRowsFindCalm =
     (words : ℕ → ℕ → ℕ × ℕ) (scenario : Scenario) (first : Base) (journal quiet rows : Rows) (far sent : ℕ) (seat : Seat Player) (number : ℕ) → IsCalmJournal words scenario journal → IsUnder words scenario first journal quiet rows

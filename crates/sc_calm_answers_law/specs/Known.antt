@@ -45,13 +45,13 @@ FrontsAreKnown = (words : ℕ → ℕ → ℕ × ℕ) (scenario : Scenario) (jou
 abbrev pub FrontsAreReachable : Type 0
 FrontsAreReachable = (words : ℕ → ℕ → ℕ × ℕ) (scenario : Scenario) (journal front : Rows) → IsQuietFront words scenario journal front → AreAllFree scenario front → AreReachable (replicas_after scenario front)
 
--- the route by which a group of such a prefix went names a group of which its nodes have replicas, in each course of the group
+-- where no group of a quiet prefix is locked by its log, the route by which a group went names a group of which each node of the route has a replica
 abbrev pub FrontsAreTakenIn : Type 0
 FrontsAreTakenIn =
     (words : ℕ → ℕ → ℕ × ℕ) (scenario : Scenario) (journal front : Rows) (by : Tellers) (base : Base) (course : Course) (into : Route) → IsQuietFront words scenario journal front → AreAllFree scenario front
     → Among base (groups_at as_nodes scenario.groups front) → IsQuietGroup by words scenario journal front base course → (state_at as_nodes base journal course.newest).core.gone ≡ Some into → IsTakenIn (replicas_at scenario front) into
 
--- the link of a leader in such a prefix is as a quiet journal needs it (`IsLinked`), where its group stands
+-- where no group of a quiet prefix is locked by its log, the link of a leader whose group stands is as a quiet journal needs it (`IsLinked`)
 abbrev pub FrontsAreLinked : Type 0
 FrontsAreLinked =
     (words : ℕ → ℕ → ℕ × ℕ) (scenario : Scenario) (journal front : Rows) (by : Tellers) (base : Base) (course : Course) (lead : ReplicaState) → IsQuietFront words scenario journal front → AreAllFree scenario front

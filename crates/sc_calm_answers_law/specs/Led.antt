@@ -30,7 +30,7 @@ pub record EndsAreLogged : Type 0 where
   -- after any rows of the journal each replica records the end of the group as the log does at the replica's next slot
   pub replicas : (ahead : Ahead) (words : ℕ → ℕ → ℕ × ℕ) (scenario : Scenario) (journal : Rows) (base : Base) → IsGroupOf ahead words scenario journal base
       → (rows : Rows) (seat : Seat Player) (node : NodeState) (r : ReplicaState) → HasReplica ahead scenario journal base rows seat node r → is_some r.group.core.gone ≡ over_at ahead base journal (next r)
-  -- a replica does so too after the entry that a Learn brings for its next slot
+  -- with the entry that a Learn brings for its next slot, a replica records the end of the group as the log does
   pub entered : (ahead : Ahead) (words : ℕ → ℕ → ℕ × ℕ) (scenario : Scenario) (journal : Rows) (base : Base) → IsGroupOf ahead words scenario journal base
       → (rows : Rows) (seat : Seat Player) (node : NodeState) (r : ReplicaState) → HasReplica ahead scenario journal base rows seat node r
       → (number : ℕ) (mail : Mail) (slot : ℕ) (command : Command) → numbered (mails rows) number ≡ Some mail → mail.body ≡ Learn base.core.id slot command → slot ≡ next r

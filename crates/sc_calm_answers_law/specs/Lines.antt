@@ -19,7 +19,7 @@ pub record AreCharted (words : ℕ → ℕ → ℕ × ℕ) (scenario : Scenario)
   pub keeps : KeepCalm (players words (births as_nodes scenario)) (schedule scenario) charts (calm_deliveries_of scenario)
   pub rests : RestCalm words (births as_nodes scenario) (schedule scenario) charts (calm_deliveries_of scenario)
 
--- in each lawful journal of a valid calm scenario at its budget that has such charts no line of deliveries is cut off with mail pending
+-- in each lawful journal of a valid calm scenario at its budget that has charts as `AreCharted` says no line of deliveries is cut off with mail pending
 abbrev pub CalmLinesEndQuiet : Type 0
 CalmLinesEndQuiet =
     (words : ℕ → ℕ → ℕ × ℕ) (scenario : Scenario) (charts : Rows → Chart) (journal : List (Row Mail OrderLine))

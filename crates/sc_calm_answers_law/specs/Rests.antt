@@ -36,7 +36,7 @@ pub record IsQuietGroup (by : Tellers) (words : ℕ → ℕ → ℕ × ℕ) (sce
   pub one : HasOneLog (logged_sets as_nodes base journal) (over_at as_nodes base journal) by (births as_nodes scenario) front base
   pub born : (node : ℕ) → is_member base.core.members node ≡ true → HasReplica (replicas_at scenario front) base.core.id node
 
--- in a quiet prefix each node that was ever a member of such a group has a replica of it
+-- in a quiet prefix each node that was ever a member of a quiet group (`IsQuietGroup`) has a replica of it
 abbrev pub MembersHaveReplicas : Type 0
 MembersHaveReplicas =
     (by : Tellers) (words : ℕ → ℕ → ℕ × ℕ) (scenario : Scenario) (journal front : Rows) (base : Base) (course : Course) → IsQuietGroup by words scenario journal front base course
@@ -46,7 +46,7 @@ MembersHaveReplicas =
 abbrev pub SawNoMore : View → Base → Course → Type 0
 SawNoMore at base course = (node : ℕ) (r : ReplicaState) → at base.core.id node ≡ Some r → IsAtLeast course.ballot r.top × Each (λ report. report.slot < course.bound) r.acceptor.accepted
 
--- such a group that is not gone stands as `StandsQuiet` says, with the course's node as its leader, where `SawNoMore` holds and the leader's link is as `IsLinked` says
+-- a quiet group (`IsQuietGroup`) that is not gone stands as `StandsQuiet` says, with the course's node as its leader, where `SawNoMore` holds and the leader's link is as `IsLinked` says
 abbrev pub QuietGroupsStand : Type 0
 QuietGroupsStand =
     (by : Tellers) (words : ℕ → ℕ → ℕ × ℕ) (scenario : Scenario) (journal front : Rows) (base : Base) (course : Course) → IsQuietGroup by words scenario journal front base course → course.gone ≡ false
@@ -57,7 +57,7 @@ QuietGroupsStand =
 abbrev pub IsTakenIn : View → Route → Type 0
 IsTakenIn at into = (node : ℕ) → is_member into.members node ≡ true → HasReplica at into.group node
 
--- such a group that is gone is as `IsGoneQuiet` says, where the nodes of the group that it went into have a replica of that group
+-- a quiet group (`IsQuietGroup`) that is gone is as `IsGoneQuiet` says, where the nodes of the group that it went into have a replica of that group
 abbrev pub QuietGroupsAreGone : Type 0
 QuietGroupsAreGone =
     (by : Tellers) (words : ℕ → ℕ → ℕ × ℕ) (scenario : Scenario) (journal front : Rows) (base : Base) (course : Course) → IsQuietGroup by words scenario journal front base course → course.gone ≡ true
@@ -67,14 +67,14 @@ QuietGroupsAreGone =
 abbrev pub IsDone : View → Base → Type 0
 IsDone at base = (node : ℕ) (r : ReplicaState) → at base.core.id node ≡ Some r → r.running ≡ true → (r.acts ≡ []) × (r.calls ≡ [])
 
--- each replica of such a group is at rest (`IsAtRest`), where the newest state is not locked and no replica that runs has anything queued
+-- each replica of a quiet group (`IsQuietGroup`) is at rest (`IsAtRest`), where the newest state is not locked and no replica that runs has anything queued
 abbrev pub QuietReplicasRest : Type 0
 QuietReplicasRest =
     (by : Tellers) (words : ℕ → ℕ → ℕ × ℕ) (scenario : Scenario) (journal front : Rows) (base : Base) (course : Course) → IsQuietGroup by words scenario journal front base course
     → (state_at as_nodes base journal course.newest).core.lock ≡ Free → IsDone (replicas_at scenario front) base
     → (node : ℕ) (r : ReplicaState) → replicas_at scenario front base.core.id node ≡ Some r → IsAtRest r
 
--- each replica of such a group is as any journal keeps it (`IsKept`), and may pump where it keeps no report while it does not run
+-- each replica of a quiet group (`IsQuietGroup`) is as any journal keeps it (`IsKept`), and may pump where it keeps no report while it does not run
 pub record QuietReplicasAreKept : Type 0 where
   pub kept : (by : Tellers) (words : ℕ → ℕ → ℕ × ℕ) (scenario : Scenario) (journal front : Rows) (base : Base) (course : Course) → IsQuietGroup by words scenario journal front base course
       → (node : ℕ) (r : ReplicaState) → replicas_at scenario front base.core.id node ≡ Some r → IsKept base.core.id node r

@@ -41,12 +41,12 @@ IsRoundSince quiet stage name course = (quiet.runs ≡ true → HasOneRound quie
 
 -- while an order is under way since a quiet prefix each group begins one round more at most
 pub record OrdersKeepRounds : Type 0 where
-  -- so it is when the order is given in quiet
+  -- an order given in quiet begins no more than one round in each group
   pub told : (words : ℕ → ℕ → ℕ × ℕ) (at : Sets) (over : Ends) (by : Tellers) (scenario : Scenario) (quiet : Rows) (seat : Seat Player) (line : OrderLine) (base : Base) (stage : Stage)
       → AreInTime (players words (births as_nodes scenario)) (with_event quiet seat (Told line)) → IsSeat (births as_nodes scenario) seat
       → (q : IsSentThrough at over by words (births as_nodes scenario) quiet base) → (s : IsSentStep at over by words (births as_nodes scenario) quiet seat (Told line) base q.course)
       → ((who : ℕ) → marks_at (players words (births as_nodes scenario)) quiet base.core.id who ≡ []) → IsRoundSince q.course stage base.core.id s.through.course
-  -- so it is after each delivery, which leaves the stage as it is or takes it one step on, where groups that have no part in the stage are untouched
+  -- each delivery, which leaves the stage as it is or takes it one step on, keeps `IsRoundSince`, where groups that have no part in the stage are untouched
   pub delivered : (words : ℕ → ℕ → ℕ × ℕ) (at : Sets) (over : Ends) (by : Tellers) (scenario : Scenario) (quiet rows : Rows) (seat : Seat Player) (number : ℕ) (base : Base) (stage later : Stage)
       → AreInTime (players words (births as_nodes scenario)) (with_event rows seat (Deliver number)) → IsSeat (births as_nodes scenario) seat
       → (q : IsSentThrough at over by words (births as_nodes scenario) quiet base) → (t : IsSentThrough at over by words (births as_nodes scenario) rows base) → (s : IsSentStep at over by words (births as_nodes scenario) rows seat (Deliver number) base t.course)

@@ -33,7 +33,7 @@ pub record MayBegin (words : ℕ → ℕ → ℕ × ℕ) (scenario : Scenario) (
   pub knows : KnowOne scenario first before
   pub once : (asks : Asks) → Among asks scenario.clients → owed (system_of as_nodes words scenario) (token_owing asks.client) before ≤ 1
 
--- whatever comes next in such a line, in order, finds what the potential needs, by a chart that counts as the setting does
+-- whatever comes next in a line of requests, in order, finds what the potential needs, by a chart that counts as the setting does
 abbrev pub RequestRowsFindCalm : Type 0
 RequestRowsFindCalm =
     (words : ℕ → ℕ → ℕ × ℕ) (scenario : Scenario) (set : Setting) (chart : Chart) (first : Base) (others : List Base) (before after : List (Row Mail OrderLine)) (seat : Seat Player) (event : Event OrderLine)

@@ -69,14 +69,14 @@ NextRowsAreSent =
     → (t : IsSentThrough (logged_sets as_nodes base journal) (over_at as_nodes base journal) (tellers_at as_nodes scenario base journal) words (births as_nodes scenario) rows base) → IsQuietWhileYoung words (births as_nodes scenario) rows base
     → IsSentStep (logged_sets as_nodes base journal) (over_at as_nodes base journal) (tellers_at as_nodes scenario base journal) words (births as_nodes scenario) rows seat event base t.course
 
--- `IsSentThrough` holds after each prefix of such a journal, where in no prefix mail of the group is pending for a first member that has no replica of it yet
+-- `IsSentThrough` holds after each prefix of a journal whose rows come in time, where in no prefix mail of the group is pending for a first member that has no replica of it yet
 abbrev pub LedJournalsAreSentSo : Type 0
 LedJournalsAreSentSo =
     (words : ℕ → ℕ → ℕ × ℕ) (scenario : Scenario) (journal : Rows) (base : Base) → IsGroupOf as_nodes words scenario journal base → AreInTime (players words (births as_nodes scenario)) journal → AreFew as_nodes scenario journal base
     → ((rows more : Rows) → journal ≡ rows ++ more → IsQuietWhileYoung words (births as_nodes scenario) rows base)
     → (rows more : Rows) → journal ≡ rows ++ more → IsSentThrough (logged_sets as_nodes base journal) (over_at as_nodes base journal) (tellers_at as_nodes scenario base journal) words (births as_nodes scenario) rows base
 
--- no replica of such a group saw a later ballot than the course's, has accepted anything at a slot at which nothing was offered, or keeps a report
+-- no replica of a group as `IsSentThrough` says saw a later ballot than the course's, has accepted anything at a slot at which nothing was offered, or keeps a report
 pub record SentReplicas : Type 0 where
   pub saw : (at : Sets) (over : Ends) (by : Tellers) (words : ℕ → ℕ → ℕ × ℕ) (births : List (Seat Player)) (rows : Rows) (base : Base) (t : IsSentThrough at over by words births rows base) (node : ℕ) (r : ReplicaState) → view_at births rows base.core.id node ≡ Some r
       → IsAtLeast t.course.ballot r.top × Each (λ report. report.slot < t.course.bound) r.acceptor.accepted

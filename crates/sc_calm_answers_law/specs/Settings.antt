@@ -36,7 +36,7 @@ pub record AreReachable (at : Replicas) : Type 0 where
       → (1 ≤ length into.members) × ((who : ℕ) → is_member into.members who ≡ true → HasReplica at into.group who)
   pub stand : (group : Draw) (quiet : StandsQuiet at group) (node : ℕ) (r : ReplicaState) → at group node ≡ Some r → r.group.core.gone ≡ None
 
--- the setting of such a journal is linked (`IsLinkedSetting`), where its groups stand round the ring
+-- a setting whose links and routes are as `AreReachable` says is linked (`IsLinkedSetting`), where its groups stand round the ring
 abbrev pub QuietSettingsAreLinked : Type 0
 QuietSettingsAreLinked =
     (at : Replicas) (frames : List Frame) (ways : Ways) → AreFramesOf at frames → AreReachable at → ((group : Draw) (quiet : StandsQuiet at group) → quiet.lead.group.core.id ≡ group)

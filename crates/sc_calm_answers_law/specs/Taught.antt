@@ -17,7 +17,7 @@ abbrev pub GroupsBeginTaught : Type 0
 GroupsBeginTaught = (words : ℕ → ℕ → ℕ × ℕ) (by : Tellers) (scenario : Scenario) (journal : Rows) (base : Base) → IsGroupOf as_nodes words scenario journal base
     → IsTaughtOn (logged_sets as_nodes base journal) (over_at as_nodes base journal) by words (births as_nodes scenario) [] base
 
--- the members of such a group learn all entries after a prefix of a journal whose rows come in time, where its mail is as `IsSentSo` says; and the group has one log there
+-- the members of each group of a lawful journal of a valid scenario learn all entries after a prefix of the journal, where its rows come in time and the group's mail is as `IsSentSo` says; and the group has one log there
 abbrev pub GroupsAreTaught : Type 0
 GroupsAreTaught =
     (words : ℕ → ℕ → ℕ × ℕ) (scenario : Scenario) (journal front more : Rows) (base : Base) → IsGroupOf as_nodes words scenario journal base → AreInTime (players words (births as_nodes scenario)) journal → AreFew as_nodes scenario journal base → journal ≡ front ++ more

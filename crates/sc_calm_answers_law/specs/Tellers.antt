@@ -49,14 +49,14 @@ abbrev pub GroupsBeginLed : Type 0
 GroupsBeginLed = (words : ℕ → ℕ → ℕ × ℕ) (by : Tellers) (scenario : Scenario) (journal : Rows) (base : Base) → IsGroupOf as_nodes words scenario journal base
     → IsLedOn (logged_sets as_nodes base journal) (over_at as_nodes base journal) by words (births as_nodes scenario) [] base
 
--- such a group is well led, and has leaders, after a prefix of a journal whose rows come in time, where its mail is as `IsSentSo` says
+-- each group of a lawful journal of a valid scenario is well led, and has leaders, after a prefix of the journal, where its rows come in time and the group's mail is as `IsSentSo` says
 abbrev pub GroupsAreLed : Type 0
 GroupsAreLed =
     (words : ℕ → ℕ → ℕ × ℕ) (scenario : Scenario) (journal front more : Rows) (base : Base) → IsGroupOf as_nodes words scenario journal base → AreInTime (players words (births as_nodes scenario)) journal → AreFew as_nodes scenario journal base → journal ≡ front ++ more
     → IsSentSo (births as_nodes scenario) front base
     → IsLedOn (logged_sets as_nodes base journal) (over_at as_nodes base journal) (tellers_at as_nodes scenario base journal) words (births as_nodes scenario) front base × HasLeaders as_nodes (tellers_at as_nodes scenario base journal) scenario journal front base
 
--- each row of such a prefix is a row of the group of a known kind, from the course before it to the course after it
+-- each row of a prefix of a journal, where its rows come in time and the group's mail is as `IsSentSo` says, is a row of the group of a known kind, from the course before it to the course after it
 abbrev pub LedRowsGoOn : Type 0
 LedRowsGoOn =
     (words : ℕ → ℕ → ℕ × ℕ) (scenario : Scenario) (journal front more : Rows) (base : Base) → IsGroupOf as_nodes words scenario journal base → AreInTime (players words (births as_nodes scenario)) journal → AreFew as_nodes scenario journal base → journal ≡ front ++ more

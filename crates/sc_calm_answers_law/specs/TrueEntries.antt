@@ -40,7 +40,7 @@ IsAskedOrCast (Prepared tx offer) = Unit {0}
 IsAskedOrCast (GiveUp tx) = Unit {0}
 IsAskedOrCast (Watched tx watch) = Unit {0}
 
--- each such command that a leader has in flight is true (`IsTrueEntry`): one that begins a transaction asks another group; one that votes has not voted before, a watcher says Yes, and the leader stays
+-- each command as `IsAskedOrCast` says that a leader has in flight is true (`IsTrueEntry`): one that begins a transaction asks another group; one that votes has not voted before, a watcher says Yes, and the leader stays
 abbrev pub VotesAreTrue : Type 0
 VotesAreTrue =
     (words : ℕ → ℕ → ℕ × ℕ) (scenario : Scenario) (first : Base) (journal quiet rows : Rows) (name : Draw) (node : ℕ) (r : ReplicaState) (stage : Stage) → LeadsSince words scenario first journal quiet rows name node r stage

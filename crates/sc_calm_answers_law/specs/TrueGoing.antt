@@ -29,7 +29,7 @@ AskedGroupsStood =
     → (deal : Deal) (to : ℕ) → IsAt (Asks deal to) (scene_at (births as_nodes scenario) (with_event rows seat (Deliver number)))
     → StandsQuiet (replicas_after scenario quiet) deal.asked × IsThere (births as_nodes scenario) quiet deal.asked
 
--- each such delivery keeps `IsTrueSince`, at the stage after it
+-- a delivery as `GoesOnSince` says keeps `IsTrueSince`, at the stage after it
 abbrev pub TrueOrdersGoOn : Type 0
 TrueOrdersGoOn =
     (words : ℕ → ℕ → ℕ × ℕ) (scenario : Scenario) (first : Base) (journal quiet rows : Rows) (seat : Seat Player) (number : ℕ) (stage later : Stage) → GoesOnSince words scenario first journal quiet rows seat number stage

@@ -22,7 +22,7 @@ pub record TakesSince (words : ℕ → ℕ → ℕ × ℕ) (scenario : Scenario)
   pub taking : IsTaking words (births as_nodes scenario) rows seat number mail group node
   pub here : replica_of group node.replicas ≡ Some r
 
--- such a mail finds what `IsUnsettled` says, where it is no TxElsewhere: a question, that the group has cast no vote on it; a vote, that no outcome is noted
+-- a mail of a transaction that a replica takes as `TakesSince` says finds what `IsUnsettled` says, where it is no TxElsewhere: a question, that the group has cast no vote on it; a vote, that no outcome is noted
 abbrev pub MailComesUnsettled : Type 0
 MailComesUnsettled =
     (words : ℕ → ℕ → ℕ × ℕ) (scenario : Scenario) (first : Base) (journal quiet rows : Rows) (seat : Seat Player) (number : ℕ) (mail : Mail) (group : Draw) (node : NodeState) (r : ReplicaState) (stage : Stage)

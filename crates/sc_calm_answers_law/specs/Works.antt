@@ -45,7 +45,7 @@ pub record IsGuidedRow (words : ℕ → ℕ → ℕ × ℕ) (scenario : Scenario
   pub meets : MeetsOrder words (births as_nodes scenario) rows seat number
   pub groups : (name : Draw) (node : ℕ) (r : ReplicaState) → view_at (births as_nodes scenario) rows name node ≡ Some r → IsNamedGuide words (births as_nodes scenario) rows seat (Deliver number) name
 
--- such a delivery keeps `AreAtWork`; the children that it makes are those that the order may make, which their group did not list before; and no request and no answer is delivered
+-- a delivery as `IsGuidedRow` says keeps `AreAtWork`; the children that it makes are those that the order may make, which their group did not list before; and no request and no answer is delivered
 pub record DeliveriesKeepWork : Type 0 where
   pub keeps : (words : ℕ → ℕ → ℕ × ℕ) (scenario : Scenario) (rows : Rows) (seat : Seat Player) (number : ℕ) (task : Task) → IsGuidedRow words scenario rows seat number → AreAtWork task words (births as_nodes scenario) rows
       → AreAtWork task words (births as_nodes scenario) (with_event rows seat (Deliver number))
