@@ -27,7 +27,7 @@ accepted_state frame r slot command = record r {
   acceptor = after_accept (record { slot = slot; ballot = frame.ballot; value = command }) r.acceptor;
 }
 
--- .. and the vote that it sends
+-- the vote that a voter sends
 module _ (frame : Frame) (is : IsFrame frame) (me : ℕ) (r : ReplicaState) (v : IsPlainVoter frame me r) where
   abbrev seen : ReplicaState
   seen = record r { top = cond (below r.top frame.ballot) frame.ballot r.top }

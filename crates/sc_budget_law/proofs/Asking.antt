@@ -15,7 +15,7 @@ use Rattle.sc_budget_law.proofs.Executing.{IsRun, pumped_run}
 use Rattle.sc_budget_law.proofs.Sends.{mail_of, among_push, last_among}
 use Rattle.sc_budget_law.proofs.Lists.{some_is}
 
--- ---- the calls of a client in a queue
+-- ---- the queued requests of a client
 
 pub out_calls : (P : Command → Type 0) (calls : List Command) (client : ℕ) → Each P calls → Each P (without_call calls client)
 out_calls P [] client e = tt
@@ -30,7 +30,7 @@ out_one (Call c s op ∷ calls) client seq e =
     (λ f k. (let long = ap length (cond-false (eqb c client) calls (Call c s op ∷ without_call calls client) f) in let rest = out_one calls client seq k in omega (arith, long, rest))) e
 out_one (_ ∷ calls) client seq e = (let rest = out_one calls client seq e in omega (arith, rest))
 
--- the call that is found stands in the queue
+-- the queued request that is found stands in the queue
 found_call : (calls : List Command) (client seq : ℕ) → call_of calls client ≡ Some seq → (op : Op) × Among (Call client seq op) calls
 found_call [] client seq e = cc
 found_call (Call c s op ∷ calls) client seq e =
@@ -39,7 +39,7 @@ found_call (Call c s op ∷ calls) client seq e =
     (λ f k. (let rest = found_call calls client seq k in (rest.0, inr rest.1))) e
 found_call (_ ∷ calls) client seq e = (let rest = found_call calls client seq e in (rest.0, inr rest.1))
 
--- a call stays, or it is the one that is taken out
+-- a queued request stays, or it is the one that is taken out
 stays_call : (calls : List Command) (client c n : ℕ) (op : Op) → Among (Call c n op) calls → Among (Call c n op) (without_call calls client) ⊎ ((c ≡ client) × (call_of calls client ≡ Some n))
 stays_call [] client c n op a = absurd a
 stays_call (x ∷ calls) client c n op (inl same) = stays_first x calls client c n op same
@@ -123,14 +123,14 @@ module _ (begun : Requests) (frame : Frame) (is : IsFrame frame) (taken : ℕ) (
       ∙ ap (λ me. (r, mail_of me (client_actor client) (Answer frame.core.id seq (Says.NotMine frame.core.arc frame.core.succ)) ∷ [])) p.me_is
 
   module _ (d : HasOffered taken r) (room : next r + taken ≤ last_slot) (client seq : ℕ) (op : Op) (call : IsPlainCall begun frame client seq op) where
-    -- the calls that are to be kept
+    -- the queued requests that are to be kept
     abbrev pub Wanted : ℕ → ℕ → Type 0
     Wanted c n = IsHeld r c n ⊎ ((c ≡ client) × (n ≤ seq))
 
     abbrev Run : Place → Type 0
     Run place = IsRun begun frame is (next r) (next r + taken) r.leader.flights (replica_owes r + 28) Wanted place
 
-    -- with such calls waiting
+    -- with such requests queued
     with_calls : (calls : List Command) → Each (IsPlainCommand begun frame) calls → length calls ≤ length r.calls + 1 → ((c n : ℕ) → Wanted c n → IsHeld (record r { calls = calls }) c n) → Run (pumped (record r { calls = calls }, []))
     with_calls calls e few holds =
         let after : ReplicaState = record r { calls = calls } in

@@ -152,7 +152,7 @@ module _ (words : ℕ → ℕ → ℕ × ℕ) (scenario : Scenario) (begins : Is
           (clients_calm.takes scenario rows (rows ++ r ∷ []) set asks (has_gone rows (client_actor asks.client)) c.client first.mail is linked c.calm is_calm (first.receiver ∙ ap client_actor (sym c.calm.me_is)) asked_right
           (more (Deliver number) fine (table c.client (Got first.mail)) got_is got_more) (now (Deliver number) fine (table c.client (Got first.mail)) got_is got_more)) marks_taken (takes_only first.mail c.client)
 
-    -- ---- a client is told to go
+    -- ---- a client starts
 
     module _ (fine : has_gone rows (client_actor asks.client) ≡ false) where
       pub go_is : acted player_table (value player_table (client_seat (route_of begins.first) asks) rows) (input_of {O = OrderLine} (mails rows) Go) ≡ (Client (table c.client GoInput).0, (table c.client GoInput).1)

@@ -77,7 +77,7 @@ module _ (words : ℕ → ℕ → ℕ × ℕ) (scenario : Scenario) (begins : Is
     none_client asks a =
         none (client_actor asks.client) (born (cseat asks) (subst (Among (cseat asks)) (sym begins.seats) (Among-right (cseat asks) (map nseat (numbers_from 1 scenario.nodes)) (map cseat scenario.clients) (map_among cseat scenario.clients asks a))))
 
-    -- no leader holds a call
+    -- no leader has a queued request
     none_held : (frame : Frame) (a : Among frame set.frames) (r : ReplicaState) → replica_at scenario rows frame.core.id frame.lead ≡ Some r → (client seq : ℕ) → IsHeld r client seq → ⊥
     none_held frame a r there client seq held =
         let g = j.groups frame a in

@@ -1,4 +1,4 @@
--- Between two orders each request that waits is on its way, or its answer is, or its call is at the leader that was asked.
+-- Between two orders each request that waits is on its way, or its answer is, or it is queued at the leader that was asked.
 use Rattle.std.proofs.Common.{◌≡◌, ℕ, ◌≤◌, eqb, true, false, List, [], ◌∷◌, ◌++◌, drop, find, Option, Some, None, ◌⊎◌, inl, inr, refl, sym, ◌∙◌, ap, subst, arith}
 use Rattle.std.proofs.lemmas.Bool.{cases_eq, cases_Bool, both_ways}
 use Rattle.sc_base.specs.Definitions.{Among, client_actor, same_draw}
@@ -63,7 +63,7 @@ module _ (words : ℕ → ℕ → ℕ × ℕ) (scenario : Scenario) (begins : Is
     pub ends : EndsWait answer
     pub there : Among (mail_of target (client_actor client.me) (Answer group seq answer)) (rest (system_of as_nodes words scenario) rows (client_actor client.me))
 
-  -- its call is at the leader
+  -- its request is queued at the leader
   pub record IsHeldAt (rows : Journal) (client : ClientState) (group : Draw) (target seq : ℕ) : Type 0 where
     pub frame : Frame
     pub is_frame : Among frame set.frames
@@ -152,7 +152,7 @@ module _ (words : ℕ → ℕ → ℕ × ℕ) (scenario : Scenario) (begins : Is
           said_is : step.1 ≡ k.place.1
           said_is = ap (λ (x : NodeState × List Mail). x.1) k.after_is
 
-          -- .. which leads the group that was asked
+          -- the node leads the group that was asked
           module _ (name : k.frame.core.id ≡ w.group) (lead : w.target ≡ k.frame.lead) where
             mail_is : (answer : AnswerBody) → mail_of k.frame.lead (client_actor client.me) (Answer k.frame.core.id w.seq answer) ≡ mail_of w.target (client_actor client.me) (Answer w.group w.seq answer)
             mail_is answer =
@@ -190,7 +190,7 @@ module _ (words : ℕ → ℕ → ℕ × ℕ) (scenario : Scenario) (begins : Is
                   | inr queued ↦ elim (queued.run.leads.calls client.me w.seq (inr (refl, omega arith))) [ inl h ↦ held_later h | inr x ↦ told x ]
                 ]
 
-            -- its call is there
+            -- its request is queued there
             held_still : (r : ReplicaState) → replica_at scenario rows w.group w.target ≡ Some r → IsHeld r client.me w.seq → Later
             held_still r there h =
                 let was_there : Some k.r ≡ Some r = sym k.found ∙ (sym (before_is k.frame.core.id) ∙ (ap (λ d. replica_at scenario rows d me) name ∙ (ap (replica_at scenario rows w.group) (sym here) ∙ there))) in

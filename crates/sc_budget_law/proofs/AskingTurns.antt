@@ -186,7 +186,7 @@ module _ (words : ℕ → ℕ → ℕ × ℕ) (scenario : Scenario) (stage : IsS
             groups = groups_after turn;
           }
 
-    -- ---- a node is told to go: it does nothing
+    -- ---- a `go` event at a node does nothing
 
     node_go : has_gone rows me ≡ false → IsAsking words scenario set stage.first (rows ++ row_of player_table (node_seat as_nodes scenario.groups scenario.policy me) rows Go ∷ [])
     node_go fine =

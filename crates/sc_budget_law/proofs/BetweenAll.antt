@@ -13,7 +13,7 @@ use Rattle.sc_budget_law.specs.Definitions.{IsGroupAt, Frame, player_owes, mail_
 use Rattle.sc_budget_law.proofs.BetweenStage.{frames_of, IsStage}
 use Rattle.sc_budget_law.proofs.BetweenViews.{Journal}
 
--- what players and mail owe, where there are so many groups
+-- what players and mail owe, by the number of groups
 abbrev pub owing_of : Scenario → Owing Player Mail
 owing_of scenario = record { actor = player_owes (length (frames_of scenario)); mail = mail_owes }
 

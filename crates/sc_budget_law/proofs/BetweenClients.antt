@@ -191,7 +191,7 @@ module _ (words : ℕ → ℕ → ℕ × ℕ) (scenario : Scenario) (stage : IsS
         subst (λ m. 1 + owed_by (owing_of scenario) (player_table (value player_table (cseat asks) rows) (Got m)) ≤ player_owes (length (frames_of scenario)) (value player_table (cseat asks) rows) + mail_owes m) same
         (subst (λ p. 1 + owed_by (owing_of scenario) (player_table p (Got first.mail)) ≤ player_owes (length (frames_of scenario)) p + mail_owes first.mail) (sym c.is) takes.owed)))
 
-  -- ---- a client is told to go
+  -- ---- a client starts
 
   module _ (fine : has_gone rows (client_actor asks.client) ≡ false) where
     pub go_is : acted player_table (value player_table (client_seat (route_of stage.first) asks) rows) (input_of {O = OrderLine} (mails rows) Go) ≡ (Client (table c.client GoInput).0, (table c.client GoInput).1)

@@ -14,7 +14,7 @@ use Rattle.sc_budget_law.proofs.Leading.{in_range, range_yes, range_behind}
 use Rattle.sc_budget_law.proofs.ReplicaRows.{Does}
 use Rattle.sc_budget_law.proofs.Sends.{mail_of}
 
--- how many slots are taken is told by the replica
+-- how many slots are taken is read off the replica
 pub taken_once : (r : ReplicaState) (one two : ℕ) → AreTaken r one → AreTaken r two → one ≡ two
 taken_once r one two a b = elim (cases_lt one two) [
   | inl below ↦ absurd (differ one two below a b)

@@ -25,7 +25,7 @@ told_of name from (Accept group ballot slot command) rest = cond_both (same_draw
 told_of name from (Accepted group ballot slot) rest = cond_both (same_draw group name) (Votes from slot) Other (λ m. told (m ∷ rest) ≡ told rest) (λ _. refl) (λ _. refl)
 told_of name from _ rest = refl
 
--- the slots that are told to an actor are those of the Learns for it
+-- the slots that an actor learns are those of the Learns for it
 pub told_marks : (name : Draw) (who : ℕ) (mails : List Mail) → told (marks_for name who mails) ≡ learns_to name who mails
 told_marks name who [] = refl
 told_marks name who (mail ∷ mails) =

@@ -88,7 +88,7 @@ below-among bound (m ∷ marks) mark e (inr a) = below-among bound marks mark e.
 pub other-new : (from to : ℕ) (marks : List Mark) → Each IsOther marks → Each (IsNew from to) marks
 other-new from to marks e = Each-weaker IsOther (IsNew from to) (λ m is. subst (IsNew from to) (sym is) tt) marks e
 
--- .. and asks for nothing
+-- marks of nothing in the group ask for nothing
 pub other-asks : (marks : List Mark) (mark : Mark) → Each IsOther marks → (mark ≡ Other → ⊥) → Among mark marks → ⊥
 other-asks [] mark e ne a = a
 other-asks (m ∷ marks) mark e ne (inl same) = ne (sym same ∙ e.0)
@@ -100,7 +100,7 @@ asks≢other slot e = cc
 pub votes≢other : (node slot : ℕ) → Votes node slot ≡ Other → ⊥
 votes≢other node slot e = cc
 
--- ---- what is told
+-- ---- the slots of Tells marks
 
 pub told-append : (xs ys : List Mark) → told (xs ++ ys) ≡ told xs ++ told ys
 told-append [] ys = refl

@@ -27,7 +27,7 @@ left_each : (P : Mark → Type 0) (taken : Mark) (before left : List Mark) → I
 left_each P taken before left (inl is) e = (subst (Each P) is e).1
 left_each P taken before left (inr is) e = subst (Each P) is.1 e
 
--- nothing is taken of what is told, unless the first tells
+-- no Tells mark is taken, unless the head of the list is one
 left_told : (taken : Mark) (before left : List Mark) → IsTaken taken before left → ((slot : ℕ) → taken ≡ Tells slot → ⊥) → told before ≡ told left
 left_told (Asks slot) before left (inl is) never = ap told is
 left_told (Votes node slot) before left (inl is) never = ap told is
@@ -35,7 +35,7 @@ left_told (Tells slot) before left (inl is) never = absurd (never slot refl)
 left_told Other before left (inl is) never = ap told is
 left_told taken before left (inr is) never = ap told is.1
 
--- .. what is asked for behind a vote is above it
+-- what is asked for behind a vote is above it
 above_vote : (low : ℕ) (taken : Mark) (before left : List Mark) (node slot other : ℕ) → IsTaken taken before left → AreInOrder low before → taken ≡ Votes node slot → Among (Asks other) left → slot < other
 above_vote low taken before left node slot other (inl is) o same a =
     let first : AreInOrder low (Votes node slot ∷ left) = subst (λ m. AreInOrder low (m ∷ left)) same (subst (AreInOrder low) is o) in
@@ -43,7 +43,7 @@ above_vote low taken before left node slot other (inl is) o same a =
     omega (arith, at)
 above_vote low taken before left node slot other (inr is) o same a = absurd (votes≢other node slot (sym same ∙ is.0))
 
--- .. and so its slot is not the one whose vote is taken
+-- a slot that is asked for behind a vote is not the slot of the vote
 elsewhere : (low : ℕ) (taken : Mark) (before left : List Mark) (slot : ℕ) → IsTaken taken before left → AreInOrder low before → Among (Asks slot) left → IsElsewhere taken slot
 elsewhere low (Votes node other) before left slot t o a = λ same. (let at = above_vote low (Votes node other) before left node other slot t o refl a in omega (arith, at, same))
 elsewhere low (Asks other) before left slot t o a = tt
@@ -62,7 +62,7 @@ never_asked frame (Asks other) c slot e = c
 never_asked frame (Tells other) c slot e = cc
 never_asked frame Other c slot e = cc
 
--- a learner of whose mail nothing that tells is taken, and to whom nothing is told
+-- a learner of whose mail no Tells mark is taken, and to whom none is sent
 learning_same : (from to : ℕ) (before after : List Mark) → told after ≡ told before → IsLearning from to before → IsLearning from to after
 learning_same from to before after same l = record { left = l.left; reaches = l.reaches; tells = same ∙ l.tells }
 
@@ -114,7 +114,7 @@ module _ (frame : Frame) (now after : View) (node : ℕ) (taken : Mark) (sent ma
     | inr ne ↦ subst (Each (IsBelow to)) (sym (others who ne)) (below-append bound to (marks who) (sent who) le below new)
   ]
 
-  -- what is told after a row that takes nothing that tells
+  -- the slots of Tells marks after a row that takes none
   told-row : (who : ℕ) → ((slot : ℕ) → who ≡ node → taken ≡ Tells slot → ⊥) → told (marks' who) ≡ told (marks who) ++ told (sent who)
   told-row who never = elim (cases_eq who node) [
     | inl is ↦ ap (λ n. told (marks' n)) is

@@ -124,12 +124,12 @@ module _ (begun : Requests) (frame : Frame) (r : ReplicaState) (taken : ℕ) (sl
   run_moves mark counts on past = λ one two v w own. inr (inr (inr
       (leads_moves begun frame (next r) (next r + taken) r.leader.flights held bound wanted after place k one two mark v.next (v.bound refl) (λ slot. v.voters refl slot) w.next (w.bound refl) (λ slot. w.voters refl slot) counts on past)))
 
-  -- .. the vote of a member
+  -- the leader counts the vote of a member
   pub counted_moves : (from slot : ℕ) → is_member (frame.at slot) from ≡ true → IsVoted from slot r.leader.flights held → MovesBy frame frame.lead r taken place.0 after (Votes from slot) place.1
   counted_moves from slot member v =
       run_moves (Votes from slot) member (voted_on from slot r.leader.flights held v) (voted_past from slot r.leader.flights held v (next r + taken) (λ other high. past_taken r taken other slots high))
 
-  -- .. a request
+  -- the leader takes a request
   pub asked_moves : held ≡ r.leader.flights → MovesBy frame frame.lead r taken place.0 after Other place.1
   asked_moves same =
       run_moves Other tt (subst (λ l. IsHeldOn r.leader.flights l Other) (sym same) (held_same r.leader.flights)) (λ slot high. ap (flight_at slot) same ∙ past_taken r taken slot slots high)

@@ -72,7 +72,7 @@ module _ (words : ℕ → ℕ → ℕ × ℕ) (scenario : Scenario) (stage : IsS
   pub node_number : (me : ℕ) → 1 ≤ me → me ≤ scenario.nodes → is_node me ≡ true
   node_number me one most = (let all = stage.nodes in and_from (leb 1 me) (leb me most_nodes) (le-leb 1 me one) (le-leb me most_nodes (omega (arith, most, all))))
 
-  -- .. and a client's number is that of no node
+  -- a client's number is that of no node
   pub client_number : (asks : Asks) → Among asks scenario.clients → is_node (client_actor asks.client) ≡ false
   client_number asks a = (let one = stage.numbered asks a in and_right (leb 1 (client_actor asks.client)) (leb (client_actor asks.client) most_nodes) (lt-leb (client_actor asks.client) most_nodes (omega (arith, one))))
 
@@ -105,7 +105,7 @@ module _ (words : ℕ → ℕ → ℕ × ℕ) (scenario : Scenario) (stage : IsS
         let now = ap (λ (f : Base). begun_of (value player_table (client_seat (route_of f) b.asks) (rows ++ row ∷ []))) first in
         record { first = b.first; others = b.others; groups_are = b.groups_are; asks = b.asks; is_asks = b.is_asks; client_is = b.client_is; from_one = b.from_one; op_is = b.op_is; low = omega (arith, low, up, was, now) }
 
-    -- .. as where none of them acts
+    -- where no client acts, the same requests are begun
     pub begun_still : ((asks : Asks) → Among asks scenario.clients → client_actor asks.client ≡ row.who → ⊥) → IsMore (IsBegun scenario rows) (IsBegun scenario (rows ++ row ∷ []))
     begun_still away = begun_more (λ asks a. (let same = ap begun_of (value_others (cseat asks) (away asks a)) in omega (arith, same)))
 
@@ -131,7 +131,7 @@ module _ (words : ℕ → ℕ → ℕ × ℕ) (scenario : Scenario) (stage : IsS
         let mine = cond-true g.r.running (next g.r - 1) 0 runs in
         omega (arith, one, all, is, mine)
 
-    -- .. and so no replica is near the last slot
+    -- no replica is near the last slot
     pub has_room_at : owed_at_birth sys (owing_of scenario) + 16 ≤ last_slot → (frame : Frame) → Among frame (frames_of scenario) → (me : ℕ) → next_in (replica_at scenario rows frame.core.id me) + slots_ahead ≤ last_slot
     has_room_at few frame a me =
         let g = j.groups frame a in

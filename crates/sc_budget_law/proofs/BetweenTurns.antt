@@ -128,7 +128,7 @@ module _ (words : ℕ → ℕ → ℕ × ℕ) (scenario : Scenario) (stage : IsS
             owes = owes_after rows (nseat me) (Deliver number) j born fine node_paid;
           }
 
-    -- ---- a node is told to go: it does nothing
+    -- ---- a `go` event at a node does nothing
 
     pub acted_go : acted player_table (value player_table (nseat me) rows) (input_of {O = OrderLine} (mails rows) Go) ≡ (Node n.node, [])
     acted_go = ap (λ p. acted player_table p (Some GoInput)) n.is

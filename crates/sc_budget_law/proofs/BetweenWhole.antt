@@ -37,7 +37,7 @@ module _ (words : ℕ → ℕ → ℕ × ℕ) (scenario : Scenario) (stage : IsS
     pub most : me ≤ scenario.nodes
     pub seat_is : o.seat ≡ node_seat as_nodes scenario.groups scenario.policy me
 
-  -- .. or of a client
+  -- a row of a client
   pub record OfClient (rows : Journal) (row : Row Mail OrderLine) (o : IsOrderly (system_of as_nodes words scenario) rows row) : Type 0 where
     pub asks : Asks
     pub is_asks : Among asks scenario.clients

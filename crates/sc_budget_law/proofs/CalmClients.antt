@@ -185,7 +185,7 @@ module _ (set : Setting) where
       abbrev Stays : ClientStep → Type 0
       Stays step = StaysCalm begun set asks gone step × Seeks step
 
-      -- .. to the group that is chosen
+      -- it sends its request to the group that is chosen
       asked_row : gone ≡ true → (seq : ℕ) (op : Op) (client : ClientState) → IsReady seq op client → (group : Draw) → chosen (pos_of (key_of op)) client.known ≡ Some group → begun client.me seq op → Stays (sent_to group client)
       asked_row g seq op client k group c b =
           let w = way_found (CanBeAsked set) client.known group (chosen_among (pos_of (key_of op)) client.known group c) k.targets in
@@ -239,7 +239,7 @@ module _ (set : Setting) where
           (λ w. (let bad : None ≡ Some w.seq = w.waits in cc)),
         )))
 
-    -- one that was not told yet has asked nothing
+    -- a client that has not started has asked nothing
     pub unasked : (client : ClientState) → IsResting false client ⊎ ((false ≡ true) × IsWaiting client) → (client.waiting ≡ None) × (client.replies ≡ [])
     unasked client (inl rests) = elim (rests.replies) [ inl is ↦ (rests.waits, is.1) | inr is ↦ (let bad : false ≡ true = is.0 in cc) ]
     unasked client (inr is) = (let bad : false ≡ true = is.0 in cc)

@@ -184,7 +184,7 @@ module _ (frames : List Frame) (ring : AreRoundRing frames) where
         let w = parts_of front frame a in
         behind p frame a near lacks w.0 w.1 back refl w.2 (parts ∙ (ap (λ (fs : List Frame). fs ++ back) w.2 ∙ append_assoc w.0 (frame ∷ w.1) back))
 
-  -- ---- a client is told that a key is not the chosen group's
+  -- ---- a client learns that a key is not the chosen group's
 
   module _ (reached p : ℕ) (frame : Frame) (known : KnownGroups) (k : KnowsFirst frames reached known) (a : Among frame frames) (c : chosen p known ≡ Some frame.core.id) (lacks : holds frame.core.arc p ≡ false) where
     best : IsChosen p known frame.core.id
@@ -304,7 +304,7 @@ module _ (frames : List Frame) (ring : AreRoundRing frames) where
     learns_next : (way_to frame.core.succ.group known ≡ None) × KnowsFirst frames (reached + 1) (told_not_mine frame.core.id frame.core.arc frame.core.succ known)
     learns_next = (is_new known k.names, record { some = omega arith; low = more; names = names_after; starts = λ two. starts_after })
 
--- Between two orders a client comes to know the groups that stand round the ring, one after another, from the one that it reached first: told that a key is not that group's which it chose, it learns the next one, which it did not know. Only where that first one starts may be old.
+-- Between two orders a client comes to know the groups that stand round the ring, one after another, from the one that it reached first: by NotMine of the group that it chose, it learns the next one, which it did not know. Only where that first one starts may be old.
 pub learn_in_turn : ClientsLearnInTurn
 learn_in_turn = record {
   not_mine = λ frames reached p frame known ring k a c lacks. learns_next frames ring reached p frame known k a c lacks;

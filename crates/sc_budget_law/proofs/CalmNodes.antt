@@ -36,7 +36,7 @@ aside_refused : (gone : Option Route) (core : Core) (hint : Option ℕ) (op : Op
 aside_refused (Some into) core hint op = refl
 aside_refused None core hint op = refl
 
--- .. and its step
+-- the step of a replica that does not run
 pub aside_step : (r : ReplicaState) (group : Draw) (from client seq : ℕ) (op : Op) → r.running ≡ false
     → mailed from (Request group client seq op) (r, []) ≡ ((r, mail_of r.me (client_actor client) (Answer (name_of r) seq (aside_answer r.group.core.gone r.hint)) ∷ []), [])
 unfolding mailed request_row requested

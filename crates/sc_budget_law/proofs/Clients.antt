@@ -1,4 +1,4 @@
--- What a client of a plain journal does with each mail, and when it is told to go.
+-- What a client of a plain journal does with each mail, and when it starts.
 use Rattle.std.proofs.Common.{◌≡◌, ℕ, ◌+◌, ◌-◌, ◌*◌, ◌<◌, ◌≤◌, ltb, eqb, Bool, true, false, cond, List, [], ◌∷◌, ◌++◌, length, map, take, sum_by, Option, Some, None, ◌⊎◌, inl, inr, refl, sym, ◌∙◌, ap, subst, arith}
 use Rattle.std.specs.Prelude.{nat_le, slice_get, get_or}
 use Rattle.std.specs.Option.{option_map}
@@ -143,7 +143,7 @@ module _ (frames : List Frame) (round : IsRound frames) (asks : Asks) where
 
   -- ---- what is owed, in numbers
 
-  -- so much is owed by a client with so many requests, replies and waiting ones, that knows so many groups
+  -- what a client owes, by the number of its requests, its replies, its waiting requests and the groups that it knows
   owes_at : ℕ → ℕ → ℕ → ℕ → ℕ
   owes_at requests replies waiting known = 29 * (requests - (replies + waiting)) + cond (ltb replies requests) (2 * (groups - known)) 0
 
@@ -290,7 +290,7 @@ module _ (frames : List Frame) (round : IsRound frames) (asks : Asks) where
           ap (λ (o : Option (Draw × ℕ)). was_asked o mail.from group) a ∙ and_from (eqb target mail.from) (same_draw g group) (eq-eqb target mail.from (sym from)) (same_name g group (sym name)) in
           both_ways (was_asked client.asked mail.from group) f asked_))
 
-      -- .. by that node: it asks the next group
+      -- an answer of that node sends it on: it asks the next group
       sent_on : (group : Draw) (arc : Arc) (succ : Link) → mail.body ≡ Answer group w.seq (NotMine arc succ) → was_asked client.asked mail.from group ≡ true
           → TakesMail (request_sent (record client { known = told_not_mine group arc succ client.known }))
       sent_on group arc succ e t =
@@ -360,14 +360,14 @@ module _ (frames : List Frame) (round : IsRound frames) (asks : Asks) where
     pub client_row : TakesMail (table client (Got mail))
     client_row = takes_by mail.body refl
 
-  -- ---- a client is told to go
+  -- ---- a client starts
 
   pub record Goes (begun : Requests) (client : Client) (after : ClientStep) : Type 0 where
     pub row : ClientRow begun true after
     pub owed : client_owes groups after.0 + sum_by mail_owes after.1 ≤ client_owes groups client
     pub does : DidAsk after ⊎ DidEnd after
 
-  -- one that was not told yet has asked nothing
+  -- a client that has not started has asked nothing
   pub unasked : (client : Client) → IsResting false client ⊎ ((false ≡ true) × IsWaiting client) → (client.waiting ≡ None) × (client.replies ≡ [])
   unasked client (inl rests) = elim (rests.replies) [ inl is ↦ (rests.waits, is.1) | inr is ↦ (let bad : false ≡ true = is.0 in cc) ]
   unasked client (inr is) = (let bad : false ≡ true = is.0 in cc)

@@ -33,7 +33,7 @@ lines_plain budget (Crash node ∷ lines) at = absurd at.0
 lines_plain budget (Told node order ∷ lines) at = absurd at.0
 lines_plain budget (Storm number most ∷ lines) at = absurd at.0
 
--- .. and have room for all that is owed
+-- lines of deliveries have room for all that is owed
 pub lines_roomy : (budget total : ℕ) (lines : List SchedLine) → total ≤ budget → Each (AllowsDeliveries budget) lines → Each (HasRoom total) (map line_of lines)
 lines_roomy budget total [] low at = tt
 lines_roomy budget total (Go client ∷ lines) low at = (tt, lines_roomy budget total lines low at.1)

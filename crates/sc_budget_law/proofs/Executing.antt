@@ -23,7 +23,7 @@ module _ (begun : Requests) (frame : Frame) (is : IsFrame frame) (first free : �
     pub leads : L taken place
     pub none : entries_at (next place.0) place.0.ready ≡ 0
 
-  -- .. after a step
+  -- after a step nothing is ready any more
   abbrev IsDoneAfter : Executed → Type 0
   IsDoneAfter step = IsDone step.0
 

@@ -169,7 +169,7 @@ module _ (frames : List Frame) (round : IsRound frames) (reached : ℕ) (low : r
 
   -- ---- the one behind the chosen one
 
-  -- what is told is learnt
+  -- the group that the answer names is learnt
   learnt : (frame other : Frame) (rest : List Frame) → Among frame front → back ≡ other ∷ rest → IsBefore frame other
       → told_not_mine frame.core.id frame.core.arc frame.core.succ (map way_of front) ≡ take (reached + 1) (map way_of frames)
   learnt frame other rest a e k =

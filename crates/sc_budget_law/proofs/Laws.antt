@@ -24,6 +24,6 @@ requests_go_on = go_on valid_scenarios_are_bounded
 pub quiet_journals_ask : QuietJournalsAsk
 quiet_journals_ask = quiet_ask valid_scenarios_are_bounded
 
--- Where clients ask alone, from a journal in which no request waits, and no mail is left at the end, no request waits then either: each client that was told to go has all replies.
+-- Where clients ask alone, from a journal in which no request waits, and no mail is left at the end, no request waits then either: each client that has started has all replies.
 pub lines_are_answered : LinesAreAnswered
 lines_are_answered = lines_answered valid_scenarios_are_bounded

@@ -15,7 +15,7 @@ use Rattle.sc_budget_law.proofs.Sends.{learns_to, mail_of}
 
 -- ---- which slots are taken
 
--- whether a slot is one of so many from the next one on
+-- whether a slot is one of the first `taken` from the next one on
 abbrev pub in_range : ℕ → ℕ → ℕ → Bool
 in_range from taken slot = nat_le from slot && nat_lt slot (from + taken)
 
@@ -170,7 +170,7 @@ module _ (begun : Requests) (frame : Frame) (taken : ℕ) (r : ReplicaState) (k 
 
 -- ---- a leader in the midst of a row
 
--- a call of a client, with this number or a later one, waits or is under way
+-- a request of a client, with this number or a later one, is queued or under way
 pub record IsHeld (r : ReplicaState) (client seq : ℕ) : Type 0 where
   pub number : ℕ
   pub op : Op
@@ -178,7 +178,7 @@ pub record IsHeld (r : ReplicaState) (client seq : ℕ) : Type 0 where
   pub where_ : Among (Call client number op) r.calls
       ⊎ (((flight : Flight Command) × Among flight r.leader.flights × (flight.value ≡ Call client number op)) ⊎ ((slot : ℕ) × Among (slot, Call client number op) r.ready))
 
--- such a call is answered for good
+-- such a request is answered for good
 pub record IsToldOf (frame : Frame) (mails : List Mail) (client seq : ℕ) : Type 0 where
   pub number : ℕ
   pub answer : AnswerBody
@@ -209,7 +209,7 @@ pub record IsNew (free : ℕ) (flight : Flight Command) : Type 0 where
   pub late : free ≤ flight.slot
   pub unvoted : flight.voters ≡ None
 
--- the row began at the slot `first`, with all slots before `free` taken and these flights; so much is owed at most, and these calls are wanted. Now so many slots are taken
+-- the row began at the slot `first`, with all slots before `free` taken and these flights; at most `bound` is owed, and these requests are wanted. Now `taken` slots have a command
 pub record Leads (begun : Requests) (frame : Frame) (first free : ℕ) (held : List (Flight Command)) (bound : ℕ) (wanted : ℕ → ℕ → Type 0) (taken : ℕ) (place : Place) : Type 0 where
   pub plain : IsPlainReplica begun frame frame.lead place.0
   pub leader : IsPlainLeader begun frame taken place.0

@@ -154,7 +154,7 @@ module _ (s : System Player Mail OrderLine) where
   walk_goes place [] g = g
   walk_goes place (row ∷ rows) g = walk_goes (after_row s place row) rows (onward_goes (place.rows ++ row ∷ []) (rest_of_all place.tasks) place.skipped place.unsettled (rest_goes place.tasks g))
 
--- a player that is told to go sends one mail at most
+-- a player that starts sends one mail at most
 asked_one : (client : ClientState) (group : Draw) (target : Option ℕ) (request : Option (ℕ × Op)) → length (asked_of client group target request).1 ≤ 1
 asked_one client group (Some target) (Some request) = omega arith
 asked_one client group (Some target) None = omega arith

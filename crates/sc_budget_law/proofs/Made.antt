@@ -9,7 +9,7 @@ use Rattle.sc_scenario.specs.declared.scenarios.SchedLine.TheVariants.{Go, Settl
 use Rattle.sc_budget_law.specs.Definitions.{AllowsDeliveries, budget_of, requests_of, MadeScenariosAreAtBudget}
 use Rattle.sc_scenario.proofs.Lemmas.{ops_counted as ops_count}
 
--- .. and so have so many clients together
+-- k clients with n requests each have k times n together
 clients_count : (seed n k : ℕ) → sum_by (λ (asks : Asks). length asks.ops) (made_clients seed n k) ≡ k * n
 unfolding made_clients
 clients_count seed n zero = omega arith

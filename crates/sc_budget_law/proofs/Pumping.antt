@@ -1,4 +1,4 @@
--- What the leading replica of a plain group offers: its waiting calls, at the slots that are free, in their order.
+-- What the leading replica of a plain group offers: its queued requests, at the slots that are free, in their order.
 use Rattle.std.proofs.Common.{◌≡◌, ℕ, zero, suc, ◌+◌, ◌*◌, ◌<◌, ◌≤◌, ◌&&◌, not, leb, eqb, Bool, true, false, List, [], ◌∷◌, ◌++◌, length, map, sum_by, Option, Some, None, ◌⊎◌, inl, inr, refl, sym, ◌∙◌, ap, subst, arith, append_assoc}
 use Rattle.std.specs.Prelude.{is_some, nat_le}
 use Rattle.std.specs.List.{list_any}
@@ -264,7 +264,7 @@ module _ (begun : Requests) (frame : Frame) (is : IsFrame frame) (first free : �
       let q = more (after slot taken r mails client seq op rest at room e k) refl (offered_leads slot taken r mails client seq op rest at room e k) in
       record { taken = q.taken; leads = q.leads; offered_all = q.offered_all; same_next = q.same_next; same_ready = q.same_ready }
 
-  -- the slot behind those that are taken: the next call is offered there, if there is one
+  -- the slot behind those that are taken: the next queued request is offered there, if there is one
   turn : (slot taken : ℕ) (sets : List (List ℕ)) (r : ReplicaState) (mails : List Mail) (calls : List Command) → r.calls ≡ calls → slot ≡ next r + taken → taken < slots_ahead → L taken (r, mails)
       → ((place : Place) → next place.0 ≡ next r → L (taken + 1) place → IsPumped place (pumped_from (slot + 1) sets place))
       → IsPumped (r, mails) (elim ((found_for slot (r, mails)).0) [ None ↦ (found_for slot (r, mails)).1 | Some c ↦ pumped_from (slot + 1) sets (offered slot (frame.at slot) c (found_for slot (r, mails)).1) ])

@@ -1,4 +1,4 @@
--- In a whole plain journal every request of a client that is served is answered.
+-- In a whole plain journal every request is answered of a client whose `go` line is followed by a line of deliveries.
 use Rattle.std.proofs.Common.{◌≡◌, ℕ, ◌+◌, ◌-◌, ◌≤◌, eqb, ◌||◌, Bool, true, false, cond, List, [], ◌∷◌, ◌++◌, length, map, Option, Some, None, inl, inr, refl, sym, ◌∙◌, ap, subst, arith, append_assoc, append-nil}
 use Rattle.std.specs.List.{list_any}
 use Rattle.std.proofs.lemmas.Bool.{both_ways}
@@ -115,7 +115,7 @@ module _ (words : ℕ → ℕ → ℕ × ℕ) (scenario : Scenario) (stage_ : Is
           let is = stage_.are frame a in
           stage_.fit frame a (frame.from + slots_ahead) frame.lead (ap (λ ms. is_member ms frame.lead) (is.later (frame.from + slots_ahead) (omega arith)) ∙ is.leads)
 
-      -- no leader holds a call
+      -- no leader has a queued request
       none_held : (frame : Frame) (a : Among frame (frames_of scenario)) (r : ReplicaState) → replica_at scenario rows frame.core.id frame.lead ≡ Some r → (client seq : ℕ) → IsHeld r client seq → ⊥
       none_held frame a r there client seq held =
           let j = plain_at rows lawful in

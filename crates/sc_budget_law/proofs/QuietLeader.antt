@@ -59,7 +59,7 @@ module _ (begun : Requests) (frame : Frame) (is : IsFrame frame) (r : ReplicaSta
       range_none : (slot : ℕ) → slot < next r → in_range (next r) d.taken slot ≡ false
       range_none slot low = range_before (next r) d.taken slot low
 
-  -- no call waits there or is under way
+  -- no request is queued there or under way
   pub leader_idle : (client seq : ℕ) → IsHeld r client seq → ⊥
   leader_idle client seq h = elim (h.where_) [
     | inl a ↦ elim (d.done.offered) [

@@ -1,4 +1,4 @@
--- A request that waits is on its way, or its answer is, or its call is at the leader that was asked.
+-- A request that waits is on its way, or its answer is, or it is queued at the leader that was asked.
 use Rattle.std.proofs.Common.{◌≡◌, ℕ, ◌≤◌, eqb, ◌&&◌, true, false, cond, List, [], ◌∷◌, ◌++◌, drop, Some, ◌⊎◌, inl, inr, refl, sym, ◌∙◌, ap, subst, arith}
 use Rattle.std.specs.List.{filter}
 use Rattle.std.proofs.lemmas.Bool.{ne_eqb, eq-eqb, cond-true, cond_both}
@@ -37,7 +37,7 @@ filter_among who (m ∷ sent) mail to (inl same) =
 filter_among who (m ∷ sent) mail to (inr a) =
     cond_both (eqb m.to who) (m ∷ filter (λ (x : Mail). eqb x.to who) sent) (filter (λ (x : Mail). eqb x.to who) sent) (Among mail) (λ _. inr (filter_among who sent mail to a)) (λ _. filter_among who sent mail to a)
 
--- what a leader does with a call that it holds: it holds it still, or its client is answered
+-- what a leader does with a queued request: the request stays queued, or its client is answered
 pub does_holds : (begun : Requests) (frame : Frame) (is : IsFrame frame) (me : ℕ) (r : ReplicaState) (from : ℕ) (body : MailBody) (place : Place) → me ≡ frame.lead → Does begun frame is me r from body place → (c n : ℕ) → IsHeld r c n → IsHeld place.0 c n ⊎ IsToldOf frame place.1 c n
 does_holds begun frame is me r from (Request group client seq op) place lead does c n h = elim (does.1) [
   | inl refused ↦ inl (subst (λ (p : Place). IsHeld p.0 c n) (sym refused.place_is) h)
@@ -60,11 +60,11 @@ module _ (words : ℕ → ℕ → ℕ × ℕ) (scenario : Scenario) where
   abbrev pub IsAnswered : Journal → Frame → ℕ → ℕ → Type 0
   IsAnswered rows frame me seq = (answer : AnswerBody) × IsFinal answer × Among (mail_of frame.lead (client_actor me) (Answer frame.core.id seq answer)) (left rows (client_actor me))
 
-  -- its call is at the leader
+  -- its request is queued at the leader
   abbrev pub IsHeldAt : Journal → Frame → ℕ → ℕ → Type 0
   IsHeldAt rows frame me seq = (r : ReplicaState) × (replica_at scenario rows frame.core.id frame.lead ≡ Some r) × IsHeld r me seq
 
-  -- a request that waits is on its way, or its answer is, or its call is at the leader
+  -- a request that waits is on its way, or its answer is, or it is queued at the leader
   pub record IsSought (rows : Journal) (client : ClientState) (w : IsWaiting client) : Type 0 where
     pub frame : Frame
     pub is_frame : Among frame (frames_of scenario)

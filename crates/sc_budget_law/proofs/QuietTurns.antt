@@ -1,4 +1,4 @@
--- In a plain journal each request that waits is on its way, or its answer is, or its call is at the leader that was asked.
+-- In a plain journal each request that waits is on its way, or its answer is, or it is queued at the leader that was asked.
 use Rattle.std.proofs.Common.{◌≡◌, ℕ, ◌+◌, ◌≤◌, eqb, true, false, List, [], ◌∷◌, ◌++◌, drop, find, Some, None, inl, inr, refl, sym, ◌∙◌, ap, subst, arith}
 use Rattle.std.proofs.lemmas.Bool.{cases_eq, both_ways}
 use Rattle.sc_base.specs.Definitions.{Among, client_actor, is_member}
@@ -284,7 +284,7 @@ module _ (words : ℕ → ℕ → ℕ × ℕ) (scenario : Scenario) (stage : IsS
         client_turn : AreSought (rows ++ row_of player_table (client_seat (route_of stage.first) mine) rows (Deliver number) ∷ [])
         client_turn = all_sought (Deliver number) fine step acted_is became_is then_ own_sought
 
-      -- the client is told to go
+      -- the client starts
       client_go : (fine : has_gone rows (client_actor mine.client) ≡ false) → IsPlainJournal words scenario stage (rows ++ row_of player_table (client_seat (route_of stage.first) mine) rows Go ∷ []) → AreSought (rows ++ row_of player_table (client_seat (route_of stage.first) mine) rows Go ∷ [])
       client_go fine then_ =
           let state = (client_rows.c words scenario stage round rows t j mine is_mine born).client in

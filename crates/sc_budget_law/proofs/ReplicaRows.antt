@@ -24,7 +24,7 @@ module _ (begun : Requests) (frame : Frame) (is : IsFrame frame) where
   leading_at me r e (inl (p, inr k)) = absurd (k.0 e)
   leading_at me r e (inr k) = absurd (both_ways (is_member frame.core.members me) k.left (ap (is_member frame.core.members) e ∙ is.leads))
 
-  -- .. and that of another member follows
+  -- the replica of another member follows
   pub following_at : (me : ℕ) (r : ReplicaState) → is_member frame.core.members me ≡ true → (me ≡ frame.lead → ⊥) → IsPlainAt begun frame me r → IsPlainReplica begun frame me r × IsPlainFollower r
   following_at me r m ne (inl (p, inl k)) = absurd (ne k.0)
   following_at me r m ne (inl (p, inr k)) = (p, k.1)
@@ -43,7 +43,7 @@ module _ (begun : Requests) (frame : Frame) (is : IsFrame frame) where
     pub lacks : holds_key frame.core.arc (key_of op) ≡ false
     pub place_is : place ≡ (r, mail_of frame.lead (client_actor client) (Answer frame.core.id seq (Says.NotMine frame.core.arc frame.core.succ)) ∷ [])
 
-  -- a request waits, and calls are offered
+  -- a request is queued, and queued requests are offered
   pub record DidQueue (r : ReplicaState) (client seq : ℕ) (op : Op) (place : Place) : Type 0 where
     pub taken : ℕ
     pub plain : IsPlainReplica begun frame frame.lead r

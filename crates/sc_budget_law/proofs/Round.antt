@@ -67,7 +67,7 @@ ends_ahead lo next up high = omega arith
 near_ahead : (p lo next : ℕ) → lo < next → next < 2 ^ 32 → next - lo ≤ ((p + 2 ^ 32) - lo) % 2 ^ 32 → ((p + 2 ^ 32) - next) % 2 ^ 32 < ((p + 2 ^ 32) - lo) % 2 ^ 32
 near_ahead p lo next up high lacks = omega arith
 
--- .. or once round
+-- the arc ends where the next one begins, once round the circle
 ends_round : (lo next : ℕ) → next ≤ lo → lo < 2 ^ 32 → (lo + (next + 2 ^ 32 - lo)) % 2 ^ 32 ≡ next
 ends_round lo next up high = omega arith
 

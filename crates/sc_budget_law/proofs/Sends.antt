@@ -21,7 +21,7 @@ abbrev pub learns_of : Draw → MailBody → List ℕ
 learns_of name (Learn group slot command) = cond (same_draw group name) (slot ∷ []) []
 learns_of name _ = []
 
--- .. where the mail is for this actor
+-- the slots that a Learn brings, where the mail is for this actor
 abbrev pub learns_for : Draw → ℕ → Mail → List ℕ
 learns_for name who mail = cond (eqb mail.to who) (learns_of name mail.body) []
 

@@ -71,7 +71,7 @@ module _ (begun : Requests) (frame : Frame) (is : IsFrame frame) where
     owes = refl;
   }
 
-  -- .. by what was noted of its client
+  -- a call is answered by what was noted of its client
   note_plain : (o : Option Noted) (client seq : ℕ) (op : Op) (group : Group) → get group.clients client ≡ o → begun client seq op → IsPlainGroup begun frame group
       → IsServed begun frame client seq op (served_by_note o group client seq op)
   note_plain None client seq op group e b g = done_plain client seq op group b g
@@ -83,14 +83,14 @@ module _ (begun : Requests) (frame : Frame) (is : IsFrame frame) where
       let other = eqb-false note.seq seq d in
       record { group = g; answer = Stale note.seq; answer_is = refl; says = (omega (arith, low, other), g.noted client note e); owes = refl })))
 
-  -- .. by the arc
+  -- a call is answered by the arc
   arc_plain : (client seq : ℕ) (op : Op) (group : Group) → IsPlainCall begun frame client seq op → IsPlainGroup begun frame group → IsServed begun frame client seq op (served group client seq op)
   arc_plain client seq op group c g =
       let held : holds_key group.core.arc (key_of op) ≡ true = ap (λ core. holds_key core.arc (key_of op)) g.core_is ∙ c.held in
       cond_both (holds_key group.core.arc (key_of op)) (served_by_note (get group.clients client) group client seq op) (group, Was.NotMine group.core.arc group.core.succ) (IsServed begun frame client seq op)
       (λ _. note_plain (get group.clients client) client seq op group refl c.is_begun g) (λ f. absurd (both_ways _ f held))
 
-  -- .. by the lock
+  -- a call is answered by the lock
   lock_plain : (gone : Option Route) (lock : Lock) (client seq : ℕ) (op : Op) (group : Group) → gone ≡ None → lock ≡ Free → IsPlainCall begun frame client seq op → IsPlainGroup begun frame group
       → IsServed begun frame client seq op (called gone lock group client seq op)
   lock_plain into lock client seq op group n f c g = rw (n, f) (arc_plain client seq op group c g)

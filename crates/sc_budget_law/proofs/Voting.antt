@@ -266,7 +266,7 @@ module _ (begun : Requests) (frame : Frame) (is : IsFrame frame) (taken : ℕ) (
           let no_ = one_no (eqb slot (next r)) (ne_eqb slot (next r) past) in
           decided_by (after, []) (record { taken = taken; leads = ready_leads; done = record { executed = omega (arith, was, more, no_); offered = d.offered } })))
 
-      -- .. and makes no child
+      -- what is chosen makes no child
       chosen_none : (readied slot flight.value (changed fs r.ready, [])).1 ≡ []
       unfolding readied es
       chosen_none =

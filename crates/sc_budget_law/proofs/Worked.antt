@@ -93,7 +93,7 @@ client_end : player_owes 1 (value player_table (client_seat (route_of alone) ask
 unfolding asks
 client_end = refl
 
--- the client is served, and both requests are answered
+-- the client's `go` line is followed by a line of deliveries, and both requests are answered
 served : IsServed put_get_scenario 1
 served = record { before = []; after = Settle 100 ∷ []; lines_are = refl; delivered = refl }
 
@@ -107,7 +107,7 @@ answered first others groups_are one a is =
       | inr none ↦ absurd none
     ]
 
--- the one member is told to leave its group, which is refused
+-- the one member gets the order to leave its group, which is refused
 abbrev pub leave_it : OrderLine
 leave_it = record { number = 1; order = Leave 1 lone_name }
 

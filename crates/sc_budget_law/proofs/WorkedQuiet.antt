@@ -1,4 +1,4 @@
--- What a quiet journal is, computed: behind a refused order the one member of a group leads, and its client was not told to go.
+-- What a quiet journal is, computed: behind a refused order the one member of a group leads, and its client has not started.
 use Rattle.std.proofs.Common.{◌≡◌, ◌≤◌, ℕ, eqb, cond, true, false, true≢false, List, [], ◌∷◌, Option, Some, None, lit≤, inl, inr, refl, sym, ◌∙◌, ap, subst}
 use Rattle.std.proofs.lemmas.Bool.{cases_Bool}
 use Rattle.std.proofs.lemmas.Map.Views.{exact_unsigned_eq}

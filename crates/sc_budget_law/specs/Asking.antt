@@ -1,4 +1,4 @@
--- A journal between two orders, in which clients ask alone: what holds after each of its rows.
+-- What holds after each row between two orders of a calm journal, where clients ask and no order is under way.
 use Rattle.std.specs.Prelude.{◌≡◌, ℕ, ◌+◌, ◌≤◌, true, List, [], ◌∷◌, ◌++◌}
 use Rattle.sc_base.specs.Definitions.{Among, Each, client_actor}
 use Rattle.sc_node_table.specs.Values.{Base, OrderLine, Mail, Node, Client, Row}
@@ -16,31 +16,31 @@ use Rattle.sc_budget_law.specs.CalmNode.{Setting, IsSetting, IsCalmNode, IsCalmM
 use Rattle.sc_budget_law.specs.Frames.{Frame}
 use Rattle.sc_budget_law.specs.PlainClient.{IsBegun}
 
--- a node after some rows
+-- a node of the scenario after these rows, which is as `IsCalmNode` says
 pub record IsAskingNode (scenario : Scenario) (set : Setting) (rows : List (Row Mail OrderLine)) (me : ℕ) : Type 0 where
   pub node : NodeState
   pub is : value player_table (node_seat as_nodes scenario.groups scenario.policy me) rows ≡ Node node
   pub me_is : node.me ≡ me
   pub calm : IsCalmNode (IsBegun scenario rows) set node
 
--- a client after some rows
+-- a client of the scenario after these rows, which is as `IsCalmClient` says
 pub record IsAskingClient (scenario : Scenario) (set : Setting) (first : Base) (rows : List (Row Mail OrderLine)) (asks : Asks) : Type 0 where
   pub client : ClientState
   pub is : value player_table (client_seat (route_of first) asks) rows ≡ Client client
   pub calm : IsCalmClient set asks (has_gone rows (client_actor asks.client)) client
 
--- All players after some rows, all mail that is not taken yet, and what stands in each group.
+-- what holds after each row while clients ask alone: of each node, of each client, of all mail that actors have not taken yet, and of each group that stands
 pub record IsAsking (words : ℕ → ℕ → ℕ × ℕ) (scenario : Scenario) (set : Setting) (first : Base) (rows : List (Row Mail OrderLine)) : Type 0 where
   pub nodes : (me : ℕ) → 1 ≤ me → me ≤ scenario.nodes → IsAskingNode scenario set rows me
   pub clients : (asks : Asks) → Among asks scenario.clients → IsAskingClient scenario set first rows asks
   pub left : (who : ℕ) → is_born (system_of as_nodes words scenario) who ≡ true → Each (IsCalmMail (IsBegun scenario rows) set) (rest (system_of as_nodes words scenario) rows who)
   pub groups : (frame : Frame) → Among frame set.frames → IsGroupAt words scenario rows frame
 
--- no replica is near the last slot
+-- each replica of a group that stands has room for all open slots below the last slot that a log may have
 abbrev pub AreFarFromLast : Scenario → Setting → List (Row Mail OrderLine) → Type 0
 AreFarFromLast scenario set rows = (frame : Frame) (node : ℕ) → Among frame set.frames → next_in (replica_at scenario rows frame.core.id node) + slots_ahead ≤ last_slot
 
--- whatever client goes and whatever mail is delivered in order, it stays so
+-- whatever client starts and whatever mail is delivered in order, `IsAsking` holds after the row as well, as long as no replica is near the last slot
 abbrev pub RequestsGoOn : Type 0
 RequestsGoOn =
     (words : ℕ → ℕ → ℕ × ℕ) (scenario : Scenario) (set : Setting) (first : Base) (others : List Base) (rows : List (Row Mail OrderLine)) (row : Row Mail OrderLine)

@@ -1,4 +1,4 @@
--- A quiet journal of a calm scenario, from which on clients may ask.
+-- A quiet journal of a calm scenario: one with no mail pending, from which on clients may ask.
 use Rattle.std.specs.Prelude.{◌≡◌, ℕ, ◌+◌, ◌-◌, ◌≤◌, ◌||◌, is_some, if◌then◌else◌, Bool, true, false, List, [], ◌∷◌, Option, Some, None}
 use Rattle.sc_base.specs.Definitions.{Among, Each, client_actor, least_of}
 use Rattle.sc_node_table.specs.Values.{Draw, Base, Route, OrderLine, Mail, Node, Client, Row}
@@ -21,34 +21,34 @@ use Rattle.sc_budget_law.specs.Frames.{Frame}
 use Rattle.sc_budget_law.specs.PlainClient.{IsBegun}
 use Rattle.sc_budget_law.specs.PlainNode.{IsPlainGroup}
 
--- the replicas after some rows
+-- the replicas after some rows, by group and node
 abbrev pub replicas_after : Scenario → List (Row Mail OrderLine) → Replicas
 replicas_after scenario rows group node = replica_at scenario rows group node
 
--- the setting that quiet replicas give
+-- the setting that these replicas, frames and ways give
 abbrev pub setting_at : Replicas → List Frame → Ways → Setting
 setting_at at frames ways = record { frames = frames; at = at; ways = ways }
 
--- each hint leads nearer to one that runs, or knows where its group went; where a group stands, its leader is nearer than others
+-- a replica that does not run, of a group that stands for it, names a node that is nearer to the group's leader; and the leader of a group that stands is nearer than any other node
 pub record DoHintsRise (at : Replicas) (ways : Ways) : Type 0 where
   pub leads : (group : Draw) (quiet : StandsQuiet at group) (node : ℕ) → (node ≡ quiet.lead.me → ⊥) → ways.far group quiet.lead.me + 1 ≤ ways.far group node
   pub hints : (group : Draw) (node hint : ℕ) (r : ReplicaState) → at group node ≡ Some r → r.running ≡ false → r.group.core.gone ≡ None → r.hint ≡ Some hint → ways.far group hint + 1 ≤ ways.far group node
 
--- the frames of all groups that stand
+-- the list has the frames of exactly the groups that stand
 pub record AreFramesOf (at : Replicas) (frames : List Frame) : Type 0 where
   pub stand : (group : Draw) (quiet : StandsQuiet at group) → Among (frame_at_rest quiet.lead) frames
   pub are : (frame : Frame) → Among frame frames → (group : Draw) × (quiet : StandsQuiet at group) × (frame_at_rest quiet.lead ≡ frame)
 
--- how many hints lead at most from a replica to one that runs or is gone, where no ballot that was seen has a later round than this
+-- an upper bound of the number of hints that lead from a node to a replica that runs or is gone, where no replica of the group has seen a ballot with a later round than `latest`
 abbrev pub hints_left : ℕ → Option ReplicaState → ℕ
 hints_left latest None = 1 + latest
 hints_left latest (Some r) = if r.running || is_some r.group.core.gone then 0 else 1 + latest - r.top.round
 
--- the ways by the latest round of each group
+-- the ways of a journal: how far a node is from its group's leader is `hints_left` by the latest round that was seen in the group
 abbrev pub ways_at : Replicas → (Draw → ℕ) → ℕ → (Draw → Option (Draw × Bool)) → Ways
 ways_at at latest most asks = record { far = λ group node. hints_left (latest group) (at group node); most = most; asks = asks }
 
--- by these ways hints rise in a quiet journal, where none of a group that stands is gone
+-- in a quiet journal hints lead nearer to a leader by the ways of `ways_at`, where no replica of a group that stands is gone
 abbrev pub QuietHintsRise : Type 0
 QuietHintsRise =
     (at : Replicas) (first : Route) (clients : List (Bool × ClientState)) (latest : Draw → ℕ) (most : ℕ) (asks : Draw → Option (Draw × Bool)) → IsQuiet at first clients
@@ -56,7 +56,7 @@ QuietHintsRise =
     → ((group : Draw) (node : ℕ) (r : ReplicaState) → at group node ≡ Some r → r.top.round ≤ latest group)
     → ((group : Draw) (quiet : StandsQuiet at group) (node : ℕ) (r : ReplicaState) → at group node ≡ Some r → r.group.core.gone ≡ None) → DoHintsRise at (ways_at at latest most asks)
 
--- What a quiet journal is, by its players: each player and each replica as the journal made it, the requests that are noted begun, and no mail left but to the desk.
+-- a quiet journal, by its players: its replicas and clients are as `IsQuiet` says, each replica is as any journal keeps it, the requests that leaders have noted are begun, and no mail is left but to the desk, to which results of orders go
 pub record IsQuietJournal (words : ℕ → ℕ → ℕ × ℕ) (scenario : Scenario) (first : Base) (rows : List (Row Mail OrderLine)) : Type 0 where
   pub clients : List (Bool × ClientState)
   pub quiet : IsQuiet (replicas_after scenario rows) (route_of first) clients
@@ -69,7 +69,7 @@ pub record IsQuietJournal (words : ℕ → ℕ → ℕ × ℕ) (scenario : Scena
   pub none : (who : ℕ) → is_born (system_of as_nodes words scenario) who ≡ true → rest (system_of as_nodes words scenario) rows who ≡ []
   pub desk : (who : ℕ) → is_born (system_of as_nodes words scenario) who ≡ false → Each (λ mail. (name : Draw) → mark name mail ≡ Other) (rest (system_of as_nodes words scenario) rows who)
 
--- so clients may ask from it on, and no request waits
+-- from a quiet journal on clients may ask: its setting is one, `IsAsking` holds, and no request waits
 abbrev pub QuietJournalsAsk : Type 0
 QuietJournalsAsk =
     (words : ℕ → ℕ → ℕ × ℕ) (scenario : Scenario) (first : Base) (others : List Base) (rows : List (Row Mail OrderLine)) (frames : List Frame) (ways : Ways)

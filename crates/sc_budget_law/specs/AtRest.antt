@@ -1,4 +1,4 @@
--- The frame of a group that stands in a quiet journal: until the next order it is as plain as one from its birth.
+-- The frame of a group that stands in a quiet journal: until the next order the group is as plain as one from its birth on.
 use Rattle.std.specs.Prelude.{◌≡◌, ℕ, ◌-◌, ◌<◌, true, List, [], length, slice_get, unwrap_or, Some}
 use Rattle.sc_base.specs.Definitions.{Each, IsRoster, is_member}
 use Rattle.sc_node_table.specs.Values.{Draw, OrderLine, Mail, Row}
@@ -12,12 +12,12 @@ use Rattle.sc_budget_law.specs.PlainClient.{IsBegun}
 use Rattle.sc_budget_law.specs.PlainMail.{Requests}
 use Rattle.sc_budget_law.specs.PlainNode.{AreTaken, IsPlainGroup, IsPlainAt}
 
--- one to nine nodes
+-- a list of one to nine nodes
 pub record IsOfNodes (set : List ℕ) : Type 0 where
   pub roster : IsRoster set
   pub nodes : (node : ℕ) → is_member set node ≡ true → is_node node ≡ true
 
--- What each replica of a journal is, quiet or not: its node's and its group's, with a ballot of its own where it runs; it forgot executed slots alone, and knows who decides each open slot, at the last of which the members do.
+-- what holds of each replica of a journal, quiet or not: it is its node's and its group's, its ballot is its own where it runs, it has forgotten only executed slots, and it knows for each open slot the nodes that decide it, which at the last open slot are the group's members
 pub record IsKept (group : Draw) (node : ℕ) (r : ReplicaState) : Type 0 where
   pub me_is : r.me ≡ node
   pub name_is : name_of r ≡ group
@@ -27,7 +27,7 @@ pub record IsKept (group : Draw) (node : ℕ) (r : ReplicaState) : Type 0 where
   pub sets : Each IsOfNodes r.sets
   pub last : slice_get r.sets 3 ≡ Some (members r)
 
--- the frame that the replica gives that leads: each open slot has its own members, and later ones those of the record
+-- the frame of a group that stands, read off the replica that leads it: each open slot has the members that the replica keeps for it, and each later one those of the record
 abbrev pub frame_at_rest : ReplicaState → Frame
 frame_at_rest lead = record {
   core = lead.group.core;
@@ -37,7 +37,7 @@ frame_at_rest lead = record {
   from = next lead;
 }
 
--- such a group, in which no slot is taken
+-- the view of a group that stands in a quiet journal, in which no slot has a command in flight
 abbrev pub view_at_rest : Replicas → ReplicaState → View
 view_at_rest at lead = record {
   next = λ node. next_in (at (name_of lead) node);
@@ -45,7 +45,7 @@ view_at_rest at lead = record {
   voters = λ slot. votes_in (at (name_of lead) lead.me) slot;
 }
 
--- In the frame of this replica all replicas of its group are plain, each node that votes has one, and nothing stands between the leader and its nodes where no mail is under way.
+-- in the frame of the leading replica all replicas of the group are plain, each node that decides a slot has a replica, no slot has a command in flight or ready, and no mail of agreement is missing or under way between the leader and its nodes
 pub record StandsPlain (begun : Requests) (at : Replicas) (lead : ReplicaState) : Type 0 where
   pub frame : IsFrame (frame_at_rest lead)
   pub replicas : (node : ℕ) (r : ReplicaState) → at (name_of lead) node ≡ Some r → IsPlainAt begun (frame_at_rest lead) node r
@@ -53,7 +53,7 @@ pub record StandsPlain (begun : Requests) (at : Replicas) (lead : ReplicaState) 
   pub slots : AreTaken lead 0
   pub between : IsBetween (frame_at_rest lead) (view_at_rest at lead) (λ node. [])
 
--- so it is in a quiet journal for each group that stands, where the requests that it noted are begun
+-- each group that stands in a quiet journal is as `StandsPlain` says, where the requests that it has noted are begun
 abbrev pub QuietGroupsStandPlain : Type 0
 QuietGroupsStandPlain =
     (scenario : Scenario) (rows : List (Row Mail OrderLine)) (at : Replicas) (group : Draw) (quiet : StandsQuiet at group) → ((node : ℕ) (r : ReplicaState) → at group node ≡ Some r → IsKept group node r × IsAtRest r)

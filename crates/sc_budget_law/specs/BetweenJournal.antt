@@ -1,4 +1,4 @@
--- What stands between the leader of a group and its nodes after some rows.
+-- What stands between the leader of a group and its nodes after some rows of a journal.
 use Rattle.std.specs.Prelude.{◌≡◌, ℕ, ◌+◌, ◌==◌, List, [], map, filter, Option, Some, None, if◌then◌else◌}
 use Rattle.std.specs.Option.{option_map}
 use Rattle.sc_node_table.specs.Values.{Draw, Command, OrderLine, Mail, Row, Flight, Node, Client}
@@ -12,15 +12,15 @@ use Rattle.sc_budget_law.specs.Frames.{Frame}
 use Rattle.sc_budget_law.specs.Between.{Mark, mark, View, IsBetween}
 use Rattle.sc_budget_law.specs.PlainNode.{AreTaken}
 
--- who voted for what is in flight at a slot
+-- the nodes that voted for the command in flight at a slot, or None where nothing is in flight there
 abbrev pub voters_in : List (Flight Command) → ℕ → Option (List ℕ)
 voters_in flights slot = option_map (λ (flight : Flight Command). kept_voters flight.voters) (flight_at slot flights)
 
--- the marks, for a group, of the mail for an actor
+-- the marks, for a group, of the mail that is sent to an actor
 abbrev pub marks_for : Draw → ℕ → List Mail → List Mark
 marks_for name who mails = map (mark name) (filter (λ mail. mail.to == who) mails)
 
--- the replicas of a player: a client has none
+-- the replicas of a player; a client has none
 abbrev pub replicas_of : Player → List ReplicaState
 replicas_of (Node node) = node.replicas
 replicas_of (Client client) = []
@@ -32,17 +32,17 @@ replica_at scenario rows name node =
     then replica_of name (replicas_of (value player_table (node_seat as_nodes scenario.groups scenario.policy node) rows))
     else None
 
--- its next slot
+-- the next slot of a replica, or 0 where there is none
 abbrev pub next_in : Option ReplicaState → ℕ
 next_in None = 0
 next_in (Some r) = next r
 
--- its votes
+-- the nodes that voted for the command in flight at a slot of a replica, or None where there is no replica or no such command
 abbrev pub votes_in : Option ReplicaState → ℕ → Option (List ℕ)
 votes_in None slot = None
 votes_in (Some r) slot = voters_in r.leader.flights slot
 
--- a group after some rows, where so many slots are taken
+-- the view of a group after some rows, where `taken` slots have a command in flight or ready at the leader
 abbrev pub view_at : Scenario → List (Row Mail OrderLine) → Frame → ℕ → View
 view_at scenario rows frame taken = record {
   next = λ node. next_in (replica_at scenario rows frame.core.id node);
@@ -50,11 +50,11 @@ view_at scenario rows frame taken = record {
   voters = λ slot. votes_in (replica_at scenario rows frame.core.id frame.lead) slot;
 }
 
--- the marks of the mail that an actor has not taken
+-- the marks, for a group, of the mail that an actor has not taken after some rows
 abbrev pub marks_at : (ℕ → ℕ → ℕ × ℕ) → Scenario → List (Row Mail OrderLine) → Draw → ℕ → List Mark
 marks_at words scenario rows name who = map (mark name) (rest (system_of as_nodes words scenario) rows who)
 
--- what stands in a group after some rows: the replica that leads, of which so many slots are taken
+-- after some rows the group's leading node has a replica, some number of slots has commands at it, and what stands between it and its nodes is as `IsBetween` says
 pub record IsGroupAt (words : ℕ → ℕ → ℕ × ℕ) (scenario : Scenario) (rows : List (Row Mail OrderLine)) (frame : Frame) : Type 0 where
   pub taken : ℕ
   pub r : ReplicaState

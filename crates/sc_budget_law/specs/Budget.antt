@@ -1,4 +1,4 @@
--- The budget of a plain scenario, and what it buys: every request is answered.
+-- The budget of a plain scenario: the deliveries that each line has to allow, so that every request is answered.
 use Rattle.std.specs.Prelude.{◌≡◌, ℕ, ◌+◌, ◌*◌, ◌≤◌, Bool, true, false, List, ◌∷◌, ◌++◌, length, sum_by}
 use Rattle.std.specs.List.{list_any}
 use Rattle.sc_base.specs.Definitions.{Among, Each}
@@ -9,15 +9,15 @@ use Rattle.sc_scenario.specs.declared.scenarios.SchedLine.{SchedLine}
 use Rattle.sc_scenario.specs.declared.scenarios.SchedLine.TheVariants.{Go, Deliver, Drop, Again, Tick, Crash, Told, Settle, Free, Storm}
 use Rattle.sc_sound.specs.Definitions.{route_of, kept_replies}
 
--- how many requests the clients have together
+-- the number of requests of all clients together
 abbrev pub requests_of : Scenario → ℕ
 requests_of scenario = sum_by (λ asks. length asks.ops) scenario.clients
 
--- the deliveries that suffice: for each request 32, and 4 for each group
+-- the budget of a plain scenario with R requests and G groups: R * (32 + 4 * G) deliveries
 abbrev pub budget_of : Scenario → ℕ
 budget_of scenario = requests_of scenario * (32 + 4 * length scenario.groups)
 
--- a line that tells a client to go, or that delivers at least so often
+-- a `go` line, or a `settle` or `free` line that allows at least `budget` deliveries
 abbrev pub AllowsDeliveries : ℕ → SchedLine → Type 0
 AllowsDeliveries budget (Go client) = Unit {0}
 AllowsDeliveries budget (Settle most) = budget ≤ most
@@ -30,11 +30,11 @@ AllowsDeliveries budget (Crash node) = ⊥
 AllowsDeliveries budget (Told node order) = ⊥
 AllowsDeliveries budget (Storm number most) = ⊥
 
--- a plain scenario at its budget: clients go, and mail is delivered, in each line at least so often as the budget says
+-- a plain scenario at its budget: its schedule has `go`, `settle` and `free` lines alone, and each `settle` and `free` line allows at least the budget's deliveries
 abbrev pub IsAtBudget : Scenario → Type 0
 IsAtBudget scenario = Each (AllowsDeliveries (budget_of scenario)) scenario.lines
 
--- whether a line delivers pending mail of all actors
+-- whether a line delivers pending mail of all actors: a `settle` or `free` line
 abbrev pub delivers : SchedLine → Bool
 delivers (Settle most) = true
 delivers (Free most workers) = true
@@ -47,14 +47,14 @@ delivers (Crash node) = false
 delivers (Told node order) = false
 delivers (Storm number most) = false
 
--- a client goes, and mail is delivered in a later line
+-- the client has a `go` line in the schedule, and a line of deliveries follows it
 pub record IsServed (scenario : Scenario) (client : ℕ) : Type 0 where
   pub before : List SchedLine
   pub after : List SchedLine
   pub lines_are : scenario.lines ≡ before ++ Go client ∷ after
   pub delivered : list_any delivers after ≡ true
 
--- each such client kept a reply to each of its requests
+-- each client whose `go` line is followed by a line of deliveries kept a reply to each of its requests
 abbrev pub AreAnswered : Scenario → List (Row Mail OrderLine) → Type 0
 AreAnswered scenario journal =
     (first : Base) (others : List Base) → scenario.groups ≡ first ∷ others

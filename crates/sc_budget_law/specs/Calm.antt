@@ -22,7 +22,7 @@ gives_order (Settle most) = false
 gives_order (Free most workers) = false
 gives_order (Storm number most) = false
 
--- whether a line tells a client to go
+-- whether a line tells a client to start
 abbrev pub starts : SchedLine → Bool
 starts (Go client) = true
 starts (Told node order) = false
@@ -35,16 +35,16 @@ starts (Settle most) = false
 starts (Free most workers) = false
 starts (Storm number most) = false
 
--- how many orders are given
+-- the number of orders that the schedule gives
 abbrev pub orders_of : Scenario → ℕ
 orders_of scenario = count_by gives_order scenario.lines
 
--- the deliveries that suffice, for each request and for each order of each client; and for each order itself
+-- the budget of a calm scenario with R requests, C clients, G groups and N orders: (R + N * C) * (32 + 8 * (G + N)) + 512 * N deliveries
 abbrev pub calm_budget_of : Scenario → ℕ
 calm_budget_of scenario =
     (requests_of scenario + orders_of scenario * length scenario.clients) * (32 + 8 * (length scenario.groups + orders_of scenario)) + 512 * orders_of scenario
 
--- a line that tells a client to go, gives an order, or delivers at least so often
+-- a `go` or `order` line, or a `settle` or `free` line that allows at least `budget` deliveries
 abbrev pub AllowsCalmly : ℕ → SchedLine → Type 0
 AllowsCalmly budget (Go client) = Unit {0}
 AllowsCalmly budget (Told node order) = Unit {0}
@@ -57,17 +57,17 @@ AllowsCalmly budget (Tick who) = ⊥
 AllowsCalmly budget (Crash node) = ⊥
 AllowsCalmly budget (Storm number most) = ⊥
 
--- whether mail is to be delivered between two lines: an order, and another order or a client that goes
+-- whether a line of deliveries has to stand between two lines: one gives an order, and the other gives an order or tells a client to start
 abbrev pub are_parted : SchedLine → SchedLine → Bool
 are_parted one other = (gives_order one && (gives_order other || starts other)) || (starts one && gives_order other)
 
--- a calm scenario at its budget: each order has a line of deliveries after it, and one stands between each order and every other order or client that goes
+-- a calm scenario at its budget: `go`, `order`, `settle` and `free` lines alone, each line of deliveries allows the budget's deliveries, one follows each order, and one stands between each order and every other order or `go` line
 pub record IsCalmAtBudget (scenario : Scenario) : Type 0 where
   pub lines : Each (AllowsCalmly (calm_budget_of scenario)) scenario.lines
   pub followed : (before after : List SchedLine) (one : SchedLine) → scenario.lines ≡ before ++ one ∷ after → gives_order one ≡ true → list_any delivers after ≡ true
   pub parted : (before between after : List SchedLine) (one other : SchedLine) → scenario.lines ≡ before ++ one ∷ between ++ other ∷ after → are_parted one other ≡ true → list_any delivers between ≡ true
 
--- so its orders stand alone between lines of deliveries, and each of these has room for its budget
+-- in a calm scenario at its budget a line of deliveries stands between each order and every other order or `go` line, and each line of deliveries has room for the budget
 abbrev pub CalmLinesAreSpaced : Type 0
 CalmLinesAreSpaced =
     (scenario : Scenario) → IsCalmAtBudget scenario → AreSpaced Nothing (schedule scenario) × Each (HasRoom (calm_budget_of scenario)) (schedule scenario)

@@ -15,34 +15,34 @@ use Rattle.sc_budget_law.specs.Owed.{begun_ones}
 use Rattle.sc_budget_law.specs.PlainClient.{IsWaiting, IsResting, IsBegun}
 use Rattle.sc_budget_law.specs.PlainMail.{Requests}
 
--- groups that stand, round the ring from one on
+-- these groups that stand are the whole ring, each followed by the next, from one of them on
 pub record IsRingOf (set : Setting) (ring : List Frame) : Type 0 where
   pub round : AreRoundRing ring
   pub within : (frame : Frame) → Among frame ring → Among frame set.frames
 
--- Links and routes name nodes that have a replica of their group; round the ring any group that stands may be the first, and none of them went into another.
+-- links and routes name nodes that have a replica of the group named; each group that stands begins a list of the ring; and no replica of a group that stands knows it as gone
 pub record IsLinkedSetting (set : Setting) : Type 0 where
   pub rings : (frame : Frame) → Among frame set.frames → (rest : List Frame) × IsRingOf set (frame ∷ rest)
   pub links : (frame : Frame) → Among frame set.frames → IsHome set frame.core.succ.group (least_of frame.core.succ.members)
   pub routes : (group : Draw) (into : Route) → HasGoneTo set group into → IsHome set into.group (least_of into.members)
   pub stand : (frame : Frame) (into : Route) → Among frame set.frames → HasGoneTo set frame.core.id into → ⊥
 
--- a client knows the first groups round the ring, from some one on
+-- the client knows the first groups of the ring, from one of them on
 pub record KnowsRing (set : Setting) (known : KnownGroups) : Type 0 where
   pub ring : List Frame
   pub is_ring : IsRingOf set ring
   pub reached : ℕ
   pub first : KnowsFirst ring reached known
 
--- .. or one group, which may be gone
+-- the client knows one group alone, which may be gone, or the first groups of the ring from one of them on
 abbrev pub Knows : Setting → KnownGroups → Type 0
 Knows set known = ((group : Draw) × (way : Way) × (known ≡ (group, way) ∷ [])) ⊎ KnowsRing set known
 
--- the node that it would ask of a group has a replica of it
+-- the node that the client would ask of a group it knows has a replica of that group
 abbrev pub CanBeAsked : Setting → Draw × Way → Type 0
 CanBeAsked set entry = IsHome set entry.0 (target_of entry.1)
 
--- a client that was told to go or not; what it knows matters while a reply is missing
+-- a client while clients ask alone, which has started or not: it has its scenario's requests, and while a reply is missing it knows groups as `Knows` says and would ask nodes that have a replica of them
 pub record IsCalmClient (set : Setting) (asks : Asks) (gone : Bool) (client : ClientState) : Type 0 where
   pub me_is : client.me ≡ asks.client
   pub requests_are : client.requests ≡ asks.ops
@@ -50,15 +50,15 @@ pub record IsCalmClient (set : Setting) (asks : Asks) (gone : Bool) (client : Cl
   pub targets : length client.replies < length client.requests → Each (CanBeAsked set) client.known
   pub state : IsResting gone client ⊎ ((gone ≡ true) × IsWaiting client)
 
--- what is begun after a step of a client
+-- what a client has begun after a step is begun by `begun`
 abbrev pub BeginsBy : Requests → ClientState → ClientStep → Type 0
 BeginsBy begun client step = (n : ℕ) (op : Op) → 1 ≤ n → slice_get client.requests (n - 1) ≡ Some op → n ≤ begun_ones step.0 → begun client.me n op
 
--- a client is calm after its step, and sends such mail
+-- after its step a client is as `IsCalmClient` says, and the mail that it sends is as `IsCalmMail` says
 abbrev pub StaysCalm : Requests → Setting → Asks → Bool → ClientStep → Type 0
 StaysCalm begun set asks gone step = IsCalmClient set asks gone step.0 × Each (IsCalmMail begun set) step.1
 
--- so clients stay, where they go and where they take mail
+-- clients stay as `IsCalmClient` says, where they start and where they take mail
 pub record ClientsStayCalm : Type 0 where
   pub go : (scenario : Scenario) (rows : List (Row Mail OrderLine)) (set : Setting) (asks : Asks) (client : ClientState) → IsCalmClient set asks false client
       → BeginsBy (IsBegun scenario rows) client (table client Go) → StaysCalm (IsBegun scenario rows) set asks true (table client Go)

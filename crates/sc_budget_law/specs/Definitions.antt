@@ -1,4 +1,4 @@
--- The definitions of this crate that others cite, under one name.
+-- The definitions of this crate that other crates cite, under one name.
 pub use Rattle.sc_budget_law.specs.Asking.{IsAskingNode, IsAskingClient, IsAsking, AreFarFromLast, RequestsGoOn}
 pub use Rattle.sc_budget_law.specs.AskingLines.{NobodyWaits, AreRequests, AreSeated, HaveAllReplies, LinesAreAnswered}
 pub use Rattle.sc_budget_law.specs.AskingQuiet.{replicas_after, setting_at, AreFramesOf, DoHintsRise, IsQuietJournal, QuietJournalsAsk, hints_left, QuietHintsRise, ways_at}

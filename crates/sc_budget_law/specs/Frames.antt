@@ -1,10 +1,10 @@
--- The frame of a group while it serves calls alone: what does not change.
+-- The frame of a group: what stays the same while the group executes requests of clients alone.
 use Rattle.std.specs.Prelude.{◌≡◌, ℕ, ◌+◌, ◌≤◌, true, List, None}
 use Rattle.sc_base.specs.Definitions.{Among, IsRoster, is_member}
 use Rattle.sc_node_table.specs.Values.{Ballot, Base, Core, Free}
 use Rattle.sc_node_table.specs.Definitions.{is_node, first_ballot, slots_ahead}
 
--- the record of the group, the node that leads it and in which ballot, the members of each slot, and a slot from which on the open slots have the members of the record
+-- a frame: the group's record, the node that leads it and the ballot in which it does, the members that decide each slot, and a slot `from`: the slots from `from + slots_ahead` on have the members of the record
 pub record Frame : Type 0 where
   pub core : Core
   pub lead : ℕ
@@ -12,7 +12,7 @@ pub record Frame : Type 0 where
   pub at : ℕ → List ℕ
   pub from : ℕ
 
--- the frame of a group from its birth on
+-- the frame of a group from its birth on: its first member leads in the first ballot, and each slot has the members of the record
 abbrev pub frame_of : Base → Frame
 frame_of base = record {
   core = base.core;
@@ -22,7 +22,7 @@ frame_of base = record {
   from = 0;
 }
 
--- a group that is not locked and stands, led by one of its members; each slot is decided by one to nine nodes
+-- the frame of a group that is not locked and not gone, led by one of its members in a ballot of that node; one to nine nodes decide each slot
 pub record IsFrame (frame : Frame) : Type 0 where
   pub free : frame.core.lock ≡ Free
   pub stands : frame.core.gone ≡ None
@@ -32,6 +32,6 @@ pub record IsFrame (frame : Frame) : Type 0 where
   pub nodes : (slot node : ℕ) → is_member (frame.at slot) node ≡ true → is_node node ≡ true
   pub later : (slot : ℕ) → frame.from + slots_ahead ≤ slot → frame.at slot ≡ frame.core.members
 
--- no two of these groups have one name
+-- no two of these frames are of groups with the same name
 abbrev pub AreNamedApart : List Frame → Type 0
 AreNamedApart frames = (one other : Frame) → Among one frames → Among other frames → one.core.id ≡ other.core.id → one ≡ other

@@ -1,4 +1,4 @@
--- What each client of a plain journal is, and which requests are begun.
+-- What holds of each client of a plain journal, and which requests are begun.
 use Rattle.std.specs.Prelude.{◌≡◌, ℕ, ◌+◌, ◌-◌, ◌≤◌, Bool, true, false, List, [], ◌∷◌, length, map, take, slice_get, Some, None, ◌⊎◌}
 use Rattle.sc_base.specs.Definitions.{Among, key_of, pos_of}
 use Rattle.sc_node_table.specs.Values.{Draw, Op, Base, OrderLine, Mail, Row, Node, Client}
@@ -12,11 +12,11 @@ use Rattle.sc_sound.specs.Definitions.{Player, player_table, client_seat, route_
 use Rattle.sc_budget_law.specs.Frames.{Frame}
 use Rattle.sc_budget_law.specs.Owed.{begun_ones}
 
--- what a client knows of a group when it hears of it
+-- what a client knows of a group when it hears of it: the name, and the way to it by where its arc begins and by its members
 abbrev pub way_of : Frame → Draw × Way
 way_of frame = (frame.core.id, new_way frame.core.arc.lo frame.core.members)
 
--- a request waits: the one after those that are answered. The group that is chosen for its key was asked, at its target
+-- a client waits for an answer to the request after those that are answered; it asked the group that it chooses for the request's key, at the node that it takes for its leader
 pub record IsWaiting (client : ClientState) : Type 0 where
   pub seq : ℕ
   pub op : Op
@@ -29,12 +29,12 @@ pub record IsWaiting (client : ClientState) : Type 0 where
   pub chosen_is : chosen (pos_of (key_of op)) client.known ≡ Some group
   pub target_is : target_in group client.known ≡ Some target
 
--- no request waits, for the client did not go, or has all replies
+-- no request of the client waits: it has not started, or it has all replies
 pub record IsResting (gone : Bool) (client : ClientState) : Type 0 where
   pub waits : client.waiting ≡ None
   pub replies : ((gone ≡ false) × (client.replies ≡ [])) ⊎ ((gone ≡ true) × (length client.replies ≡ length client.requests))
 
--- a client that was told to go or not: it has its requests, and knows the first of the groups, in their order, as they were at birth
+-- a client of a plain journal, which has started or not: it has its scenario's requests, and knows the first `reached` groups of the list of frames, as they were at birth
 pub record IsPlainClient (frames : List Frame) (asks : Asks) (gone : Bool) (client : ClientState) : Type 0 where
   pub me_is : client.me ≡ asks.client
   pub requests_are : client.requests ≡ asks.ops
@@ -44,12 +44,12 @@ pub record IsPlainClient (frames : List Frame) (asks : Asks) (gone : Bool) (clie
   pub known_are : client.known ≡ take reached (map way_of frames)
   pub state : IsResting gone client ⊎ ((gone ≡ true) × IsWaiting client)
 
--- how many requests a player has begun
+-- how many requests a player has begun: a node none, a client as `begun_ones` says
 abbrev pub begun_of : Player → ℕ
 begun_of (Node node) = 0
 begun_of (Client client) = begun_ones client
 
--- after these rows a request of a client of the scenario is begun: it waits, or it was answered
+-- after these rows a client of the scenario has begun the request with number `seq` and operation `op`: it waits for an answer to it, or has its reply
 pub record IsBegun (scenario : Scenario) (rows : List (Row Mail OrderLine)) (client seq : ℕ) (op : Op) : Type 0 where
   pub first : Base
   pub others : List Base

@@ -1,4 +1,4 @@
--- What each replica is, and each node, while clients go and mail is delivered, and nothing else happens.
+-- What holds of each replica and each node of a plain journal: clients go and mail is delivered, and nothing else happens.
 use Rattle.std.specs.Prelude.{◌≡◌, ℕ, ◌+◌, ◌<◌, ◌≤◌, nat_le, nat_lt, ◌==◌, ◌&&◌, true, false, List, [], length, map, count_by, Some, ◌⊎◌, if◌then◌else◌}
 use Rattle.std.specs.FinMap.{get}
 use Rattle.sc_base.specs.Definitions.{Among, Each, votes_of, is_majority, is_member}
@@ -10,7 +10,7 @@ use Rattle.sc_node_table.specs.Definitions.{NodeState, replica_of, ReplicaState,
 use Rattle.sc_budget_law.specs.Frames.{Frame}
 use Rattle.sc_budget_law.specs.PlainMail.{Requests, IsWrittenValue, IsPlainCommand}
 
--- the executed state: of the requests noted of clients each is begun, and each value that is stored or noted was written by one
+-- the executed state of a replica: its record is that of the frame, each request that it has noted of a client is begun, and each value that it has stored or noted in a reply was written by a begun request
 pub record IsPlainGroup (begun : Requests) (frame : Frame) (group : Group) : Type 0 where
   pub core_is : group.core ≡ frame.core
   pub noted : (client : ℕ) (note : Noted) → get group.clients client ≡ Some note → (op : Op) × begun client note.seq op
@@ -21,18 +21,18 @@ pub record IsPlainGroup (begun : Requests) (frame : Frame) (group : Group) : Typ
 abbrev pub takers : ReplicaState → ℕ → ℕ
 takers r slot = count_by (λ flight. flight.slot == slot) r.leader.flights + count_by (λ entry. entry.0 == slot) r.ready
 
--- so many slots are taken, the first from the next one on, each once
+-- exactly the first `taken` slots from the next one on have a command in flight or ready, one each; `taken` is at most the number of open slots
 pub record AreTaken (r : ReplicaState) (taken : ℕ) : Type 0 where
   pub most : taken ≤ slots_ahead
   pub once : (slot : ℕ) → takers r slot ≡ (if nat_le (next r) slot && nat_lt slot (next r + taken) then 1 else 0)
 
--- a call is in flight, and those that voted for it are members of its slot, each once, and no majority of them
+-- a command in flight is a request of a client; its counted voters are members of its slot, each counted once, and they are no majority of them
 pub record IsPlainFlight (begun : Requests) (frame : Frame) (flight : Flight Command) : Type 0 where
   pub is_call : IsPlainCommand begun frame flight.value
   pub voters_are : length (kept_voters flight.voters) ≤ votes_of (frame.at flight.slot) (kept_voters flight.voters)
   pub undecided : is_majority (frame.at flight.slot) (kept_voters flight.voters) ≡ false
 
--- the one that leads may offer anything at the slots from the next one on; so many slots are taken
+-- the replica that leads: it runs in the frame's ballot, may offer any command at the slots from its next one on, has only requests queued, in flight and ready, and has commands at `taken` slots
 pub record IsPlainLeader (begun : Requests) (frame : Frame) (taken : ℕ) (r : ReplicaState) : Type 0 where
   pub running : r.running ≡ true
   pub ballot_is : r.leader.ballot ≡ frame.ballot
@@ -43,14 +43,14 @@ pub record IsPlainLeader (begun : Requests) (frame : Frame) (taken : ℕ) (r : R
   pub ready : Each (λ entry. IsPlainCommand begun frame entry.1) r.ready
   pub slots : AreTaken r taken
 
--- one that does not lead keeps nothing
+-- a replica that does not lead: it does not run, and has nothing queued, in flight or ready
 pub record IsPlainFollower (r : ReplicaState) : Type 0 where
   pub stopped : r.running ≡ false
   pub calls : r.calls ≡ []
   pub flights : r.leader.flights ≡ []
   pub ready : r.ready ≡ []
 
--- one that may vote: it takes the leading node for the leader, and has seen and promised no later ballot than its
+-- a replica that may vote: it takes the frame's leading node for the leader, and has seen and promised no later ballot than the frame's
 pub record IsPlainVoter (frame : Frame) (me : ℕ) (r : ReplicaState) : Type 0 where
   pub me_is : r.me ≡ me
   pub name_is : name_of r ≡ frame.core.id
@@ -59,7 +59,7 @@ pub record IsPlainVoter (frame : Frame) (me : ℕ) (r : ReplicaState) : Type 0 w
   pub promised_low : IsAtLeast frame.ballot r.acceptor.promised
   pub floor_low : r.acceptor.floor < next r
 
--- what holds of each replica at a member of the group: it may vote, and has nothing to do but calls
+-- what holds of each replica at a member of the group: its state and member lists are the frame's, it may vote, it waits for no transaction, and it has no act queued
 pub record IsPlainReplica (begun : Requests) (frame : Frame) (me : ℕ) (r : ReplicaState) : Type 0 where
   pub me_is : r.me ≡ me
   pub group : IsPlainGroup begun frame r.group
@@ -72,37 +72,37 @@ pub record IsPlainReplica (begun : Requests) (frame : Frame) (me : ℕ) (r : Rep
   pub acts : r.acts ≡ []
   pub waits : r.waits ≡ 0
 
--- a leader at the end of a row: what is ready is executed, and no call waits unless all open slots are taken
+-- a leader at the end of a row: no command at its next slot is ready, and no request is queued unless all open slots are taken
 pub record HasOffered (taken : ℕ) (r : ReplicaState) : Type 0 where
   pub executed : count_by (λ entry. entry.0 == next r) r.ready ≡ 0
   pub offered : (r.calls ≡ []) ⊎ (taken ≡ slots_ahead)
 
--- a replica at the end of a row: of the leading node, or of another
+-- the leading replica at the end of a row: it leads with some number of slots taken, and has executed and offered what it could
 pub record IsLeading (begun : Requests) (frame : Frame) (r : ReplicaState) : Type 0 where
   pub taken : ℕ
   pub leader : IsPlainLeader begun frame taken r
   pub done : HasOffered taken r
 
--- of the leading node, or of another
+-- a replica at the end of a row: at the leading node it leads, at another node it has nothing queued, in flight or ready
 abbrev pub IsSettled : Requests → Frame → ℕ → ReplicaState → Type 0
 IsSettled begun frame me r = ((me ≡ frame.lead) × IsLeading begun frame r) ⊎ ((me ≡ frame.lead → ⊥) × IsPlainFollower r)
 
--- one at a node that left the group: it keeps nothing, and may vote at the slots that still name its node
+-- a replica at a node that has left the group: it has nothing queued, in flight or ready, and may vote at the slots that still name its node
 pub record HasLeft (frame : Frame) (me : ℕ) (r : ReplicaState) : Type 0 where
   pub left : is_member frame.core.members me ≡ false
   pub follower : IsPlainFollower r
   pub voter : (slot : ℕ) → is_member (frame.at slot) me ≡ true → IsPlainVoter frame me r
 
--- a replica of a group at the end of a row: at a member, or at a node that left
+-- a replica of a group at the end of a row, either at a member of the group or at a node that has left it
 abbrev pub IsPlainAt : Requests → Frame → ℕ → ReplicaState → Type 0
 IsPlainAt begun frame me r = (IsPlainReplica begun frame me r × IsSettled begun frame me r) ⊎ HasLeft frame me r
 
--- a node whose replicas of these groups are such, and that has one of each in whose slots it votes
+-- a node whose replicas of these groups are as `IsPlainAt` says, and which has a replica of each group at whose slots it votes
 pub record IsPlainNode (begun : Requests) (frames : List Frame) (node : NodeState) : Type 0 where
   pub replicas : (frame : Frame) (r : ReplicaState) → Among frame frames → replica_of frame.core.id node.replicas ≡ Some r → IsPlainAt begun frame node.me r
   pub has : (frame : Frame) (slot : ℕ) → Among frame frames → is_member (frame.at slot) node.me ≡ true → (r : ReplicaState) × (replica_of frame.core.id node.replicas ≡ Some r)
 
--- a mail comes when it is due: what is asked for is not executed here yet, and what is told is the next entry
+-- a mail comes when it is due at a replica: an Accept for a slot that the replica has not executed, or a Learn of the replica's next slot; all other mail is always due
 abbrev pub IsDue : ReplicaState → MailBody → Type 0
 IsDue r (Accept group ballot slot command) = next r ≤ slot
 IsDue r (Learn group slot command) = slot ≡ next r

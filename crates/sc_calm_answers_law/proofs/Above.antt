@@ -48,7 +48,7 @@ offers_above : (at : Sets) (course : Course) (bound who top : ℕ) (dated : List
 offers_above at course bound who top [] e = tt
 offers_above at course bound who top (d ∷ dated) e = (offer_above at course bound who top d.1 d.0 e.0, offers_above at course bound who (top_by top d.0) dated e.1)
 
--- ---- what is told of entries
+-- ---- what Learns bring
 
 head_is : (x y : Mark) (xs ys : List Mark) → x ∷ xs ≡ y ∷ ys → (x ≡ y) × (xs ≡ ys)
 head_is x y xs ys e = (cc, cc)
@@ -57,14 +57,14 @@ head_is x y xs ys e = (cc, cc)
 abbrev pub MovesLast : Sets → Course → ℕ → ℕ → Type 0
 MovesLast at course from to = (slot : ℕ) → from ≤ slot → slot < to → (course.bound ≤ slot + 1) ⊎ (members_at at (slot + 1) ≡ members_at at slot)
 
--- .. so nobody comes by another
+-- nobody joins by an entry before the last one that is offered
 comes_last : (at : Sets) (course : Course) (slot who : ℕ) → (course.bound ≤ slot + 1) ⊎ (members_at at (slot + 1) ≡ members_at at slot) → is_member (members_at at slot) who ≡ false → is_member (members_at at (slot + 1)) who ≡ true → course.bound ≤ slot + 1
 comes_last at course slot who (inl last) out come = last
 comes_last at course slot who (inr same) out come = absurd (true≢false (sym come ∙ (ap (λ l. is_member l who) same ∙ out)))
 
 module _ (at : Sets) (course : Course) (who : ℕ) where
   module _ (slot : ℕ) where
-    -- what is told of one entry, by whether the node leads, is told it, and comes by it
+    -- what is sent of one entry, by whether the node leads, learns it, and joins by it
     abbrev told_by : Bool → Bool → Bool → Bool → List Mark
     told_by lead told comes first = cond lead [] (cond told (Tells slot ∷ []) (cond comes (Installs slot ∷ cond first [] (Prepares course.ballot ∷ [])) []))
 
@@ -96,7 +96,7 @@ module _ (at : Sets) (course : Course) (who : ℕ) where
       told_above false false true false last more = two_marks (last refl refl) more
       told_above false false false first last more = more
 
-  -- .. of so many, and what is offered behind that
+  -- all of these marks, and what is offered behind them
   all_above : (after : Course) (more slot : ℕ) (offers : List Mark) → MovesLast at course slot (slot + more) → Each (IsOffer at after course.bound who) offers
       → (dated : List Dated) (next top : ℕ) → marks_in dated ≡ told_from at course slot more who ++ offers → AreLow next dated → top ≤ course.bound → AreAbove top dated
   all_above after zero slot offers last asks dated next top is low most = offers_above at after course.bound who top dated (subst (Each (IsOffer at after course.bound who)) (sym is) asks)

@@ -22,7 +22,7 @@ vote_reports from slot set (Some flight) l = either_way (λ (x : Counted Command
 counted_reports : (from : ℕ) (ballot : Ballot) (slot : ℕ) (set : List ℕ) (l : LeaderState Command) → (counted from ballot slot set l).1.reports ≡ l.reports
 counted_reports from ballot slot set l = either_way (λ (x : Counted Command × LeaderState Command). x.1.reports ≡ l.reports) (same_ballot ballot l.ballot) _ _ (vote_reports from slot set (flight_at slot l.flights) l) refl
 
--- .. as does a promise that has none
+-- a promise without reports leaves its reports
 polled_reports : (from : ℕ) (ballot : Ballot) (l : LeaderState Command) → l.reports ≡ [] → (promise_counted from ballot [] l).1.reports ≡ []
 polled_reports from ballot l none =
     either_way (λ (x : Bool × LeaderState Command). x.1.reports ≡ []) (same_ballot ballot l.ballot && not (is_member l.promisers from)) (true, record l { promisers = l.promisers ++ from ∷ []; reports = l.reports ++ [] }) (false, l)
@@ -178,7 +178,7 @@ module _ (P : Report Command → Type 0) where
     unfolding nack_row
     nack_stands ballot r goes least k = saw_either StandsIn ballot r [] goes (k.0, least) k
 
-    -- .. for a ballot that is not later than the greatest that it saw
+    -- a ballot that is not later than the greatest that it saw changes nothing
     saw_none : (ballot : Ballot) (r : ReplicaState) → GoesOn ballot r → below r.top ballot ≡ false → saw ballot (r, []) ≡ (r, [])
     unfolding saw
     saw_none ballot r goes low =

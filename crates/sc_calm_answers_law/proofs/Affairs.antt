@@ -5,7 +5,7 @@ use Rattle.sc_node_table.specs.Values.{Draw, Op, Body, Offer, Watch, Command, Ca
 use Rattle.sc_cmd.specs.declared.bodies.Body.TheVariants as At
 use Rattle.sc_machine_table.specs.Definitions.{Group, child_by, applied}
 
--- By a group's name: the commands that stand there, the states in which it is, and the children that come of them; and whether other groups have a part, so that offers, votes of participants and states are sent. No call stands there; each command leaves such a state, and makes such children; it adds no member, where no other group has a part; and what is asked then is asked of a watcher.
+-- By a group's name: the commands that stand there, the states in which it is, and the children that come of them; and whether other groups have a part, so that offers, votes of participants and states are sent. No request stands there; each command leaves such a state, and makes such children; it adds no member, where no other group has a part; and what is asked then is asked of a watcher.
 pub record Affair : Type 1 where
   pub Parts : Type 0
   pub Does : Draw → Command → Type 0
@@ -26,7 +26,7 @@ pub record Affair : Type 1 where
   pub watched : (name tx : Draw) (watch : Watch) → Does name (Watched tx watch)
   pub watch : (name tx : Draw) (vote : Past) (by : ℕ) → Does name (RecordWatch tx vote by)
 
--- .. in which a group that is free is in such a state, and children begin free
+-- an affair in which a group that is free is in such a state, and children begin free
 pub record BeginsFree (a : Affair) : Type 0 where
   pub free : (name : Draw) (core : Core) → core.lock ≡ Free → a.Is name core
   pub young : (name : Draw) (base : Base) → a.Bears name base → base.core.lock ≡ Free

@@ -9,7 +9,7 @@ use Rattle.sc_calm_answers_law.specs.Definitions.{CalmLinesEndQuiet, QuietJourna
 use Rattle.sc_calm_answers_law.proofs.Begins.{journals_begin}
 use Rattle.sc_calm_answers_law.proofs.Short.{journals_short}
 
--- In each lawful journal of a valid calm scenario each order that is told is one for a node of the scenario's, which names nodes and positions that there are.
+-- In each lawful journal of a valid calm scenario each order that is given is one for a node of the scenario's, which names nodes and positions that there are.
 pub orders_may_be_given : OrdersMayBeGiven
 orders_may_be_given = orders_so valid_scenarios_are_bounded calm_lines_are_spaced
 
@@ -17,7 +17,7 @@ orders_may_be_given = orders_so valid_scenarios_are_bounded calm_lines_are_space
 pub calm_lines_end_quiet : CalmLinesEndQuiet
 calm_lines_end_quiet = calm_end_quiet valid_scenarios_are_bounded calm_lines_are_spaced kept_calm_ends_quiet plain_lines_end_quiet
 
--- Before the first row of a valid scenario all is quiet: each group is led by its first member, and each of its members is up to date, no client was told to go, and no mail is left.
+-- Before the first row of a valid scenario all is quiet: each group is led by its first member, and each of its members is up to date, no client has started, and no mail is left.
 pub quiet_journals_begin : QuietJournalsBegin
 quiet_journals_begin = journals_begin valid_scenarios_are_bounded
 

@@ -1,4 +1,4 @@
--- In a whole calm journal every request of a client that is served is answered.
+-- In a whole calm journal every request of a client whose `go` line is followed by a line of deliveries is answered.
 use Rattle.std.proofs.Common.{◌≡◌, ℕ, ◌+◌, ◌-◌, ◌≤◌, ◌<◌, eqb, Bool, false, append-nil, List, [], ◌∷◌, ◌++◌, length, map, Some, None, inl, inr, refl, sym, ◌∙◌, ap, subst, arith, append_assoc}
 use Rattle.std.specs.Prelude.{slice_get}
 use Rattle.std.proofs.lemmas.Bool.{cases_Bool, cases_lt, cond-false, eqb-true}
@@ -56,7 +56,7 @@ module _ (sound_law : ValidJournalsAreSound) (words : ℕ → ℕ → ℕ × ℕ
     | inr few ↦ few
   ]
 
--- each request of a client that goes before a line of deliveries is answered in a whole journal, where an order is given
+-- in a whole journal each request is answered of a client whose `go` line is followed by a line of deliveries, where an order is given
 pub answered_calmly : ValidScenariosAreBounded → ValidJournalsAreSound → CalmLinesSettle → CalmJournalsRest → (words : ℕ → ℕ → ℕ × ℕ) (scenario : Scenario) (journal : Rows) → IsValid scenario → IsCalmAtBudget scenario → 1 ≤ orders_of scenario
     → Lawful as_nodes words scenario journal → Whole as_nodes words scenario journal → AreAnswered scenario journal
 answered_calmly all_bounded sound_law settle_law rest_law words scenario journal valid at some lawful whole first others groups asks a served =

@@ -1,4 +1,4 @@
--- A quiet front that rests is known so, and replicas of groups that are well led may pump.
+-- A quiet prefix that rests is known so, and replicas of groups that are well led may pump.
 use Rattle.std.proofs.Common.{◌≡◌, ℕ, ◌≤◌, cond, [], Some, None, refl, sym, ◌∙◌, ap, append-nil}
 use Rattle.sc_base.specs.Definitions.{Among, Each}
 use Rattle.sc_node_table.specs.Values.{Node}

@@ -1,4 +1,4 @@
--- All that holds while clients ask alone since a quiet front of a calm journal.
+-- All that holds while clients ask alone since a quiet prefix of a calm journal.
 use Rattle.sc_calm_answers_law.proofs.AskedFronts.{resting_known, sent_nodes_pump}
 use Rattle.sc_calm_answers_law.proofs.KnownLaws.{fronts_are_found, fronts_gone_agree, no_mail_for_strangers, still_fronts_are_free, fronts_stay_in_turn}
 use Rattle.sc_whole_law.proofs.Lemmas.{valid_journals_are_sound, valid_entries_are_logs}
@@ -20,23 +20,23 @@ use Rattle.sc_calm_answers_law.proofs.SettingLinked.{settings_linked as quiet_se
 use Rattle.sc_calm_answers_law.proofs.RiseSeen.{rounds_seen as rounds_are_seen}
 use Rattle.sc_calm_answers_law.proofs.OverLaws.{requests_leave_resting}
 
--- A quiet front that rests is known as requests need it, where ways may be longer by one than orders were told.
+-- A quiet prefix that rests is known as requests need it, where ways may be longer by one than orders were given.
 pub resting_fronts_are_known : RestingFrontsAreKnown
 resting_fronts_are_known = resting_known fronts_are_found fronts_gone_agree no_mail_for_strangers valid_journals_are_sound valid_entries_are_logs
 
--- In a front whose groups are well led each replica of each node may pump.
+-- In a prefix whose groups are well led each replica of each node may pump.
 pub sent_nodes_may_pump : SentNodesMayPump
 sent_nodes_may_pump = sent_nodes_pump valid_scenarios_are_bounded lawful_replicas_are_named_once fronts_are_found sent_replicas
 
--- Since a quiet front that rests clients may ask.
+-- Since a quiet prefix that rests clients may ask.
 pub requests_begin_asked : RequestsBeginAsked
 requests_begin_asked = begin_asked resting_fronts_are_known requests_begin requests_keep_ballots no_mail_for_strangers
 
--- Whatever comes in order while clients ask alone, which tells no order, leaves it so.
+-- Whatever comes in order while clients ask alone, which gives no order, leaves it so.
 pub requests_stay_asked : RequestsStayAsked
 requests_stay_asked = stay_asked valid_scenarios_are_bounded fronts_are_found slots_are_left requests_stay requests_leave_young next_rows_are_sent next_rows_rise requests_keep_ballots
 
--- .. and so does each row of the journal that tells no order.
+-- Each row of the journal that gives no order leaves it so.
 pub asked_rows_go_on : AskedRowsGoOn
 asked_rows_go_on = rows_asked requests_stay_asked
 

@@ -1,4 +1,4 @@
--- While clients ask alone since a quiet front that rests: it begins so, each row keeps it, and the journal rests again once it is quiet.
+-- While clients ask alone since a quiet prefix that rests: it begins so, each row keeps it, and the journal rests again once it is quiet.
 use Rattle.std.proofs.Common.{◌≡◌, ℕ, ◌+◌, ◌≤◌, cond, true, false, List, [], ◌∷◌, ◌++◌, Option, Some, None, inl, inr, refl, sym, ◌∙◌, ap, subst, arith, append-nil, append_assoc}
 use Rattle.std.proofs.lemmas.Bool.{cases_Bool, both_ways}
 use Rattle.std.proofs.lemmas.List.Sums.{sum_by-append}
@@ -27,7 +27,7 @@ use Rattle.sc_calm_answers_law.proofs.OrderedKnown.{named_there}
 use Rattle.sc_calm_answers_law.proofs.Setting as quiet_of
 use Rattle.sc_calm_answers_law.proofs.Frames.{nodes_numbered}
 
--- ---- no order's work stands at a replica that serves calls alone
+-- ---- no order's work stands at a replica that serves requests alone
 
 call_works : (begun : Requests) (frame : Frame) (command : Command) → IsPlainCommand begun frame command → work_by command ≡ None
 call_works begun frame (Call client seq op) p = refl
@@ -152,7 +152,7 @@ module _ (all_bounded : ValidScenariosAreBounded) (found_law : FrontsAreFound) (
 
 -- ---- it begins so
 
--- after some rows that begin at a quiet front that rests, what is kept of groups
+-- after some rows that begin at a quiet prefix that rests, what is kept of groups
 record IsHeld (words : ℕ → ℕ → ℕ × ℕ) (scenario : Scenario) (first : Base) (journal quiet : Rows) (rests : RestsAt words scenario first journal quiet) (rows : Rows) : Type 0 where
   sent : AreSent words scenario journal rows
   rising : (base : Base) (among : Among base (groups_at as_nodes scenario.groups journal)) → IsRisingOn (logged_sets as_nodes base journal) (tellers_at as_nodes scenario base journal) words (births as_nodes scenario) rows base (sent base among).course
@@ -229,7 +229,7 @@ module _ (all_bounded : ValidScenariosAreBounded) (found_law : FrontsAreFound) (
 pub stay_asked : ValidScenariosAreBounded → FrontsAreFound → SlotsAreLeft → RequestsStay → RequestsLeaveYoung → NextRowsAreSent → NextRowsRise → RequestsKeepBallots → RequestsStayAsked
 stay_asked = stays
 
--- so does each row of the journal that tells no order
+-- so does each row of the journal that gives no order
 pub rows_asked : RequestsStayAsked → AskedRowsGoOn
 rows_asked stay_law words scenario first others far sends journal quiet after row calm groups asked front untold =
     let s : System Player Mail OrderLine = players words (births as_nodes scenario) in

@@ -128,7 +128,7 @@ module _ (ahead : Ahead) (open_slots : ahead.slots ≡ slots_ahead) (base : Base
       let mid : Place = executed_one true c place in
       step_bears c place mid.0.ready k mine t past.1 (ready_bears mid.0.ready mid past.0 (one_me c place.0 k runs t place.1 ∙ mine))
 
-  -- ---- what it is told
+  -- ---- the entry that it learns
 
   told_bears : (counted : Bool) (c : Command) (r : ReplicaState) (child : Base) → Among child (next_child c r) → Among child (executed counted c (r, [])).1
   unfolding executed

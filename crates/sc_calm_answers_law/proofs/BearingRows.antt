@@ -49,7 +49,7 @@ children_born (c ∷ cs) node child (inr a) = children_born cs (with_born c node
 no_tell : (b : Bool) (mark : Mark) (slot : ℕ) → (mark ≡ Tells slot → ⊥) → cond b (Some mark) None ≡ Some (Tells slot) → ⊥
 no_tell b mark slot no_ = cond_both b (Some mark) None (λ o. o ≡ Some (Tells slot) → ⊥) (λ _ e. no_ (same_Some mark (Tells slot) e)) (λ _ e. none-some (Tells slot) e)
 
--- what tells of an entry is a Learn
+-- the mail that brings an entry is a Learn
 told_body : (name : Draw) (from slot : ℕ) (body : MailBody) → mark_of name from body ≡ Some (Tells slot) → (command : Command) × (body ≡ Learn name slot command)
 told_body name from slot (Learn g other command) e =
     cond_both (same_draw g name) (Some (Tells other)) None (λ o. o ≡ Some (Tells slot) → (c : Command) × (Learn g other command ≡ Learn name slot c))
@@ -126,7 +126,7 @@ module _ (bear : EntriesBearChildren) (words : ℕ → ℕ → ℕ × ℕ) (scen
         takes : AreInTime (players words (births as_nodes scenario)) (with_event rows seat (Deliver number)) → TakesMail words (births as_nodes scenario) rows seat number mail
         takes timely = record { timely = timely; sent = d.sent; comes = comes }
 
-        -- what it is told
+        -- the entry that it learns
         told_child : AreInTime (players words (births as_nodes scenario)) (with_event rows seat (Deliver number)) → (slot : ℕ) (command : Command) → mail.body ≡ Learn base.core.id slot command
             → (child : Base) → IsBirth (decided_log as_nodes base journal) base slot child → is_member child.core.members seat.who ≡ true → Has (Deliver number) child.core.id
         told_child timely slot command body child b member =
@@ -135,7 +135,7 @@ module _ (bear : EntriesBearChildren) (words : ℕ → ℕ → ℕ × ℕ) (scen
             let low = (one.told rows seat number mail slot command r d body (view_of r here) place).0 in
             child_there child (bear.learnt as_nodes words scenario journal base group rows seat node r (has d.row) number mail slot command d.sent body place low child b (ap (is_member child.core.members) holds.well.0 ∙ member))
 
-    -- where a mail tells it of an entry
+    -- where a mail brings it an entry
     module _ (number : ℕ) (mail : Mail) (d : Delivers front rows seat number mail) (timely : AreInTime (players words (births as_nodes scenario)) (with_event rows seat (Deliver number))) (slot : ℕ) (marked : mark_of base.core.id mail.from mail.body ≡ Some (Tells slot)) where
       no_mark : mark_of base.core.id mail.from mail.body ≡ None → ⊥
       no_mark none = none-some (Tells slot) (sym none ∙ marked)
@@ -266,7 +266,7 @@ module _ (bear : EntriesBearChildren) (words : ℕ → ℕ → ℕ × ℕ) (scen
   tidy event timely = in_time_tidy (players words all_births) rows (in_time_before (players words all_births) rows (row_of player_table seat rows event) timely)
 
   module _ (slot : ℕ) (child : Base) (b : IsBirth (decided_log as_nodes base journal) base slot child) (member : is_member child.core.members seat.who ≡ true) where
-    -- who is told of the entry has the child
+    -- a node to which the Learn of the entry is delivered has the child
     pub told_bears : (event : Event OrderLine) → IsRowOf front rows seat event → IsCalmEvent (players words (births as_nodes scenario)) rows seat.who event → AreInTime (players words (births as_nodes scenario)) (with_event rows seat event)
         → taken_mark base.core.id (mails rows) event ≡ Some (Tells slot) → Has event child.core.id
     told_bears event row calm timely marked = each_player (value player_table seat rows) event refl row calm timely marked
@@ -283,7 +283,7 @@ module _ (bear : EntriesBearChildren) (words : ℕ → ℕ → ℕ × ℕ) (scen
         each_player player (Told line) is row_e calm_e timely_e m = absurd (none-some (Tells slot) m)
         each_player player _ is row_e calm_e timely_e m = absurd calm_e
 
-    -- .. and so has a leader that executes it
+    -- a leader that executes the entry has the child
     pub lead_bears : (event : Event OrderLine) → IsRowOf front rows seat event → IsCalmEvent (players words (births as_nodes scenario)) rows seat.who event → AreInTime (players words (births as_nodes scenario)) (with_event rows seat event)
         → (r after : ReplicaState) → view_at (births as_nodes scenario) rows base.core.id seat.who ≡ Some r → view_at (births as_nodes scenario) (with_event rows seat event) base.core.id seat.who ≡ Some after → r.running ≡ true
         → Each IsCount (listed (taken_mark base.core.id (mails rows) event)) → next r ≤ slot → slot < next after → Has event child.core.id

@@ -33,7 +33,7 @@ named_is name group mark other e = elim (cases_Bool (same_draw group name)) [
   | inr f ↦ (let s : None ≡ Some other = sym (cond-false (same_draw group name) (Some mark) None f) ∙ e in cc)
 ]
 
--- only a mail that tells an entry has the mark of one
+-- only a mail that brings an entry has the mark of one
 tells_body : (name : Draw) (from slot : ℕ) (body : MailBody) → mark_of name from body ≡ Some (Tells slot) → (group : Draw) × (command : Command) × (body ≡ Learn group slot command)
 tells_body name from slot (Learn group other command) e = (group, command, (let same : Tells other ≡ Tells slot = named_is name group (Tells other) (Tells slot) e in cc))
 tells_body name from slot (Accept group ballot other command) e = (let bad : Asks ballot other ≡ Tells slot = named_is name group (Asks ballot other) (Tells slot) e in cc)
@@ -72,7 +72,7 @@ module _ (words : ℕ → ℕ → ℕ × ℕ) (births : List (Seat Player)) (row
   same_is : (x : ReplicaState) → view_at births (with_event rows seat event) base.core.id seat.who ≡ Some x → x ≡ after.0
   same_is x e = same_some (view_at births (with_event rows seat event) base.core.id seat.who) x after.0 e row.is
 
-  -- if it runs after it, it has elected itself by an entry that it is told
+  -- if it runs after it, it has elected itself by an entry that it learns
   told_last : after.0.running ≡ true → (slot : ℕ) × (taken_mark base.core.id (mails rows) event ≡ Some (Tells slot))
   told_last runs = elim g.step.row [
     | RowPasses e idle ↦ elim idle.view [

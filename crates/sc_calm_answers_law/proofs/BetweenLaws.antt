@@ -13,15 +13,15 @@ use Rattle.sc_calm_answers_law.proofs.RequestLaws.{lawful_quiet_journals_count_o
 use Rattle.sc_calm_mail_law.proofs.Lemmas.{slots_are_left, replicas_last}
 use Rattle.sc_calm_answers_law.specs.Definitions.{RequestsBegin, RequestsStay, RequestsFindCalm, RequestsLeaveYoung}
 
--- Since a quiet front that rests clients may ask.
+-- Since a quiet prefix that rests clients may ask.
 pub requests_begin : RequestsBegin
 requests_begin = requests_begin_by valid_scenarios_are_bounded quiet_journals_have_frames chart_hints_rise quiet_journals_ask quiet_groups_have_cuts standing_groups_are_round quiet_settings_are_linked views_agree quiet_charts_count quiet_journals_know_one lawful_quiet_journals_count_once requests_go_on request_rows_find_calm slots_are_left replicas_last
 
--- Whatever comes in order while clients ask alone, which tells no order, leaves it so.
+-- Whatever comes in order while clients ask alone, which gives no order, leaves it so.
 pub requests_stay : RequestsStay
 requests_stay = requests_stay_by valid_scenarios_are_bounded quiet_journals_have_frames chart_hints_rise quiet_journals_ask quiet_groups_have_cuts standing_groups_are_round quiet_settings_are_linked views_agree quiet_charts_count quiet_journals_know_one lawful_quiet_journals_count_once requests_go_on request_rows_find_calm slots_are_left replicas_last
 
--- .. and finds what keeps the journal calm, where each replica may pump and no client is sent on more often than any.
+-- While clients ask alone the next event finds what keeps the journal calm, where each replica may pump and no client is sent on more often than the chart allows.
 pub requests_find_calm : RequestsFindCalm
 requests_find_calm = requests_find valid_scenarios_are_bounded quiet_journals_have_frames chart_hints_rise quiet_journals_ask quiet_groups_have_cuts standing_groups_are_round quiet_settings_are_linked views_agree quiet_charts_count quiet_journals_know_one lawful_quiet_journals_count_once requests_go_on request_rows_find_calm slots_are_left replicas_last
 

@@ -1,4 +1,4 @@
--- Clients ask alone since a quiet front: it begins so, and goes on so.
+-- Clients ask alone since a quiet prefix: it begins so, and goes on so.
 use Rattle.std.proofs.Common.{◌≡◌, ℕ, Bool, false, cond, ◌+◌, ◌≤◌, ◌^◌, true, List, [], ◌∷◌, ◌++◌, length, Option, Some, None, ◌⊎◌, inl, inr, refl, sym, ◌∙◌, ap, subst, arith, append-nil, append_assoc, length-append}
 use Rattle.std.proofs.lemmas.Option.{none-some}
 use Rattle.sc_base.proofs.Lemmas.{draw_is}

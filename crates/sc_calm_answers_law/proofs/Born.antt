@@ -38,7 +38,7 @@ start ahead base made heard me before lawful requested r k = record {
   own = λ m a. absurd a;
 }
 
--- the children that a mail makes are those of fronts of the log
+-- the children that a mail makes are those of prefixes of the log
 mailed_kids : (ahead : Ahead) (base : Base) (made : Command → Type 0) (heard : MailBody → Type 0) (me : ℕ) (before : Steps) (speaks : Speaks ahead base made heard before)
     (some : (log : List Command) → Each made log → (node : ℕ) × (rest : List ℕ) × ((rule ahead base).members log ≡ node ∷ rest)) (lawful : IsLawfulHistory (rule ahead base) (first ahead base) before) (requested : OffersMade made before)
     → (mail : Mail) (body : MailBody) (r : ReplicaState) → IsReplica ahead base made before me r → (g : Draw) → group_of_mail body ≡ Some g → g ≡ base.core.id

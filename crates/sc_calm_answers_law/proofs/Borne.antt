@@ -32,11 +32,11 @@ knows_made from body r kid a =
     let goes = mailed_goes r [] from body (has_stateless from body r kid a) in
     subst (λ (g : Group). HasBorn kid.core.id g.core.born) (sym goes.0.is.0) (kids_known r.me r.group goes.0.log kid (subst (Among kid) goes.0.kids a))
 
--- .. and forgets none
+-- a group forgets none of the children that it knows
 pub knows_still : (from : ℕ) (body : MailBody) (r : ReplicaState) (name : Draw) → IsStateless body → HasBorn name r.group.core.born → HasBorn name (mailed from body (r, [])).0.0.group.core.born
 knows_still from body r name s has = (let goes = mailed_goes r [] from body s in subst (λ (g : Group). HasBorn name g.core.born) (sym goes.0.is.0) (log_stays name r.group goes.0.log has))
 
--- what a task bears
+-- the child that a task creates
 pub record IsBorne (task : Task) (group : Draw) (r : ReplicaState) (kid : Base) : Type 0 where
   pub splits : task.splits ≡ true
   pub own : group ≡ task.group

@@ -69,7 +69,7 @@ pub pump_kept : (place : Place) → bare (pumped place).0 ≡ bare place.0
 unfolding pumped
 pump_kept place = either_way (λ (p : Place). bare p.0 ≡ bare place.0) (settled place.0 && nat_le (next place.0) last_slot) (pumped_from (next place.0) place.0.sets place) place (slots_kept (next place.0) place.0.sets place) refl
 
--- .. and so does a request
+-- a request leaves the other parts of a replica
 pub request_kept : (client seq : ℕ) (op : Op) (r : ReplicaState) (mails : List Mail) → bare (request_row client seq op (r, mails)).0 ≡ bare r
 unfolding request_row requested queued
 request_kept client seq op r mails = answered (refused_at r.group.core.gone op r)

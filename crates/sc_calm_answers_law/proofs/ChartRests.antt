@@ -1,4 +1,4 @@
--- A quiet front of a calm journal rests by its chart: all players rest, and each group that was ever led is led.
+-- A quiet prefix of a calm journal rests by its chart: all players rest, and each group that was ever led is led.
 use Rattle.std.proofs.Common.{◌≡◌, ℕ, ◌||◌, ◌⊎◌, Bool, true, false, List, [], ◌∷◌, ◌++◌, map, Option, Some, None, inl, inr, refl, sym, ◌∙◌, ap, subst, append_assoc, append-nil}
 use Rattle.std.specs.Prelude.{is_some}
 use Rattle.sc_base.specs.Definitions.{Among, Each, client_actor}
@@ -78,7 +78,7 @@ led_is_there births rows name apart led =
     let r = leads_one name (value player_table f.0 rows) f.2 in
     (f.0.who, r.0, ap (replica_in name rows) (seat_found births f.0 apart f.1) ∙ (same_replicas (value player_table f.0 rows) name ∙ r.1))
 
--- ---- a quiet front that rests
+-- ---- a quiet prefix that rests
 
 module _ (found_law : FrontsAreFound) (words : ℕ → ℕ → ℕ × ℕ) (scenario : Scenario) (first : Base) (journal quiet : Rows) (calm : IsCalmJournal words scenario journal) (rests : RestsAt words scenario first journal quiet) where
   seen_so : (name : Draw) (node : ℕ) → replicas_after scenario quiet name node ≡ view_at (births as_nodes scenario) quiet name node

@@ -96,7 +96,7 @@ module _ (segment : SegmentLaws) (rows_laws : RowLaws) (laws : LineLaws) (words 
   abbrev begins : IsStage scenario
   begins = stage scenario (rows_laws.all_bounded scenario valid)
 
-  -- no more orders are told than are given
+  -- rows give no more orders than lines do
   told_low : (rows : Rows) → Lawful as_nodes words scenario rows → orders rows ≤ orders_of scenario
   told_low rows lawful =
       let told = few_told s (schedule scenario) (spaced_are_calm Nothing (schedule scenario) (laws.spaced_law scenario calm).0) rows lawful in

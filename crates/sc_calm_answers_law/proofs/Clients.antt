@@ -33,7 +33,7 @@ module _ (births : List (Seat Player)) (rows : Rows) (seat other : Seat Player) 
         ∙ (ap (λ b. cond b (acted player_table (value player_table other rows) (input_of (mails rows) event)).0 (value player_table other rows)) f ∙ was)
   ]
 
-  -- .. and where an order is told
+  -- a client stays as it is where an order is given
   pub told_stays : (line : OrderLine) (client : ClientState) → value player_table other rows ≡ Client client → value player_table other (with_event rows seat (Told line)) ≡ Client client
   told_stays line client was =
       value-snoc player_table other rows (row_of player_table seat rows (Told line))

@@ -85,7 +85,7 @@ module _ (at : Sets) (course : Course) (command : Command) (place : Place) (led 
     | inr same ↦ inr (is_next.is ∙ (ap (λ (c : Core). c.members) same ∙ sym led.was))
   ]
 
-  -- .. and by this and what follows
+  -- by this entry and those behind it members come and go by the last alone
   joins : (after : ReplicaState) → MovesLast at course (next place.0 + 1) (next after) → MovesLast at course (next place.0) (next after)
   joins after rest slot least most = elim (cases_eq slot (next place.0)) [
     | inl is ↦ subst (λ s. (course.bound ≤ s + 1) ⊎ (members_at at (s + 1) ≡ members_at at s)) (sym is) moves_alone

@@ -28,7 +28,7 @@ without x (y ∷ xs) (inr there) =
     let w = without x xs there in
     record { left = y ∷ w.left; size = ap suc w.size; others = λ z b. elim b [ inl e ↦ inr (inl e) | inr more ↦ elim (w.others z more) [ inl e ↦ inl e | inr left ↦ inr (inr left) ] ] }
 
--- so many distinct things are no more than there are
+-- a list of distinct things is no longer than the list of all things
 pub distinct_few : {X : Type 0} (xs all : List X) → AreDistinct xs → Each (λ x. Among x all) xs → length xs ≤ length all
 distinct_few [] all d among = omega arith
 distinct_few (x ∷ xs) all d among =

@@ -175,7 +175,7 @@ module _ (words : ℕ → ℕ → ℕ × ℕ) (births : List (Seat Player)) (qui
 
   -- ---- steps
 
-  -- one that is told an order asks
+  -- one that gets an order asks
   deal_done : (tx group : Draw) (chief : ℕ) (turn : Turn) → (turn ≡ First) ⊎ (turn ≡ Lone) → Has (doer group chief (Opening tx ∷ [])) → Each Has (doer group chief (opened tx turn) ∷ heard_doer tx turn)
   deal_done tx group chief turn (inl e) h = subst (λ t. Each Has (doer group chief (opened tx t) ∷ heard_doer tx t)) (sym e) (h, tt)
   deal_done tx group chief turn (inr e) h = subst (λ t. Each Has (doer group chief (opened tx t) ∷ heard_doer tx t)) (sym e) (h, tt)

@@ -35,7 +35,7 @@ module _ (words : ℕ → ℕ → ℕ × ℕ) (scenario : Scenario) (begins : Is
     pub me_at : (node : ℕ) (r : ReplicaState) → replica_at scenario rows frame.core.id node ≡ Some r → r.me ≡ node
     me_at node r e = (let at = seat_of node r e in let n = j.nodes node at.0 at.1 in n.calm.own frame.core.id r (sym (found node at) ∙ e) ∙ n.me_is)
 
-    -- .. and what it was
+    -- what a replica was before
     pub record WasAt (node : ℕ) (r : ReplicaState) : Type 0 where
       pub first : ReplicaState
       pub there : set.at frame.core.id node ≡ Some first

@@ -78,7 +78,7 @@ module _ (words : ℕ → ℕ → ℕ × ℕ) (scenario : Scenario) (begins : Is
         let w = end_of_line.was_at words scenario begins set is seated rows j served none (frame_at_rest stands.lead) a node r (by_id node r e) in
         record { first = w.first; there = sym (ap (λ d. replica_at scenario before d node) name) ∙ w.there; is_served = w.served_is }
 
-    -- .. and what one that was is
+    -- what a replica that was there is now
     pub record IsNow (node : ℕ) (first : ReplicaState) : Type 0 where
       pub r : ReplicaState
       pub there : replica_at scenario rows group node ≡ Some r

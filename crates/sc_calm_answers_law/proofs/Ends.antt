@@ -32,7 +32,7 @@ use Rattle.sc_calm_answers_law.proofs.Voting.{vote_stood}
 over_stays : (ahead : Ahead) (base : Base) (journal : Rows) (slot later : ℕ) → slot ≤ later → over_at ahead base journal slot ≡ true → over_at ahead base journal later ≡ true
 over_stays ahead base journal slot later low = later_gone (decided_log ahead base journal) (group_of base) (slot - 1) (later - 1) (omega (arith, low))
 
--- the members after so many entries
+-- the members after some number of entries
 abbrev members_after : Ahead → Base → Rows → ℕ → List ℕ
 members_after ahead base journal n = (state_after (group_of base) (take n (decided_log ahead base journal))).core.members
 

@@ -1,4 +1,4 @@
--- A quiet front of a calm journal: a group's replicas are even, and one leads where it stands.
+-- A quiet prefix of a calm journal: a group's replicas are even, and one leads where it stands.
 use Rattle.std.proofs.Common.{◌≡◌, ℕ, ◌+◌, ◌≤◌, Bool, true, false, cond, List, [], Option, Some, None, inl, inr, refl, sym, ◌∙◌, ap, arith}
 use Rattle.std.proofs.lemmas.Bool.{cases_Bool}
 use Rattle.sc_node_table.specs.Values.{Draw, Base, Seat}

@@ -85,7 +85,7 @@ recorded_ends (Coordinating locked body order heard) group tx vote =
     (cond_either (λ x. EndsAlone x.core group.core) (asks_watcher body heard) (watch_answered vote body heard group tx) (group, NoEffect tx) (watch_ends vote body heard group tx) (λ g. inl g))
     (λ g. inl g)
 
--- and so does an outcome
+-- an outcome keeps that
 abbrev EndsSoIn : Group → Option Group → Type 0
 EndsSoIn group None = Unit {0}
 EndsSoIn group (Some after) = EndsAlone after.core group.core

@@ -80,7 +80,7 @@ pub nines_at : (at : Sets) → ((slot : ℕ) → IsRoster (at slot)) → (slot :
 nines_at at rosters slot [] are = tt
 nines_at at rosters slot (set ∷ sets) are = (subst (λ (s : List ℕ). length s ≤ 9) are.0 (rosters slot).most, nines_at at rosters (slot + 1) sets are.1)
 
--- one that does not elect itself by an entry that it is told does not lead after it
+-- one that does not elect itself by an entry that it learns does not lead after it
 pub stays_behind : (command : Command) (r : ReplicaState) → r.running ≡ false → r.leader.flights ≡ [] → Stays (entered command r) → StaysBehind command r
 stays_behind command r off none stays =
     let P : Place → Type 0 = λ (p : Place). p.0.running ≡ false in

@@ -82,7 +82,7 @@ recorded_freed (Coordinating locked body order heard) group tx vote =
     (cond_either (λ x. IsFreed x.core group.core) (asks_watcher body heard) (watch_answered vote body heard group tx) (group, NoEffect tx) (watch_freed vote body heard group tx) (inr (λ who m. m)))
     (inr (λ who m. m))
 
--- and so does an outcome
+-- an outcome frees the group
 settled_freed : (after : Option Group) (group : Group) (tx : Draw) (outcome : Outcome) → IsFreed (settled_in after group tx outcome).0.core group.core
 settled_freed None group tx outcome = inr (λ who m. m)
 settled_freed (Some after) group tx outcome = inl refl

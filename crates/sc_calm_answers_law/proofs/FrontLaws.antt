@@ -1,4 +1,4 @@
--- The fronts of a calm journal from its births on.
+-- The prefixes of a calm journal from its births on.
 use Rattle.sc_calm_answers_law.proofs.FrontBegins.{journals_begin}
 use Rattle.sc_scenario.proofs.Lemmas.{valid_scenarios_are_bounded}
 use Rattle.sc_calm_mail_law.proofs.Lemmas.{slots_are_left}

@@ -1,4 +1,4 @@
--- Of each front of a calm journal: its groups, what comes next in order, and that no mail is under way in a quiet one.
+-- Of each prefix of a calm journal: its groups, what comes next in order, and that no mail is under way in a quiet one.
 use Rattle.std.proofs.Common.{◌≡◌, ℕ, false, true≢false, [], inl, inr, refl, ap, arith}
 use Rattle.std.proofs.lemmas.Bool.{cases_Bool}
 use Rattle.sc_base.specs.Definitions.{Among}
@@ -21,7 +21,7 @@ use Rattle.sc_calm_answers_law.proofs.BetweenRequests.{front_timely, front_short
 pub journal_group : (words : ℕ → ℕ → ℕ × ℕ) (scenario : Scenario) (journal : Rows) → IsCalmJournal words scenario journal → (base : Base) → Among base (groups_at as_nodes scenario.groups journal) → IsGroupOf as_nodes words scenario journal base
 journal_group words scenario journal calm base among = record { open_slots = refl; valid = calm.valid; lawful = calm.lawful; stands = among }
 
--- .. and no replica of it uses up its slots and rounds
+-- no replica of a group of a calm journal uses up its slots and rounds
 pub journal_few : SlotsAreLeft → (words : ℕ → ℕ → ℕ × ℕ) (scenario : Scenario) (journal : Rows) → IsCalmJournal words scenario journal → (base : Base) → AreFew as_nodes scenario journal base
 journal_few few_law words scenario journal calm base rows more who r e view =
     let front : IsFront journal rows = record { more = more; is = e } in
@@ -29,14 +29,14 @@ journal_few few_law words scenario journal calm base rows more who r e view =
     let low = left.0 in
     (omega (arith, low), left.1)
 
--- what comes in time and tells no order comes in order
+-- what comes in time and gives no order comes in order
 pub untold_in_order : (s : System Player Mail OrderLine) (rows : Rows) (who : ℕ) (event : Event OrderLine) → is_told event ≡ false → IsCalmEvent s rows who event → IsInOrder s rows who event
 untold_in_order s rows who Go untold fine = fine
 untold_in_order s rows who (Deliver number) untold fine = fine
 untold_in_order s rows who (Told order) untold fine = absurd (true≢false untold)
 untold_in_order s rows who _ untold fine = absurd fine
 
--- no mail of any group is under way in a quiet front
+-- no mail of any group is under way in a quiet prefix
 pub quiet_marks : NoMailForStrangers → (words : ℕ → ℕ → ℕ × ℕ) (scenario : Scenario) (journal front : Rows) → IsQuietFront words scenario journal front → (name : Draw) (who : ℕ) → marks_at (players words (births as_nodes scenario)) front name who ≡ []
 quiet_marks no_law words scenario journal front q name who =
     let s : System Player Mail OrderLine = players words (births as_nodes scenario) in

@@ -1,4 +1,4 @@
--- Each order that a journal of a valid calm scenario tells is such as its lines may give.
+-- Each order that a journal of a valid calm scenario gives is such as its lines may give.
 use Rattle.std.proofs.Common.{◌≡◌, ℕ, true, List, [], ◌∷◌, map, refl, ◌^◌, ◌&&◌, leb}
 use Rattle.std.proofs.lemmas.Bool.{and_from, le-leb, lt-ltb}
 use Rattle.sc_base.specs.Definitions.{Each}

@@ -1,4 +1,4 @@
--- Which groups go while an order is under way since a quiet front of a calm journal.
+-- Which groups go while an order is under way since a quiet prefix of a calm journal.
 use Rattle.sc_calm_answers_law.proofs.Told.{merges_go_home as merges_go_home_by}
 use Rattle.sc_scenario.proofs.Lemmas.{valid_scenarios_are_bounded}
 use Rattle.sc_whole_law.proofs.Lemmas.{valid_scenarios_begin_well}
@@ -17,7 +17,7 @@ merges_go_home =
     merges_go_home_by valid_scenarios_are_bounded valid_scenarios_begin_well orders_are_allowed_allowed orders_are_allowed_wishes orders_are_allowed_positions
     names_have_one_owner_others
 
--- Once an order is told in a quiet front no more groups are gone than before.
+-- Once an order is given in a quiet prefix no more groups are gone than before.
 pub goers_begin : GoersBegin
 goers_begin = goers_begin_by fronts_are_found ends_are_logged
 
@@ -25,7 +25,7 @@ goers_begin = goers_begin_by fronts_are_found ends_are_logged
 pub goers_go_on : GoersGoOn
 goers_go_on = goers_go_on_by replicas_tell fronts_are_found replicas_run_logs ends_are_logged groups_begin_standing
 
--- So since a quiet front one group more is gone at most, and it went into one that stands.
+-- So since a quiet prefix one group more is gone at most, and it went into one that stands.
 pub goers_go_alone : GoersGoAlone
 goers_go_alone = goers_alone merges_go_home fronts_are_found
 

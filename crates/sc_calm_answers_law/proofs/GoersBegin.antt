@@ -1,4 +1,4 @@
--- Which groups go is known once an order is told in a quiet front: none did.
+-- Which groups go is known once an order is given in a quiet prefix: none did.
 use Rattle.std.proofs.Common.{◌≡◌, ◌⊎◌, ℕ, eqb, true≢false, List, [], Option, Some, None, is_some, inl, inr, refl, sym, ◌∙◌, ap, subst, arith}
 use Rattle.std.proofs.lemmas.Bool.{cases_Bool, eq-eqb, eqb-true}
 use Rattle.std.proofs.lemmas.Option.{none-some, same_Some}

@@ -68,7 +68,7 @@ closing_binds : (own : Draw) (leg : Leg) (host : ℕ) (tx : Draw) → (closing o
 closing_binds own Mailed host tx e = same_bound own tx e
 closing_binds own Filed host tx e = same_bound own tx e
 
--- .. of those of a transaction that is not decided
+-- of the groups of a transaction that is not decided
 deal_binds : (deal : Deal) (work : List Work) (errands : List Errand) (bond : Bond) (its_work : List Work) (its_errands : List Errand) → ((tx : Draw) → bond ≡ Bound tx → deal.tx ≡ tx)
     → Binds deal.tx (coordinator deal work errands ∷ asked_one deal bond its_work its_errands ∷ heard deal.tx deal.turn)
 deal_binds deal work errands bond its_work its_errands k x tx (inl e) b = no_asking deal.tx deal.tx deal.asked deal.turn tx (bond_in (coordinator deal work errands) x e ∙ b)
@@ -265,7 +265,7 @@ module _ (tells : ReplicasTell) (found_law : FrontsAreFound) (logs_law : Replica
         ]
       ]
 
-      -- .. else the one that leads executed it
+      -- where the newest state is a later one, the leader executed the entry
       led_on : (x : ReplicaState) (after : Place) → IsReplicasRow (births as_nodes scenario) rows seat (Deliver number) base.core.id (Some x) after → x.running ≡ true → s.step.later.newest ≡ next after.0 → Went into
       led_on x after row runs newest = by to.2
         where

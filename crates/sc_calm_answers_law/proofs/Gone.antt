@@ -85,7 +85,7 @@ recorded_gone (Coordinating locked body order heard) group tx vote =
     (cond_either (λ x. StaysGone x.core group.core) (asks_watcher body heard) (watch_answered vote body heard group tx) (group, NoEffect tx) (watch_gone vote body heard group tx) (λ g. g))
     (λ g. g)
 
--- and so does an outcome
+-- an outcome keeps that
 abbrev KeepsGoneIn : Group → Option Group → Type 0
 KeepsGoneIn group None = Unit {0}
 KeepsGoneIn group (Some after) = StaysGone after.core group.core
@@ -150,7 +150,7 @@ applied_gone group (Finish tx outcome) = finished_gone group.core.lock group tx 
 applied_gone group (Watched tx watch) = voted_gone (watch_vote_of group.core watch) (Watching tx watch) group tx
 applied_gone group (RecordWatch tx vote by) = recorded_gone group.core.lock group tx vote
 
--- and so does a log
+-- a log keeps a group gone
 pub state_gone : (group : Group) (log : List Command) → is_some group.core.gone ≡ true → is_some (state_after group log).core.gone ≡ true
 state_gone group [] g = g
 state_gone group (c ∷ log) g = state_gone (applied group c).0 log (applied_gone group c g)

@@ -165,6 +165,6 @@ pub answers_heard : AnswersAreHeardCalmly
 answers_heard scenario rows set chart elsewhere asks gone client mail is linked reached counts k m to asked_right leads a =
     hears (IsBegun scenario rows) set is linked asks gone client k a.waits mail m to asked_right a.from_is chart counts reached leads a.answer a.body_is
 
--- One that was not told to go may go, where it is not sent on more often than any.
+-- One that has not started may start, where it is sent on no more often than the chart allows.
 pub clients_go : ClientsGoCalmly
 clients_go set chart asks client k near = (let none = unasked set asks client k.state in record { idle = none.0; none = none.1; near = near })

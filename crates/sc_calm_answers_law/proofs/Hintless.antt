@@ -1,4 +1,4 @@
--- An order that is told in a quiet front asks nobody yet; and one that is to ask elsewhere is told whom.
+-- An order given in a quiet prefix asks nobody yet; and one that is to ask elsewhere learns whom.
 use Rattle.std.proofs.Common.{◌≡◌, ◌∷◌, Some, inl, inr, refl, sym, ◌∙◌, ap, subst}
 use Rattle.sc_base.specs.Definitions.{Among}
 use Rattle.sc_node_table.specs.Values.{Draw, Deliver, Mail}
@@ -18,7 +18,7 @@ use Rattle.sc_calm_answers_law.proofs.Hinting.{errand_there}
 use Rattle.sc_calm_answers_law.proofs.Pending.{elsewhere_at}
 use Rattle.sc_calm_answers_law.proofs.Opened.{no_asking}
 
--- Since a quiet journal each question of an order goes to a node that has a replica of its group, and one that sends it on names such a node: an order that is told asks nobody yet.
+-- Since a quiet journal each question of an order goes to a node that has a replica of its group, and one that sends it on names such a node: an order that is given asks nobody yet.
 pub hinted_begin : HintedOrdersBegin
 hinted_begin words scenario quiet seat line stage t stands = by stage stands
   where
@@ -42,7 +42,7 @@ hinted_begin words scenario quiet seat line stage t stands = by stage stands
 some_mail : (one other : Mail) → Some one ≡ Some other → one ≡ other
 some_mail one other e = cc
 
--- So a coordinator that is to ask elsewhere is told whom.
+-- So a coordinator that is to ask elsewhere learns whom.
 pub coordinators_hinted : CoordinatorsAreHinted
 coordinators_hinted words scenario first journal quiet rows seat number mail group node r stage tx coord hint t hinted body =
     let all = births as_nodes scenario in

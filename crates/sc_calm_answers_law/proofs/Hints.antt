@@ -80,7 +80,7 @@ module _ (tells : ReplicasTell) (words : ℕ → ℕ → ℕ × ℕ) (scenario :
           | inr fresh ↦ fresh
         ]
 
-    -- .. by a leader that takes the mail
+    -- a leader that takes the mail sends the question
     module _ (name : Draw) (r : ReplicaState) (has : view_at (births as_nodes scenario) rows name seat.who ≡ Some r) (runs : r.running ≡ true) (named : group_of_mail (one words scenario first journal quiet rows seat number stage g).mail.body ≡ Some name)
         (P : ℕ → Type 0)
         (asks_on : (tx coord : Draw) (n : ℕ) → (one words scenario first journal quiet rows seat number stage g).mail.body ≡ TxElsewhere tx coord (Some n) → P n)

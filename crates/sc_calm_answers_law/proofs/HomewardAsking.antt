@@ -36,7 +36,7 @@ plain_none begun frame from to entry (Accepted group ballot slot) s e = no_erran
 plain_none begun frame from to entry (Learn group slot command) s e = no_errand entry e
 plain_none begun frame from to entry _ s e = absurd s
 
--- .. or aside
+-- mail aside is no errand
 aside_none : (begun : Requests) (set : Setting) (from to : ℕ) (entry : Draw × Errand) (body : MailBody) → IsAsideBody begun set from to body → errand_by from to body ≡ Some entry → ⊥
 aside_none begun set from to entry (Request group client seq op) s e = no_errand entry e
 aside_none begun set from to entry (Answer group seq answer) s e = no_errand entry e

@@ -98,7 +98,7 @@ module _ (found_law : FrontsAreFound) (words : ℕ → ℕ → ℕ × ℕ) (scen
       let found_ = found_law words scenario journal then calm front in
       found_.homes group node (r.0, found_.views group node ∙ r.1)
 
-  -- .. and so has who is asked
+  -- the node that is asked is a node of the scenario
   asked_home : (deal : Deal) (to : ℕ) → stage ≡ Asks deal to → IsNodeOf scenario to
   asked_home deal to is = (found_law words scenario journal quiet calm was).homes deal.asked to (subst (IsHinted scenario quiet then) is hinted)
 

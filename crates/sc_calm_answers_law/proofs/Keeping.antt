@@ -275,7 +275,7 @@ module _ (laws : OfJournals) (well : ScenariosAreWellBorn) (keeps : DeliveriesKe
       changed : made.0.0.group ≡ t.r.group → ⊥
       changed s = not (subst (λ (g : Group). HasBorn task.name g.core.born) s knows)
 
-      -- the one entry by which it is borne
+      -- the one entry that creates it
       by_entry : (command : Command) → made.0.0.group ≡ (applied t.r.group command).0 → next made.0.0 ≡ next t.r + 1 → made.1 ≡ child_at t.r.me (child_by t.r.group command) ++ [] → Has seat.who
       by_entry command after_is next_is kids =
           by (new_born t.r.group command task.name (subst (λ (g : Group). HasBorn task.name g.core.born) after_is knows))

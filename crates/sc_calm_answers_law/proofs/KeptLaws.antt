@@ -20,7 +20,7 @@ use Rattle.sc_calm_answers_law.proofs.KeptTelling.{told_orders}
 use Rattle.sc_calm_orders_law.proofs.Lemmas.{tables_order}
 use Rattle.sc_calm_answers_law.proofs.Following.{order_charts_follow as order_charts_follow_by}
 
--- By the chart of a calm journal hints rise in the last quiet front.
+-- By the chart of a calm journal hints rise in the last quiet prefix.
 pub chart_hints_rise : ChartHintsRise
 chart_hints_rise = hints_rise valid_scenarios_are_bounded lawful_replicas_are_named_once views_agree
 
@@ -32,7 +32,7 @@ stages_ask = stages_ask_by scenes_tell
 pub order_rows_find_calm : OrderRowsFindCalm
 order_rows_find_calm = order_rows_find journal_mail_finds stray_mail_finds mail_is_for_its_node led_stand_once fresh_groups_stay stages_ask bonds_ask scenes_tell answers_reach_leaders works_fly_lone order_entries_count stages_leave_one_work well_led_lead_alone slots_are_left scenarios_are_kept_born replicas_are_kept slots_have_rosters views_agree valid_scenarios_are_bounded
 
--- Each order that is told in a quiet front that rests does too.
+-- Each order given in a quiet prefix that rests does too.
 pub told_orders_find_calm : ToldOrdersFindCalm
 told_orders_find_calm = told_orders tables_order views_agree led_stand_once valid_scenarios_are_bounded
 

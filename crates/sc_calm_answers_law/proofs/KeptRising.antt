@@ -1,4 +1,4 @@
--- By the chart of the rows behind a quiet front each hint of that leads nearer.
+-- By the chart of the rows behind a quiet prefix each hint of that leads nearer.
 use Rattle.std.proofs.Common.{◌≡◌, ℕ, ◌+◌, ◌-◌, ◌<◌, ◌≤◌, ◌||◌, cond, true, false, Bool, List, [], ◌∷◌, min, max, Option, Some, None, ◌⊎◌, inl, inr, refl, sym, ◌∙◌, ap, arith}
 use Rattle.std.specs.Prelude.{is_some}
 use Rattle.std.proofs.lemmas.Bool.{cond-true, cond-false, cases_Bool, or_left, or_right, or_from}
@@ -70,7 +70,7 @@ latest_high name (x ∷ rs) r (inr a) same = by (same_draw (name_of x) name) (la
     by true low = omega (arith, low)
     by false low = low
 
--- ---- in a quiet front
+-- ---- in a quiet prefix
 
 module _ (all_bounded : ValidScenariosAreBounded) (named : LawfulReplicasAreNamedOnce) (views : ViewsAgree) (words : ℕ → ℕ → ℕ × ℕ) (scenario : Scenario) (first : Base) (others : List Base) (journal quiet later : Rows) (far sent : ℕ) (frames : List Frame)
     (valid : IsValid scenario) (groups : scenario.groups ≡ first ∷ others) (lawful : Lawful as_nodes words scenario quiet) (rests : RestsAt words scenario first journal quiet) (homes : AreAtNodes scenario quiet)

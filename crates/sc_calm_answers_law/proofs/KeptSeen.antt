@@ -95,7 +95,7 @@ module _ (all_bounded : ValidScenariosAreBounded) (named : LawfulReplicasAreName
         | inr client ↦ absurd (no_client r scenario.groups groups f.0 client f.2)
       ]
 
-  -- .. and the other way round
+  -- each replica that is seen is among all
   pub seen_all : (group : Draw) (me : ℕ) (r : ReplicaState) → seen_at group me ≡ Some r → Among r all
   seen_all group me r e =
       let home = homes group me (r, e) in

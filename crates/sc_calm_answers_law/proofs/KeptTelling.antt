@@ -1,4 +1,4 @@
--- An order that is told in quiet finds what keeps the journal calm.
+-- An order given in quiet finds what keeps the journal calm.
 use Rattle.std.proofs.Common.{◌≡◌, ℕ, true, false, List, [], ◌++◌, length, Option, Some, None, inl, inr, refl, sym, ◌∙◌, ap, subst, arith}
 use Rattle.std.specs.Prelude.{is_some, ◌||◌, ◌&&◌, not}
 use Rattle.std.proofs.lemmas.Bool.{cases_Bool, cond-true, or_right}
@@ -28,7 +28,7 @@ no_works r rest =
     ∙ (ap (λ c. works_in c ++ (works_flying r.leader.flights ++ works_ready r.ready)) rest.calls
     ∙ (ap (λ f. works_flying f ++ works_ready r.ready) rest.flights ∙ ap works_ready rest.ready))
 
--- one that does not run refuses what it is told
+-- one that does not run refuses an order
 stopped_refuses : (drawer : Drawer) (line : OrderLine) (r : ReplicaState) → r.running ≡ false → (why : OrderRefusal) × (untaken drawer line r ≡ Some why)
 stopped_refuses drawer line r off =
     let unsettled : settled r ≡ false = ap (λ b. b && may_offer r (first_set r.sets)) off in (

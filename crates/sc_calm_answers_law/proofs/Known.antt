@@ -1,4 +1,4 @@
--- What is known of the groups of a quiet front.
+-- What is known of the groups of a quiet prefix.
 use Rattle.std.proofs.Common.{◌≡◌, ℕ, ◌+◌, ◌-◌, ◌≤◌, true, length, take, Option, Some, sym, ◌∙◌, ap, subst, arith}
 use Rattle.std.specs.Prelude.{is_some}
 use Rattle.std.proofs.lemmas.List.{take_all, take-append-le}
@@ -88,7 +88,7 @@ module _ (executed : QuietLogsAreExecuted) (finds : FrontsAreFound) (words : ℕ
           members_have by words scenario journal front base course k node (after + 1) (omega (arith, low, end))
           (ap (λ ms. is_member ms node) (set ∙ ap (λ cs. (state_after (group_of base) cs).core.members) same) ∙ m)
 
-    -- the newest state by the journal is that of the front
+    -- the newest state by the journal is that of the prefix
     pub newest_state : (by : Tellers) (course : Course) → IsQuietGroup by words scenario journal front base course → state_at as_nodes base journal course.newest ≡ decided_state as_nodes base front
     newest_state by course k =
         let longer = found.goes_on base a in

@@ -92,7 +92,7 @@ module _ (bear : EntriesBearChildren) (wb : ScenariosAreWellBorn) (words : ℕ �
     has_it : who ≡ seat.who → (x : ReplicaState) × (view_at (births as_nodes scenario) (with_event rows seat event) child.core.id seat.who ≡ Some x) → Goal
     has_it is has = inl (has.0, subst (λ n. view_at seats (with_event rows seat event) child.core.id n ≡ Some has.0) (sym is) has.1)
 
-    -- what it is told it takes, or is told still
+    -- a Learn for it is taken, or still under way
     told_still : Among (Tells slot) (marks_at (players words (births as_nodes scenario)) rows base.core.id who) → Goal
     told_still a = elim (cases_eq who seat.who) [
       | inl is ↦ own is (Among-either (Tells slot) (listed (taken_mark name (mails rows) event)) moved.left (subst (Among (Tells slot)) (ap (marks_at (players words seats) rows name) is ∙ moved.takes) a))

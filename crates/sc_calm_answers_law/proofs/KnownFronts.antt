@@ -1,4 +1,4 @@
--- What is known of a front of a lawful journal.
+-- What is known of a prefix of a lawful journal.
 use Rattle.std.proofs.Common.{◌≡◌, ℕ, ◌≤◌, ◌+◌, ◌<◌, ◌&&◌, leb, eqb, Bool, true, zero, suc, List, [], ◌∷◌, ◌++◌, map, Option, Some, None, inl, inr, refl, sym, ◌∙◌, ap, subst, arith}
 use Rattle.std.specs.Prelude.{find}
 use Rattle.std.proofs.lemmas.Bool.{cases_Bool, cond_both, cond-true, eqb-true, eq-eqb, and_from, and_parts, le-leb, leb-true, both_ways}

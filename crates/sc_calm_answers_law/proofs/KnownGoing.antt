@@ -1,4 +1,4 @@
--- Which groups went, by the replicas of a quiet front, and that they stay gone.
+-- Which groups went, by the replicas of a quiet prefix, and that they stay gone.
 use Rattle.std.proofs.Common.{◌≡◌, ℕ, ◌≤◌, ◌&&◌, Bool, true, false, true≢false, cond, List, [], ◌∷◌, length, map, Option, Some, None, inl, inr, refl, sym, ◌∙◌, ap, subst, arith}
 use Rattle.std.specs.Prelude.{is_some}
 use Rattle.std.proofs.lemmas.Bool.{cases_Bool, and_parts, or_right}
@@ -121,7 +121,7 @@ module _ (bounded : ValidScenariosAreBounded) (named : LawfulReplicasAreNamedOnc
           ap (replica_in (name_of r) front) (seat_in scenario.groups scenario.policy scenario.nodes 1 me (client_seats scenario.groups scenario.clients) low (omega (arith, high)))
           ∙ (ap (λ (p : Player). replica_of (name_of r) (view_replicas p)) is ∙ found_once state.replicas r (named words scenario front me state q.calm.valid found.lawful low high is) a)
 
-  -- .. and one that is seen is among them
+  -- each replica that is seen is among all
   record IsAmong (name : Draw) (r : ReplicaState) : Type 0 where
     seat : Seat Player
     seated : Among seat seats

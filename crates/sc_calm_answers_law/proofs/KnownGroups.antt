@@ -1,4 +1,4 @@
--- The groups that have replicas in a quiet front are quiet groups, and have executed their logs.
+-- The groups that have replicas in a quiet prefix are quiet groups, and have executed their logs.
 use Rattle.std.proofs.Common.{◌≡◌, ℕ, ◌+◌, ◌≤◌, true, true≢false, [], ◌∷◌, ◌++◌, length, Some, inl, inr, refl, sym, ◌∙◌, ap, subst, append_assoc, arith, length-append}
 use Rattle.std.specs.Prelude.{is_some}
 use Rattle.std.proofs.lemmas.Bool.{cases_Bool, cases_lt}
@@ -54,7 +54,7 @@ module _ (by : Tellers) (words : ℕ → ℕ → ℕ × ℕ) (scenario : Scenari
     | inr off ↦ (let same = q.led.followed.follows.offered off in omega (arith, same))
   ]
 
--- the rows of a front come in time
+-- the rows of a prefix come in time
 pub front_timely : (words : ℕ → ℕ → ℕ × ℕ) (scenario : Scenario) (journal front : Rows) → IsQuietFront words scenario journal front → AreInTime (players words (births as_nodes scenario)) front
 front_timely words scenario journal front q = λ before row after e. q.calm.timely before row (after ++ q.begins.more) (q.begins.is ∙ (ap (λ rows. rows ++ q.begins.more) e ∙ append_assoc before (row ∷ after) q.begins.more))
 

@@ -1,4 +1,4 @@
--- What a quiet front of a calm journal says of its groups, links, routes and notes.
+-- What a quiet prefix of a calm journal says of its groups, links, routes and notes.
 use Rattle.sc_calm_answers_law.proofs.LinkFronts.{links_were_members as links_were_members_by}
 use Rattle.sc_scenario.proofs.Lemmas.{valid_scenarios_are_bounded}
 use Rattle.sc_whole_law.proofs.Lemmas.{valid_scenarios_begin_well, valid_journals_are_sound, valid_entries_are_logs}
@@ -41,7 +41,7 @@ groups_are_asked_through = asked_through events_go_on rows_keep_taught
 pub free_groups_have_arcs : FreeGroupsHaveArcs
 free_groups_have_arcs = free_groups_have_arcs_by valid_scenarios_are_bounded valid_scenarios_begin_well orders_are_allowed_allowed orders_are_allowed_wishes orders_are_allowed_positions names_have_one_owner_others
 
--- The groups of a front of a lawful journal are groups of the journal, and each replica is of one of them.
+-- The groups of a prefix of a lawful journal are groups of the journal, and each replica is of one of them.
 pub fronts_are_found : FrontsAreFound
 fronts_are_found = fronts_are_found_by valid_scenarios_are_bounded valid_scenarios_begin_well orders_are_allowed_allowed orders_are_allowed_wishes orders_are_allowed_positions names_have_one_owner_others valid_journals_are_sound
 
@@ -53,11 +53,11 @@ members_are_home = members_are_home_by valid_scenarios_are_bounded valid_scenari
 pub no_mail_for_strangers : NoMailForStrangers
 no_mail_for_strangers = strangers_get_none fronts_are_found members_are_home
 
--- A replica makes the child of each entry that it executes as it is told its next one, or by a vote, if its node is a member of that.
+-- A replica makes the child of each entry that it executes by a Learn of its next slot, or by a vote, if its node is a member of the child.
 pub entries_bear_children : EntriesBearChildren
 entries_bear_children = entries_bear_children_by valid_scenarios_are_bounded valid_scenarios_begin_well orders_are_allowed_allowed orders_are_allowed_wishes orders_are_allowed_positions names_have_one_owner_others
 
--- So each member of a child has a replica of it, or is told of the entry that names it, in a journal whose rows come in time.
+-- So each member of a child has a replica of it, or the Learn of the entry that names it is under way, in a journal whose rows come in time.
 pub children_are_made : ChildrenAreMade
 children_are_made = children_are_made_by valid_scenarios_are_bounded groups_are_born_or_not scenarios_are_well_born entries_bear_children
 
@@ -67,7 +67,7 @@ fronts_have_members =
     fronts_have_members_by valid_scenarios_are_bounded valid_scenarios_begin_well orders_are_allowed_allowed orders_are_allowed_wishes orders_are_allowed_positions names_have_one_owner_others scenarios_are_well_born
     groups_begin_taught groups_are_asked_through no_mail_for_strangers fronts_are_found children_are_made
 
--- Each group that has a replica in a quiet front is a quiet group then, and was asked for nothing beyond its course.
+-- Each group that has a replica in a quiet prefix is a quiet group then, and was asked for nothing beyond its course.
 pub quiet_fronts_have_groups : QuietFrontsHaveGroups
 quiet_fronts_have_groups = quiet_fronts_have_groups_by scenarios_are_well_born groups_begin_taught groups_are_asked_through no_mail_for_strangers fronts_have_members
 
@@ -75,7 +75,7 @@ quiet_fronts_have_groups = quiet_fronts_have_groups_by scenarios_are_well_born g
 pub quiet_logs_are_executed : QuietLogsAreExecuted
 quiet_logs_are_executed = quiet_logs_are_executed_by scenarios_are_well_born groups_begin_taught groups_are_asked_through no_mail_for_strangers fronts_are_found fronts_have_members
 
--- Replicas of one group that are gone know the same route in a quiet front.
+-- Replicas of one group that are gone know the same route in a quiet prefix.
 pub fronts_gone_agree : FrontsGoneAgree
 fronts_gone_agree = fronts_gone_agree_by quiet_logs_are_executed fronts_are_found
 
@@ -83,13 +83,13 @@ fronts_gone_agree = fronts_gone_agree_by quiet_logs_are_executed fronts_are_foun
 pub quiet_courses_end : QuietCoursesEnd
 quiet_courses_end = quiet_courses_end_by quiet_logs_are_executed fronts_are_found
 
--- So each group of a quiet front has a replica.
+-- So each group of a quiet prefix has a replica.
 pub fronts_are_there : FrontsAreThere
 fronts_are_there =
     fronts_are_there_by valid_scenarios_are_bounded valid_scenarios_begin_well orders_are_allowed_allowed orders_are_allowed_wishes orders_are_allowed_positions names_have_one_owner_others scenarios_are_well_born
     groups_begin_taught groups_are_asked_through no_mail_for_strangers fronts_are_found children_are_made
 
--- The groups of a quiet front are known, where each has a replica and none is bound.
+-- The groups of a quiet prefix are known, where each has a replica and none is bound.
 pub fronts_are_known : FrontsAreKnown
 fronts_are_known = fronts_are_known_by quiet_logs_are_executed fronts_are_found fronts_are_there free_groups_have_arcs
 
@@ -113,18 +113,18 @@ still_fronts_are_free = still_fronts_are_free_by quiet_logs_are_executed fronts_
 pub issued_are_begun : IssuedAreBegun
 issued_are_begun = issued_are_begun_by valid_scenarios_are_bounded
 
--- So the group of a leader that stands in a quiet front has noted begun requests alone, and all values that it has come of such.
+-- So the group of a leader that stands in a quiet prefix has noted begun requests alone, and all values that it has come of such.
 pub fronts_are_noted : FrontsAreNoted
 fronts_are_noted = fronts_are_noted_by valid_scenarios_are_bounded valid_scenarios_begin_well orders_are_allowed_allowed orders_are_allowed_wishes orders_are_allowed_positions names_have_one_owner_others valid_journals_are_sound valid_entries_are_logs issued_are_begun free_groups_have_arcs quiet_logs_are_executed fronts_are_found fronts_are_there
 
--- So they do in a quiet front, where they did in an earlier one in which no group was bound, and at most one went since, into one that stands.
+-- So they do in a quiet prefix, where they did in an earlier one in which no group was bound, and at most one went since, into one that stands.
 pub fronts_go_in_turn : FrontsGoInTurn
 fronts_go_in_turn = fronts_go_in_turn_by valid_scenarios_are_bounded lawful_replicas_are_named_once led_stand_once fronts_are_found quiet_logs_are_executed fronts_gone_agree replicas_last replicas_run_logs views_are_replicas entries_leave_over turns_go_on
 
--- And so they do where none went.
+-- Groups go one after another in a quiet prefix, where they did in an earlier one in which no group was bound, and none went since.
 pub fronts_stay_in_turn : FrontsStayInTurn
 fronts_stay_in_turn = fronts_stay_in_turn_by fronts_go_in_turn
 
--- The groups of the scenario have replicas at their first members in each front of a calm journal.
+-- The groups of the scenario have replicas at their first members in each prefix of a calm journal.
 pub first_groups_are_reached : FirstGroupsAreReached
 first_groups_are_reached = first_groups_are_reached_by valid_scenarios_are_bounded fronts_are_found

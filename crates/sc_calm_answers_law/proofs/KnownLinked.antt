@@ -49,7 +49,7 @@ module _ (Were Come : Draw → ℕ → Type 0) (come : (name : Draw) (node : ℕ
     same_links : (c : Core) → c.succ ≡ s.core.succ → c.gone ≡ s.core.gone → LinkedSo c
     same_links = kept_links Were Come come sources ys g s linked all_told
 
-    -- one more story, or one that is told on
+    -- one more story, or one that goes on
     told_put : (tx : Draw) (y : Story) → ToldSo y → (t : Draw) (z : Story) → put ys tx (Some y) t ≡ Some z → ToldSo z
     told_put tx y k t z e = elim (from_at ys tx (Some y) t (Some z) e) [ inl m ↦ subst ToldSo (same_Some y z m.1) k | inr m ↦ all_told t z m.1 ]
 

@@ -1,4 +1,4 @@
--- The groups of a quiet front are known, and links and routes name nodes that have replicas.
+-- The groups of a quiet prefix are known, and links and routes name nodes that have replicas.
 use Rattle.std.proofs.Common.{◌≡◌, ℕ, ◌+◌, ◌≤◌, true, length, take, Option, Some, None, refl, sym, ◌∙◌, ap, subst, arith}
 use Rattle.std.proofs.lemmas.Option.{none-some}
 use Rattle.sc_base.specs.Definitions.{Among, is_member}

@@ -38,7 +38,7 @@ passing_weaker p r (x ∷ names) up =
     (λ t. (let e = cond-true (r x) (1 + passing r names) (passing r names) (up x t) in omega (arith, low, e)))
     (λ _. cond_both (r x) (1 + passing r names) (passing r names) (λ n. passing p names ≤ n) (λ _. omega (arith, low)) (λ _. omega (arith, low)))
 
--- .. and one of the names that alone
+-- one of the names passes the second test alone
 passing_more : (p r : Draw → Bool) (names : List Draw) (name : Draw) → ((other : Draw) → p other ≡ true → r other ≡ true) → Among name names → p name ≡ false → r name ≡ true → passing p names < passing r names
 passing_more p r [] name up a out in_ = absurd a
 passing_more p r (x ∷ names) name up (inl same) out in_ =

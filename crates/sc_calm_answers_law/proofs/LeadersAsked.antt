@@ -43,7 +43,7 @@ set_target other group (k ∷ ks) before way e t =
           ])
     ]
 
--- .. and another way of another group
+-- another way of another group changes nothing
 set_other : (other group : Draw) (known : KnownGroups) (way : Way) → (other ≡ group → ⊥) → target_in other (set_value (same_draw group) known way) ≡ target_in other known
 set_other other group [] way ne = refl
 set_other other group (k ∷ ks) way ne =
@@ -101,7 +101,7 @@ starting_names group lo known = by (way_to group known)
     by None = refl
     by (Some way) = set_names (same_draw group) known (record way { lo = lo })
 
--- a group that was told is known as before, or goes last
+-- a group that an answer names is known as before, or goes last
 abbrev GoesLast : KnownGroups → Draw → Arc → Link → Draw → ℕ → KnownGroups → Type 0
 GoesLast known group arc succ other node after =
     target_in other after ≡ Some node → (target_in other known ≡ Some node) ⊎ ((other ≡ succ.group) × (after ≡ starting group arc.lo known ++ (succ.group, new_way (end_of arc) succ.members) ∷ []))
@@ -201,7 +201,7 @@ module _ (set : Setting) (is : IsSetting set) (frame : Frame) (a : Among frame s
   abbrev entry_ : Draw × Way
   entry_ = (frame.core.succ.group, new_way (end_of frame.core.arc) frame.core.succ.members)
 
-  -- .. so the one that is learnt is chosen
+  -- the group that is learnt is chosen
   learnt_chosen : (group : Draw) → told_not_mine frame.core.id frame.core.arc frame.core.succ known ≡ starting frame.core.id frame.core.arc.lo known ++ (frame.core.succ.group, new_way (end_of frame.core.arc) frame.core.succ.members) ∷ []
       → chosen p (told_not_mine frame.core.id frame.core.arc frame.core.succ known) ≡ Some group → group ≡ frame.core.succ.group
   learnt_chosen group is_last e =

@@ -15,7 +15,7 @@ use Rattle.sc_calm_answers_law.proofs.Taught.{groups_are_taught as groups_are_ta
 pub groups_begin_standing : GroupsBeginStanding
 groups_begin_standing = groups_begin_standing_by valid_scenarios_are_bounded valid_scenarios_begin_well orders_are_allowed_allowed orders_are_allowed_wishes orders_are_allowed_positions names_have_one_owner_others
 
--- A group that is gone by its log stays so, is not as it begins, and each replica says so of it at its next slot, also with an entry more that a mail tells it.
+-- A group that is gone by its log stays so, is not as it begins, and each replica says so of it at its next slot, also with an entry more that a Learn brings.
 pub ends_are_logged : EndsAreLogged
 ends_are_logged = ends_are_logged_by valid_scenarios_are_bounded valid_scenarios_begin_well orders_are_allowed_allowed orders_are_allowed_wishes orders_are_allowed_positions names_have_one_owner_others
 
@@ -51,6 +51,6 @@ led_rows_go_on = led_rows_go_on_by scenarios_are_well_born scenarios_are_kept_bo
 pub groups_begin_taught : GroupsBeginTaught
 groups_begin_taught = groups_begin_taught_by valid_scenarios_are_bounded groups_are_born_or_not slots_have_rosters groups_begin_standing ends_are_logged scenarios_begin_taught children_begin_taught
 
--- So after each row each has learnt it or does by its mail, and nobody else is told one; and the group's log is one.
+-- So after each row each has learnt it or does by its mail, and nobody else learns one; and the group's log is one.
 pub groups_are_taught : GroupsAreTaught
 groups_are_taught = groups_are_taught_by scenarios_are_well_born groups_are_taught_through groups_are_led led_logs_are_one groups_begin_taught

@@ -19,13 +19,13 @@ pub log_stays : (name : Draw) (group : Group) (log : List Command) → HasBorn n
 log_stays name group [] has = has
 log_stays name group (command ∷ log) has = log_stays name (applied group command).0 log (stays_born group command name has)
 
--- a child that is made is the one that is borne
+-- a child that is made is the one that the entry creates
 child_is : (me : ℕ) (o : Option Base) (kid : Base) → Among kid (child_at me o) → o ≡ Some kid
 child_is me None kid is = absurd is
 child_is me (Some child) kid is =
     cond_both (is_member child.core.members me) (child ∷ []) [] (λ (xs : List Base). Among kid xs → Some child ≡ Some kid) (λ _ a. elim a [ inl e ↦ ap Some e | inr bad ↦ absurd bad ]) (λ _ a. absurd a) is
 
--- .. and one that is borne with the node for a member is made
+-- a child that the entry names, with the node for a member, is made
 pub child_made : (me : ℕ) (kid : Base) → is_member kid.core.members me ≡ true → child_at me (Some kid) ≡ kid ∷ []
 child_made me kid is = ap (λ b. cond b (kid ∷ []) []) is
 

@@ -49,7 +49,7 @@ module _ (words : ℕ → ℕ → ℕ × ℕ) (scenario : Scenario) (first : Bas
     others = λ group node none. refl;
   }
 
--- .. and at its end
+-- at the end of the line all replicas are as they were
 pub line_ends : (words : ℕ → ℕ → ℕ × ℕ) (scenario : Scenario) (begins : IsStage scenario) (before after : Journal) (frames : List Frame) (ways : Ways) → IsQuietJournal words scenario begins.first before → AreFramesOf (replicas_after scenario before) frames
     → IsSetting (setting_at (replicas_after scenario before) frames ways) → IsLinkedSetting (setting_at (replicas_after scenario before) frames ways) → IsAsking words scenario (setting_at (replicas_after scenario before) frames ways) begins.first before
     → AreRequests words scenario (setting_at (replicas_after scenario before) frames ways) before after

@@ -1,4 +1,4 @@
--- In a line of requests a client that was not told to go stays as it was, and nothing is sent to who is no actor but what is nothing to any group.
+-- In a line of requests a client that has not started stays as it was, and nothing is sent to who is no actor but what is nothing to any group.
 use Rattle.std.proofs.Common.{◌≡◌, ℕ, ◌+◌, ◌≤◌, ◌&&◌, ◌||◌, eqb, Bool, true, false, List, [], ◌∷◌, ◌++◌, length, drop, filter, find, Some, inl, inr, refl, sym, ◌∙◌, ap, subst, arith, append_assoc, append-nil}
 use Rattle.std.proofs.lemmas.Bool.{cond_both, cases_eq, both_ways, eqb-true, eq-eqb, or_right}
 use Rattle.std.proofs.lemmas.List.Folds.{list_any-append}
@@ -78,7 +78,7 @@ module _ (words : ℕ → ℕ → ℕ × ℕ) (scenario : Scenario) (begins : Is
       (λ slot m. (let at = seated.voters p.frame slot mail.to p.is_frame m in both_ways (is_born sys who) away (ap (is_born sys) (sym to) ∙ node_is_born mail.to at.0 at.1))) mail.body p.says
   calm_nothing begun who away mail (inr s) to name = aside_mark begun set name mail mail.body refl s
 
-  -- what holds after each row: of the desk, and of clients that were not told to go
+  -- what holds after each row: of the desk, and of clients that have not started
   abbrev pub AtDesk : Journal → Type 0
   AtDesk rows = (who : ℕ) → is_born (system_of as_nodes words scenario) who ≡ false → Each IsNothing (rest (system_of as_nodes words scenario) rows who)
 
@@ -133,7 +133,7 @@ module _ (words : ℕ → ℕ → ℕ × ℕ) (scenario : Scenario) (begins : Is
       client_sent Tick fine who = absurd fine
       client_sent _ fine who = absurd fine
 
-      -- ---- no mail is for one that was not told to go
+      -- ---- no mail is for one that has not started
 
       begun_none : has_gone rows (client_actor asks.client) ≡ false → (client seq : ℕ) (op : Op) → IsBegun scenario rows client seq op → client_actor asks.client ≡ client_actor client → ⊥
       begun_none not_gone client seq op b e =
@@ -202,7 +202,7 @@ module _ (words : ℕ → ℕ → ℕ × ℕ) (scenario : Scenario) (begins : Is
           ))
     ]
 
-    -- .. and of clients alone
+    -- what is kept of clients alone
     pub fresh_row : (Born : Asks → ClientState → Type 0) (row : Row Mail OrderLine) → IsOrderly (system_of as_nodes words scenario) rows row → AreFresh Born rows → AreFresh Born (rows ++ row ∷ [])
     fresh_row Born row o h = elim (of_player words scenario begins rows row o) [
       | inl n ↦ (

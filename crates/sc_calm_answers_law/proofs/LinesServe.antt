@@ -24,7 +24,7 @@ pub record HasServed (scenario : Scenario) (rows : Journal) (frame : Frame) (nod
   pub accepted : (report : Report Command) → Among report r.acceptor.accepted → (lead : ReplicaState) (taken : ℕ) → replica_at scenario rows frame.core.id frame.lead ≡ Some lead → AreTaken lead taken → report.slot < next lead + taken
   pub rest : Rests first r ⊎ (is_member frame.core.members node ≡ true)
 
--- .. all replicas: of groups that stand, and of others, which stay
+-- all replicas after some rows: of groups that stand, and of others, which stay
 pub record HaveServed (scenario : Scenario) (set : Setting) (rows : Journal) : Type 0 where
   pub standing : (frame : Frame) (node : ℕ) (first : ReplicaState) → Among frame set.frames → set.at frame.core.id node ≡ Some first → (r : ReplicaState) × (replica_at scenario rows frame.core.id node ≡ Some r) × HasServed scenario rows frame node first r
   pub homes : (group : Draw) (node : ℕ) (r : ReplicaState) → replica_at scenario rows group node ≡ Some r → IsHome set group node

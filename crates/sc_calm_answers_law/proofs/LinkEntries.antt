@@ -53,7 +53,7 @@ module _ (sources : Sources) (bases : List Base) (start : BeginInPlace sources b
   next_world : (front : List LogEntry) (e : LogEntry) → at_front (front ++ e ∷ []) ≡ told_on (at_front front) e
   next_world front e = told_append (first_told bases) front (e ∷ [])
 
-  -- a group that is told of in an entry, and every other one
+  -- a group that an entry names, and every other one
   own_then : (front : List LogEntry) (e : LogEntry) (s : Group) → groups_then front e.group ≡ Some s → groups_then (front ++ e ∷ []) e.group ≡ Some (applied s e.command).0
   own_then front e s found =
       ap (λ (w : ToldWorld). named_group e.group w.store.groups) (next_world front e) ∙ logs_make_states (at_front front).store e.group s found (e ∷ []) ∙ ap (λ cs. Some (state_after s cs)) (own_first e.group e [] refl)
@@ -63,7 +63,7 @@ module _ (sources : Sources) (bases : List Base) (start : BeginInPlace sources b
       ap (λ (w : ToldWorld). named_group name w.store.groups) (next_world front e) ∙ logs_make_states (at_front front).store name p found (e ∷ []) ∙ ap (λ cs. Some (state_after p cs)) (other_first name e [] ne)
 
   module _ (Were : Draw → ℕ → Type 0) (were : (front more : List LogEntry) → entries ≡ front ++ more → (name : Draw) (u : Group) → groups_then front name ≡ Some u → Good Were name u.core.members) where
-    -- a node moves to a group that has promised, and it was told so
+    -- a node moves to a group that has promised, and the story says so
     pub record Moves (name : Draw) (node : ℕ) : Type 0 where
       pub tx : Draw
       pub offer : Offer
@@ -262,7 +262,7 @@ module _ (sources : Sources) (bases : List Base) (start : BeginInPlace sources b
           λ tx y w. landed.told tx y (ap (λ (z : Stories). z tx) (sym stories_now) ∙ w),
         )
 
-    -- ---- after each front
+    -- ---- after each prefix
 
     linked_on : (front : List LogEntry) (e : LogEntry) (more : List LogEntry) → entries ≡ front ++ e ∷ more → (o : Option Group) → groups_then front e.group ≡ o → AreLinkedSo (groups_then front) (at_front front).stories
         → AreLinkedSo (groups_then (front ++ e ∷ [])) (at_front (front ++ e ∷ [])).stories

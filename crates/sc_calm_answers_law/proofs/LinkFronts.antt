@@ -28,7 +28,7 @@ use Rattle.sc_calm_answers_law.proofs.LinkEntries.{groups_then, Come, all_linked
 use Rattle.sc_calm_orders_law.proofs.Lemmas.{right_none}
 pub use Rattle.sc_calm_rows_law.proofs.Beginning.{of_up_to}
 
--- ---- two fronts of a list
+-- ---- two prefixes of a list
 
 record IsAhead {X : Type 0} (front more first rest : List X) : Type 0 where
   mid : List X
@@ -108,7 +108,7 @@ module _ (bounded : ValidScenariosAreBounded) (begin : ValidScenariosBeginWell) 
     abbrev Were : Draw → ℕ → Type 0
     Were name node = WasMember scenario rows name node
 
-    -- a group after a front of the entries is one after a front of its log
+    -- a group after a prefix of the entries is one after a prefix of its log
     record IsAfter (base : Base) (u : Group) : Type 0 where
       after : ℕ
       within : after ≤ length (decided_log as_nodes base rows)

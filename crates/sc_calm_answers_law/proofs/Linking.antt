@@ -1,4 +1,4 @@
--- The link of a group that stands in a quiet front is as a quiet journal asks it.
+-- The link of a group that stands in a quiet prefix is as a quiet journal asks it.
 use Rattle.std.proofs.Common.{◌≡◌, ℕ, ◌/◌, ◌%◌, ◌^◌, ◌<◌, true, false, List, [], ◌∷◌, Option, Some, None, refl, sym, ◌∙◌, ap, subst, arith}
 use Rattle.std.specs.Prelude.{IsTrue, ◌&&◌, is_none, is_some}
 use Rattle.std.specs.Option.{option_map}

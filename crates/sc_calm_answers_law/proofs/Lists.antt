@@ -74,7 +74,7 @@ module _ (at : Sets) (who : ℕ) where
   pub member_open : (next slot : ℕ) → next ≤ slot + 1 → slot ≤ next → is_member (members_at at slot) who ≡ true → IsOpen at next who
   member_open next slot least most m = record { slot = slot + 3; from = omega (arith, least); to = omega (arith, most); decides = m }
 
--- ---- what is told
+-- ---- what Learns bring
 
 module _ (at : Sets) (course : Course) (who : ℕ) where
   -- nothing to who is no member of these states

@@ -224,7 +224,7 @@ GoesOn r e = (l : IsLogged r e) × (r.ready ≡ [] → IsShort l.log)
 rest_goes : (r : ReplicaState) (after : Place) → At r.group r.me (next r) after.0 → GoesOn r (childless after)
 rest_goes r after k = (record { log = []; is = (k.0, k.1, (let same = k.2 in omega (arith, same))); kids = refl }, λ none. inl refl)
 
--- .. with what else there is of a replica
+-- what leaves the group and the log is no entry, whatever else changes of a replica
 other_goes : (r x : ReplicaState) (e : Executed) → x.group ≡ r.group → x.me ≡ r.me → next x ≡ next r → (l : IsLogged x e) × (r.ready ≡ [] → IsShort l.log) → GoesOn r e
 other_goes r x e g m n l = (
   record {

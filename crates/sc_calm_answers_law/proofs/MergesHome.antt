@@ -1,4 +1,4 @@
--- What is told of a transaction: its name was drawn for its coordinator, which is not its participant; and where it merges a group, that goes into its coordinator.
+-- What logs record of a transaction: its name was drawn for its coordinator, which is not its participant; and where it merges a group, that goes into its coordinator.
 use Rattle.std.proofs.Common.{◌≡◌, ℕ, ◌&&◌, not, cond, Bool, true, false, true≢false, List, [], ◌∷◌, Option, Some, None, option_map, refl, sym, ◌∙◌, ap, subst}
 use Rattle.std.proofs.lemmas.Bool.{cond_both}
 use Rattle.std.proofs.lemmas.Option.{same_Some}
@@ -153,7 +153,7 @@ module _ (owner : Draw → Option Draw) where
       by None e = home_put ys tx None (λ y is. cc) old
       by (Some story) e = home_put ys tx (Some (f story)) (λ y is. (let same : f story ≡ y = cc in subst (IsHomeStory (owner tx)) same (new story e))) old
 
-  -- one that is told on keeps whom it asks
+  -- a story that goes on keeps whom it asks
   voted_home : (o : Option Draw) (v : Option Vote) (y : Story) → IsHomeStory o y → IsHomeStory o (with_vote v y)
   voted_home o None y k = k
   voted_home o (Some vote) y k = record { drawn = k.drawn; apart = k.apart; home = k.home }

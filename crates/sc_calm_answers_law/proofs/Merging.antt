@@ -1,4 +1,4 @@
--- A group goes only where it is told that a merge which it promised was decided.
+-- A group goes only where it learns that a merge which it promised was decided.
 use Rattle.std.specs.Prelude.{nat_le, length, ◌⊎◌}
 use Rattle.std.proofs.Common.{◌≡◌, ℕ, ◌&&◌, not, cond, Bool, true, false, [], ◌∷◌, Option, Some, None, inl, inr, refl, sym, ◌∙◌, ap}
 use Rattle.std.proofs.lemmas.Bool.{cond_both}

@@ -63,7 +63,7 @@ module _ (words : ℕ → ℕ → ℕ × ℕ) (births : List (Seat Player)) (row
   state_found : IsState births rows seat number base.core.id slot sets × (is_member state.core.members mail.from ≡ true)
   state_found = (record { whole = sent.whole; joins = joins }, member)
 
--- .. of a group of this name
+-- the state that is sent is of a group of this name
 state_named : (words : ℕ → ℕ → ℕ × ℕ) (births : List (Seat Player)) (rows : Rows) (seat : Seat Player) (number : ℕ) (mail : Mail) (group : Draw) (node : NodeState) (base : Base) → base.core.id ≡ group → IsTaking words births rows seat number mail group node
     → IsGuided words births rows seat (Deliver number) base → IsThere births rows group → (slot : ℕ) (state : Base) (sets : List (List ℕ)) → mail.body ≡ Install group slot state sets
     → IsState births rows seat number group slot sets × (is_member state.core.members mail.from ≡ true)

@@ -112,7 +112,7 @@ recorded_moves (Coordinating locked body order heard) group tx vote =
     (cond_either (λ x. MovesOneWay x.core group.core) (asks_watcher body heard) (watch_answered vote body heard group tx) (group, NoEffect tx) (watch_moves vote body heard group tx) (inl (λ who m. m)))
     (inl (λ who m. m))
 
--- and so does an outcome
+-- an outcome does so
 abbrev MovesSoIn : Group → Option Group → Type 0
 MovesSoIn group None = Unit {0}
 MovesSoIn group (Some after) = MovesOneWay after.core group.core

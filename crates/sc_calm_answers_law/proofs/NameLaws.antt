@@ -14,10 +14,10 @@ use Rattle.sc_calm_answers_law.proofs.Starts.{know_one as quiet_journals_know_on
 use Rattle.sc_calm_answers_law.specs.Definitions.{ClientsAreNear, NamesStayFew}
 use Rattle.sc_calm_answers_law.proofs.NamesStay.{names_stay}
 
--- A client that was not told to go is sent on no more often than there are names of groups.
+-- A client that has not started is sent on no more often than there are names of groups.
 pub clients_are_near : ClientsAreNear
 clients_are_near = clients_near valid_scenarios_are_bounded lawful_replicas_are_named_once led_stand_once fronts_are_found quiet_journals_have_frames chart_hints_rise quiet_journals_ask quiet_groups_have_cuts standing_groups_are_round quiet_settings_are_linked quiet_journals_know_one
 
--- There are no more names of groups than groups of the scenario and orders, in each quiet front.
+-- There are no more names of groups than groups of the scenario and orders, in each quiet prefix.
 pub names_stay_few : NamesStayFew
 names_stay_few = names_stay valid_scenarios_are_bounded led_stand_once fronts_are_found

@@ -35,7 +35,7 @@ one_more P names name old new = by (list_any (λ other. same_draw other name) na
     by true = old
     by false = Each-append P names (name ∷ []) old (new, tt)
 
--- .. and of more
+-- what holds of names and of more holds of all
 both_names : (P : Draw → Type 0) (names more : List Draw) → Each P names → Each P more → Each P (with_names names more)
 both_names P names [] old new = old
 both_names P names (name ∷ more) old new = both_names P (cond (list_any (λ other. same_draw other name) names) names (names ++ name ∷ [])) more (one_more P names name old new.0) new.1
@@ -48,7 +48,7 @@ module _ (all_bounded : ValidScenariosAreBounded) (led_once : LedStandOnce) (fou
   there_led : (rows : Rows) (name : Draw) → is_led all rows name ≡ true → IsThere all rows name
   there_led rows name led = led_is_there all rows name (all_apart scenario (all_bounded scenario calm.valid)) led
 
-  -- .. and its name stands once
+  -- the name of a group that is led stands once
   led_stands : (rows : Rows) (name : Draw) → is_led all rows name ≡ true → StandsOnce name (names_at all rows)
   led_stands rows name led = led_once all rows (length rows) name (omega arith) (subst (λ q. is_led all q name ≡ true) (sym (take_all (length rows) rows (omega arith))) led)
 
@@ -77,7 +77,7 @@ module _ (all_bounded : ValidScenariosAreBounded) (led_once : LedStandOnce) (fou
       let long = length-map scenario.groups (λ (base : Base). base.core.id) in
       omega (arith, low, long)
 
-  -- ---- since a quiet front that rests
+  -- ---- since a quiet prefix that rests
 
   module _ (first : Base) (quiet : Rows) (rests : RestsAt words scenario first journal quiet) where
     -- each group that is there has a name
@@ -92,7 +92,7 @@ module _ (all_bounded : ValidScenariosAreBounded) (led_once : LedStandOnce) (fou
       new_name : (old more : List Draw) → names_at all (rows ++ row ∷ []) ≡ old ++ more → (name : Draw) → is_led all (rows ++ row ∷ []) name ≡ true → Among name more → Among name old → ⊥
       new_name old more same name led new a = once_split name old more (subst (StandsOnce name) same (led_stands then name led)) a new
 
-      -- .. so none comes in where all were there in the quiet
+      -- no name comes in where all groups were there in the quiet
       none_new : ((name : Draw) → IsThere all (rows ++ row ∷ []) name → IsThere all quiet name) → names_at all rows ≡ names_at all quiet → names_at all (rows ++ row ∷ []) ≡ names_at all quiet
       none_new was same = (let grown = names_grow all rows row in by grown.0 (grown.1 ∙ ap (λ l. l ++ grown.0) same) grown.2)
         where
@@ -100,7 +100,7 @@ module _ (all_bounded : ValidScenariosAreBounded) (led_once : LedStandOnce) (fou
           by [] e led = e ∙ append-nil (names_at all quiet)
           by (name ∷ more) e led = absurd (new_name (names_at all quiet) (name ∷ more) e name led.0 (inl refl) (quiet_named name (was name (there_led then name led.0))))
 
-      -- .. and no other than the child's, where an order is under way
+      -- no name but the child's comes in while an order is under way
       module _ (task : Task) (front : IsFront journal (rows ++ row ∷ [])) (borne : AreBorneSo scenario journal quiet (rows ++ row ∷ []) task) where
         old_or : (name : Draw) → is_led all (rows ++ row ∷ []) name ≡ true → Among name (names_at all quiet) ⊎ (name ≡ task.name)
         old_or name led = elim (there_or all quiet name) [

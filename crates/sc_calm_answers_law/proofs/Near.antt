@@ -1,4 +1,4 @@
--- A client that was not told to go is sent on no more often than there are names: it knows one group alone.
+-- A client that has not started is sent on no more often than there are names: it knows one group alone.
 use Rattle.std.proofs.Common.{◌≡◌, ℕ, ◌≤◌, List, [], ◌∷◌, ◌++◌, length, refl, sym, ◌∙◌, subst, arith, append-nil}
 use Rattle.sc_node_table.specs.Values.{Draw, Base}
 use Rattle.sc_lookup.specs.declared.ways.Way.{Way}
@@ -16,7 +16,7 @@ use Rattle.sc_calm_answers_law.proofs.LinesKeep.{line_keeps, fresh_row}
 use Rattle.sc_calm_answers_law.proofs.NameLists.{sent_few}
 use Rattle.sc_calm_answers_law.proofs.Setting as quiet_of
 
--- ---- one that was not told to go knows one group still
+-- ---- one that has not started knows one group still
 
 module _ (words : ℕ → ℕ → ℕ × ℕ) (scenario : Scenario) (begins : IsStage scenario) (set : Setting) (is : IsSetting set) (linked : IsLinkedSetting set) (seated : AreSeated scenario set) where
   knows_still : (before after : Journal) → AreRequests words scenario set before after → IsAsking words scenario set begins.first before → KnowOne scenario begins.first before → KnowOne scenario begins.first (before ++ after)

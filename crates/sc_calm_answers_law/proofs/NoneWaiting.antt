@@ -66,7 +66,7 @@ module _ (pump_law : PumpsLeaveNone) where
   abbrev NoneAt : Place → Type 0
   NoneAt place = HasNoneWaiting place.0
 
-  -- .. where some slot is open
+  -- no act waits where some slot is open
   abbrev Ends : Place → Type 0
   Ends place = 1 ≤ length place.0.sets → HasNoneWaiting place.0
 

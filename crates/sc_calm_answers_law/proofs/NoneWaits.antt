@@ -1,4 +1,4 @@
--- No act waits at a replica with nothing in flight, row by row since a quiet front of a calm journal.
+-- No act waits at a replica with nothing in flight, row by row since a quiet prefix of a calm journal.
 use Rattle.std.proofs.Common.{◌≡◌, ℕ, ◌≤◌, eqb, true, true≢false, List, [], length, Some, inl, inr, refl, sym, ◌∙◌, ap, subst, arith}
 use Rattle.std.proofs.lemmas.Bool.{cases_Bool, eq-eqb, eqb-true, le-leb}
 use Rattle.sc_base.specs.Definitions.{Among}
@@ -89,7 +89,7 @@ module _ (pump_law : PumpsLeaveNone) (idle_law : JournalsKeepIdle) (wb : Scenari
     | inr f ↦ had_at name node r (sym (view_others all rows row name node (λ i. true≢false (sym (eq-eqb node seat.who i) ∙ f))) ∙ e)
   ]
 
--- ---- a quiet front
+-- ---- a quiet prefix
 
 module _ (few_law : SlotsAreLeft) (born_law : ScenariosAreKeptBorn) (rosters_law : SlotsHaveRosters) (found_law : FrontsAreFound) (no_law : NoMailForStrangers) (words : ℕ → ℕ → ℕ × ℕ) (scenario : Scenario) (journal rows : Rows) (calm : IsCalmJournal words scenario journal)
     (front : IsFront journal rows) (sent : AreSent words scenario journal rows) (still : is_quiet (players words (births as_nodes scenario)) rows ≡ true) (had : HaveNoneWaiting scenario rows) where

@@ -1,4 +1,4 @@
--- The group of a leader that stands in a quiet front has noted begun requests alone, and all values that it has come of such.
+-- The group of a leader that stands in a quiet prefix has noted begun requests alone, and all values that it has come of such.
 use Rattle.std.proofs.Common.{◌≡◌, ℕ, Bool, true, false, cond, List, [], ◌∷◌, Some, None, ◌⊎◌, inl, inr, refl, sym, ◌∙◌, ap, subst, append-nil}
 use Rattle.std.specs.Prelude.{is_none}
 use Rattle.std.specs.FinMap.{empty, get, insert, remove, get-empty, get-insert, get-remove}

@@ -22,7 +22,7 @@ use Rattle.sc_calm_answers_law.specs.Definitions.{LawfulJournalsHaveOneLog, Have
 
 module _ (scenario : Scenario) (rows : Journal) (apart : (one other : Base) → Among one (groups_at as_nodes scenario.groups rows) → Among other (groups_at as_nodes scenario.groups rows) → one.core.id ≡ other.core.id → one ≡ other)
     (all : AllHaveRun as_nodes scenario rows) (seated : (group : Draw) (node : ℕ) → HasReplica (replicas_after scenario rows) group node → (1 ≤ node) × (node ≤ scenario.nodes)) where
-  -- a replica executed a front of its group's log
+  -- a replica executed a prefix of its group's log
   record Ran (group : Draw) (r : ReplicaState) : Type 0 where
     base : Base
     is_base : Among base (groups_at as_nodes scenario.groups rows)

@@ -1,4 +1,4 @@
--- An order that is told in quiet becomes the one command that stands at its group.
+-- An order given in quiet becomes the one command that stands at its group.
 use Rattle.std.proofs.Common.{◌≡◌, ℕ, ◌+◌, ◌≤◌, ◌||◌, not, nat_le, eqb, Bool, true, false, cond, List, [], ◌∷◌, ◌++◌, length, Option, Some, None, refl, sym, ◌∙◌, ap, subst}
 use Rattle.std.specs.Prelude.{is_some}
 use Rattle.std.specs.List.{list_any}
@@ -66,7 +66,7 @@ module _ (a : Affair) (begins : BeginsFree a) (g : Draw) (r : ReplicaState) (res
   waiting : waits (is_idle asked) r.group.core.lock command ≡ false
   waiting = ap (λ b. waits b r.group.core.lock command) idle ∙ (ap (λ l. waits true l command) rest.free ∙ goes.0)
 
-  -- .. it is found
+  -- the command that waits is found
   abbrev rested : Place
   rested = (record r { calls = [] }, [])
 
@@ -115,7 +115,7 @@ module _ (a : Affair) (begins : BeginsFree a) (g : Draw) (r : ReplicaState) (res
         subst (λ b. Fine a g (cond b (pumped_from (next r) r.sets (asked, [])) (asked, []))) (sym (and_from (settled r) (nat_le (next r) last_slot) on (le-leb (next r) last_slot low)))
         (first_offers r.sets many (and_parts r.running (may_offer r (first_set r.sets)) on).1)
 
--- so an order that is told one at rest is refused, or its command is in flight
+-- so an order given to one at rest is refused, or its command is in flight
 pub order_fine : (drawer : Drawer) (line : OrderLine) (r : ReplicaState) → IsAtRest r → name_of r ≡ group_of_order line.order → (r.running ≡ true → r.leader.reports ≡ []) → next r ≤ last_slot → length r.sets ≡ slots_ahead
     → Fine (affair_by (is_split line.order) (group_of_order line.order) (next_name drawer)) (group_of_order line.order) (ordered_row drawer line (r, []))
 unfolding ordered_row

@@ -1,4 +1,4 @@
--- An order that is told in a quiet front begins all that holds while it is under way.
+-- An order given in a quiet prefix begins all that holds while it is under way.
 use Rattle.std.proofs.Common.{◌≡◌, ◌≤◌, ℕ, true, false, List, [], ◌∷◌, Some, inl, inr, refl, sym, ◌∙◌, ap, arith}
 use Rattle.std.proofs.lemmas.Bool.{cases_Bool}
 use Rattle.sc_base.specs.Definitions.{Among, Each}
@@ -177,7 +177,7 @@ module _ (all_bounded : ValidScenariosAreBounded) (few_law : SlotsAreLeft) (logs
         names = names_law.goes_on words scenario first journal quiet quiet seat (Told line) work.0 calm rests front (borne_law.begins words scenario journal quiet seat line work.0 seated timely work.1) (names_law.begins all quiet work.0);
       }
 
-  -- .. at a stage that follows
+  -- the order is at a stage that follows
   steps_on : StageAfter all quiet seat (Told line) Still
   steps_on = step_law words all quiet seat (Told line) seated timely finds Still rests.still
 

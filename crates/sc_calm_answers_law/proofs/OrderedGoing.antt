@@ -266,7 +266,7 @@ module _ (all_bounded : ValidScenariosAreBounded) (few_law : SlotsAreLeft) (logs
     names = names_law.goes_on words scenario first journal quiet rows seat (Deliver number) o.task calm under.rests on.front (borne_law.keeps words scenario first journal quiet rows o.line o.task seat number working o.borne) o.names;
   }
 
-  -- .. at a stage that follows
+  -- the order is at a stage that follows
   steps_on : StageAfter all rows seat (Deliver number) under.stage
   steps_on = (next_stage.0, next_stage.1.stands, next_stage.2)
 

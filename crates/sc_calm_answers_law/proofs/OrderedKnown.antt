@@ -69,7 +69,7 @@ module _ (rosters_law : SlotsHaveRosters) (logs_law : ReplicasRunLogs) (views_la
           let some = some_next there.0 there.1 there.2 in
           (there.0, there.1, there.2, omega (arith, is, most, low, some))
 
--- ---- a front
+-- ---- a prefix
 
 module _ (found_law : FrontsAreFound) (words : ℕ → ℕ → ℕ × ℕ) (scenario : Scenario) (journal rows : Rows) (calm : IsCalmJournal words scenario journal) (front : IsFront journal rows) where
   -- a group that has a replica is one of the journal

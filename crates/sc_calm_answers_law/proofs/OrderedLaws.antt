@@ -1,4 +1,4 @@
--- All that holds while an order is under way since a quiet front of a calm journal.
+-- All that holds while an order is under way since a quiet prefix of a calm journal.
 use Rattle.sc_calm_answers_law.proofs.Entering.{flights_are_entries as flights_are_entries_by}
 use Rattle.sc_calm_answers_law.proofs.TrueLaws.{replicas_tell, records_are_true, mail_comes_unsettled, asked_groups_stood, true_orders_go_on, settled_orders_go_on, coordinators_are_settled, hinted_orders_go_on, entries_are_true, true_orders_begin, settled_orders_begin}
 use Rattle.sc_calm_scenes_law.proofs.Lemmas.{quiet_scenes_are_over, fresh_groups_stay, found_orders_step}
@@ -38,6 +38,6 @@ flights_are_entries = flights_are_entries_by replicas_tell records_are_true quie
 pub deliveries_keep_ordered : DeliveriesKeepOrdered
 deliveries_keep_ordered = deliveries_keep valid_scenarios_are_bounded slots_are_left replicas_run_logs views_are_replicas slots_have_rosters replicas_last next_rows_are_sent newest_stay fronts_are_found no_mail_for_strangers views_agree well_led_lead_alone sent_replicas orders_rows_meet orders_rows_find next_rows_rise orders_keep_rounds children_were_nowhere children_are_borne fresh_groups_stay young_groups_stay mail_comes_unsettled asked_groups_stood true_orders_go_on deliveries_keep_work work_stands_alone order_rows_find_calm settled_orders_go_on coordinators_are_settled hinted_orders_go_on coordinators_are_hinted entries_are_true flights_are_entries mail_may_come lawful_replicas_are_named_once takers_are_nodes ordered_errands_go_home goers_go_on none_waits names_stay_few
 
--- An order that is told in a quiet front which rests begins all that holds while it is under way, and finds what keeps the journal calm.
+-- An order given in a quiet prefix which rests begins all that holds while it is under way, and finds what keeps the journal calm.
 pub orders_begin_ordered : OrdersBeginOrdered
 orders_begin_ordered = orders_begin valid_scenarios_are_bounded slots_are_left replicas_run_logs views_are_replicas slots_have_rosters next_rows_are_sent newest_stay fronts_are_found no_mail_for_strangers views_agree sent_replicas orders_rows_find fresh_groups_stay young_groups_stay true_orders_begin settled_orders_begin hinted_orders_begin orders_begin_work children_are_borne next_rows_rise orders_keep_rounds work_stands_alone told_orders_find_calm ordered_errands_go_home homeward_goes_to_actors goers_begin none_waits names_stay_few found_orders_step

@@ -1,4 +1,4 @@
--- A quiet front of a calm journal rests, where its players are as a quiet journal asks it.
+-- A quiet prefix of a calm journal rests, where its players are as a quiet journal asks it.
 use Rattle.std.proofs.Common.{◌≡◌, ◌⊎◌, inl, inr, ℕ, Bool, true, false, cond, List, [], ◌∷◌, Option, Some, None, refl, ◌∙◌, ap}
 use Rattle.std.specs.Prelude.{nat_le}
 use Rattle.sc_node_table.specs.Values.{Draw, Base, OrderLine, Mail}

@@ -1,4 +1,4 @@
--- A quiet front of a calm journal rests, since whose last quiet front clients asked alone.
+-- A quiet prefix of a calm journal rests, since whose last quiet prefix clients asked alone.
 use Rattle.std.proofs.Common.{◌++◌}
 use Rattle.sc_orderly_law.proofs.Lemmas.{in_time_tidy, quiet-empty}
 use Rattle.sc_scenario.specs.Definitions.{ValidScenariosAreBounded}

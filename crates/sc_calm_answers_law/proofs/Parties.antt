@@ -51,7 +51,7 @@ promised group free tx tx2 (c ∷ []) are e = (are.0.0, are.0.1, voted_by group 
 promised group free tx tx2 [] are e = absurd are
 promised group free tx tx2 (c ∷ (d ∷ more)) are e = absurd are.1
 
--- .. or on whatever it was asked
+-- a group that voted is bound by its Yes on whatever it was asked
 pub bound : (group : Group) (free : group.core.lock ≡ Free) (tx tx2 : Draw) (entries : List Command) → AreDeeds (Voting tx ∷ []) entries → bond_of (state_after group entries).core ≡ Bound tx2
     → (coord : Draw) × (watch : Bool) × (by : ℕ) × IsBoundBy group free tx tx2 coord watch by (state_after group entries)
 bound group free tx tx2 (c ∷ []) are e = (are.0.0, are.0.1, are.0.2, voted_by group free tx tx2 are.0.0 are.0.1 are.0.2 c are.0.3 e)

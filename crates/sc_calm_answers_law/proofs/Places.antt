@@ -34,11 +34,11 @@ module _ (a : Affair) (g : Draw) where
   abbrev pub Wait : List (ℕ × Command) → Type 0
   Wait ready = Each (λ (entry : ℕ × Command). Does entry.1) ready
 
-  -- a replica of the group: no call waits, all that waits, is in flight or is ready stands there, and so is its state; and no promise that is counted had reports
+  -- a replica of the group: no request waits, all that waits, is in flight or is ready stands there, and so is its state; and no promise that is counted had reports
   abbrev pub Held : ReplicaState → Type 0
   Held r = (name_of r ≡ g) × (r.calls ≡ []) × AllDo r.acts × Fly r.leader.flights × Wait r.ready × a.Is g r.group.core × (r.running ≡ true → r.leader.reports ≡ [])
 
-  -- .. with the mail that it sends
+  -- a replica of the group with the mail that it sends
   abbrev pub Fine : Place → Type 0
   Fine place = Held place.0 × AreGood a place.1
 

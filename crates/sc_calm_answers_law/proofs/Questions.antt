@@ -18,7 +18,7 @@ pub record IsQuestionOf (name tx coord : Draw) (watch : Bool) (stage : Stage) : 
   pub coord_is : deal.coord ≡ coord
   pub watch_is : is_watch deal.turn ≡ watch
 
--- .. one that is to be asked elsewhere
+-- the question of a stage that is to be asked elsewhere
 pub record IsSentOnIn (name tx : Draw) (stage : Stage) : Type 0 where
   pub deal : Deal
   pub stage_is : stage ≡ SentOn deal

@@ -31,7 +31,7 @@ module _ (words : ℕ → ℕ → ℕ × ℕ) (scenario : Scenario) (begins : Is
   client_in (Client client) = client
   client_in (Node node) = born_client 0 [] (route_of begins.first)
 
-  -- one that was not told to go is as at its birth
+  -- one that has not started is as at its birth
   abbrev pub Born : Asks → ClientState → Type 0
   Born asks client = client ≡ born_client client.me client.requests (route_of begins.first)
 

@@ -21,11 +21,11 @@ use Rattle.sc_calm_answers_law.proofs.NamedOnce.{named_once, lawful_count_once}
 pub lines_leave_replicas_quiet : LinesLeaveReplicasQuiet
 lines_leave_replicas_quiet = replicas_quiet valid_scenarios_are_bounded
 
--- .. and the journal is quiet again: each client that was told to go has all replies, and one that was not is as at its birth; what the executed states note is begun, and no mail is left.
+-- Where a line of requests from a quiet journal leaves no mail to anybody, the journal is quiet again: each client that has started has all replies, and each other is as at its birth; what the executed states note is begun, and no mail is left.
 pub lines_leave_quiet : LinesLeaveQuiet
 lines_leave_quiet = leave_quiet valid_scenarios_are_bounded
 
--- In each lawful journal of a valid scenario replicas of one group that executed as much are in one state: each has executed a front of its group's one log.
+-- In each lawful journal of a valid scenario replicas of one group that executed as much are in one state: each has executed a prefix of its group's one log.
 pub lawful_journals_have_one_log : LawfulJournalsHaveOneLog
 lawful_journals_have_one_log =
     lawful_one_log valid_scenarios_are_bounded valid_scenarios_begin_well orders_are_allowed_allowed orders_are_allowed_wishes orders_are_allowed_positions names_have_one_owner_others
@@ -35,7 +35,7 @@ lawful_journals_have_one_log =
 pub lawful_lines_leave_quiet : LawfulLinesLeaveQuiet
 lawful_lines_leave_quiet = lawful_leave valid_scenarios_are_bounded lawful_journals_have_one_log lines_leave_replicas_quiet lines_leave_quiet
 
--- .. and so no row of a journal does, where a client that waits for none counts one.
+-- No row of a journal raises how often a client's request is under way, where a client that waits for none counts one.
 pub tokens_never_rise : TokensNeverRise
 tokens_never_rise = never_rise valid_scenarios_are_bounded
 
@@ -43,19 +43,19 @@ tokens_never_rise = never_rise valid_scenarios_are_bounded
 pub answers_are_expected : AnswersAreExpected
 answers_are_expected = expected valid_scenarios_are_bounded
 
--- .. and each client would ask the node that leads, of each group that it knows but for that which it asked last.
+-- In a line of requests each client would ask the node that leads, of each group that it knows but for that which it asked last.
 pub lines_ask_leaders : LinesAskLeaders
 lines_ask_leaders = lines_lead valid_scenarios_are_bounded
 
--- Where no replica holds a call and no mail is under way, each client counts one at most.
+-- Where no replica has a queued request and no mail is under way, each client counts one at most.
 pub idle_counts_once : IdleCountsOnce
 idle_counts_once = idle_once valid_scenarios_are_bounded
 
--- In a line of requests whatever comes next, in order, finds what it needs: a client that goes, an answer that it takes, and each mail of a node, by a chart that counts as the setting does.
+-- In a line of requests whatever comes next, in order, finds what it needs: a client that starts, an answer that it takes, and each mail of a node, by a chart that counts as the setting does.
 pub request_rows_find_calm : RequestRowsFindCalm
 request_rows_find_calm = request_rows valid_scenarios_are_bounded answers_are_heard_calmly clients_go_calmly answers_are_expected lines_ask_leaders
 
--- .. and each client's request is under way once at most, counting one where none waits. That no node has two replicas of one group is a premise.
+-- In a quiet journal each client's request is under way once at most, counting one where none waits. That no node has two replicas of one group is a premise.
 pub quiet_journals_count_once : QuietJournalsCountOnce
 quiet_journals_count_once = count_once valid_scenarios_are_bounded
 
@@ -63,6 +63,6 @@ quiet_journals_count_once = count_once valid_scenarios_are_bounded
 pub lawful_replicas_are_named_once : LawfulReplicasAreNamedOnce
 lawful_replicas_are_named_once = named_once valid_scenarios_are_bounded valid_scenarios_begin_well orders_are_allowed_allowed orders_are_allowed_wishes orders_are_allowed_positions names_have_one_owner_others
 
--- .. and so, where it is quiet, each client's request is under way once at most.
+-- In a quiet lawful journal of a valid scenario each client's request is under way once at most.
 pub lawful_quiet_journals_count_once : LawfulQuietJournalsCountOnce
 lawful_quiet_journals_count_once = lawful_count_once quiet_journals_count_once lawful_replicas_are_named_once

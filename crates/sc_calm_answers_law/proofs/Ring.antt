@@ -52,7 +52,7 @@ key_there p low = omega arith
 near : (lo len : ℕ) → lo < 2 ^ 32 → 1 ≤ len → ((lo + 2 ^ 32) - lo) % 2 ^ 32 < len
 near lo len a b = omega arith
 
--- .. and its last
+-- the last position of an arc
 last_of : Arc → ℕ
 last_of arc = (arc.lo + arc.len + 2 ^ 32 - 1) % 2 ^ 32
 
@@ -185,7 +185,7 @@ module _ (words : ℕ → ℕ → ℕ × ℕ) (scenario : Scenario) (first : Bas
         map.covers.only (last_of behind.pred.0.arc) (last_low behind.pred.0.arc) behind.pred.0 mine.cut behind.pred.1 mine.among (last_held behind.pred.0.arc (map.covers.arcs behind.pred.0 behind.pred.1))
         (subst (λ p. IsTrue (holds mine.cut.arc p)) (sym last) (last_held mine.cut.arc (map.covers.arcs mine.cut mine.among)))
 
-    -- .. and has it for its predecessor
+    -- the successor has the group for its predecessor
     pub pred_is : s.lead.group.core.pred.group ≡ name
     pred_is = ap (λ (g : Group). g.core.pred.group) (sym its_group) ∙ (behind.pred.3 ∙ (ap (λ (c : Cut). c.group) one_cut ∙ mine.named))
 

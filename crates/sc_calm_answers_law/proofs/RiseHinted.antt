@@ -77,7 +77,7 @@ module _ (words : ℕ → ℕ → ℕ × ℕ) (at : Sets) (over : Ends) (by : Te
     asks_own b e = subst (IsOwnAsking mail.from) e
         (Each-among IsOwnMail (mails rows) mail (ballots_own words all rows wb.alone (in_time_before (players words all) rows (row_of player_table seat rows event) timely)) (number_among (mails rows) number mail t.takes.sent))
 
-    -- an entry that it is told
+    -- an entry that it learns
     module _ (slot : ℕ) (command : Command) (body : mail.body ≡ Learn base.core.id slot command) where
       abbrev is_told : mark_of base.core.id mail.from mail.body ≡ Some (Tells slot)
       is_told = ap (mark_of name mail.from) body ∙ same_mark name (Tells slot)

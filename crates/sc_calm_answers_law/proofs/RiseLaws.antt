@@ -1,4 +1,4 @@
--- That hints rise in quiet fronts of a calm journal, and that rounds are few: what is kept of each group row by row, and what follows of it in quiet.
+-- That hints rise in quiet prefixes of a calm journal, and that rounds are few: what is kept of each group row by row, and what follows of it in quiet.
 use Rattle.sc_calm_answers_law.proofs.RiseJournals.{groups_begin, next_rows}
 use Rattle.sc_calm_answers_law.proofs.SentLaws.{groups_are_born_as_begun}
 use Rattle.sc_calm_answers_law.specs.Definitions.{GroupsBeginRising, NextRowsRise, RowsKeepRound, OrdersKeepRounds, RequestsKeepBallots}
@@ -15,11 +15,11 @@ groups_begin_rising = groups_begin groups_are_born_as_begun
 pub next_rows_rise : NextRowsRise
 next_rows_rise = next_rows journals_keep_idle scenarios_are_well_born
 
--- By each row a group begins one round more at most since a quiet front: its leader stops by an act alone, which ends the group's part in the order.
+-- By each row a group begins one round more at most since a quiet prefix: its leader stops by an act alone, which ends the group's part in the order.
 pub rows_keep_round : RowsKeepRound
 rows_keep_round = rows_keep_round_by journals_keep_idle scenarios_are_well_born
 
--- So while an order is under way, which is told in quiet.
+-- So while an order is under way that was given in quiet.
 pub orders_keep_rounds : OrdersKeepRounds
 orders_keep_rounds = orders_keep journals_keep_idle scenarios_are_well_born
 

@@ -94,7 +94,7 @@ module _ (words : ℕ → ℕ → ℕ × ℕ) (at : Sets) (over : Ends) (by : Te
           nearer = inl lead.2;
         }
 
-    -- .. or has left
+    -- a replica that has left the group rises too
     fated_rises : IsFated at by now (hints_at all front base) marks node → RisesAt (view_at (births as_nodes scenario) front) base.core.id r
     fated_rises f =
         let pledge : pledged (now.promise node) (marks node) ≡ r.top = ap (pledged (now.promise node)) (none node) ∙ (promise_here ∙ sym (top_is node r here)) in

@@ -26,7 +26,7 @@ use Rattle.sc_calm_answers_law.proofs.Lists.{round_most}
 use Rattle.sc_calm_answers_law.proofs.RiseRising.{next_round}
 use Rattle.sc_calm_answers_law.proofs.Stages.{Before, work_leads, must_lead, step_back}
 
--- nothing is taken where an order is told
+-- nothing is taken where an order is given
 told_none : (event : Event OrderLine) (name : Draw) (rows : Rows) → IsTelling event → taken_mark name (mails rows) event ≡ None
 told_none (Told line) name rows t = refl
 told_none _ name rows t = absurd t
@@ -111,7 +111,7 @@ module _ (words : ℕ → ℕ → ℕ × ℕ) (at : Sets) (over : Ends) (by : Te
     pub on_then : (s.through.course.ballot ≡ t.course.ballot) × (s.through.course.runs ≡ true)
     on_then = subst (λ (c : Course). KeepsOn c) (sym s.same) (on_by s.step.later s.step.row)
 
-  -- ---- where an order is told, none elects itself
+  -- ---- where an order is given, none elects itself
 
   module _ (telling : IsTelling event) where
     told_by : (later : Course) → IsGroupRow at over by all rows seat event base t.course later → later.ballot ≡ t.course.ballot

@@ -1,4 +1,4 @@
--- The rounds of a group since a quiet front: the ballot that it had there, and what its replicas saw.
+-- The rounds of a group since a quiet prefix: the ballot that it had there, and what its replicas saw.
 use Rattle.std.proofs.Common.{◌≡◌, ℕ, ◌+◌, ◌≤◌, true, false, List, [], ◌∷◌, Option, Some, None, inl, inr, refl, sym, ◌∙◌, ap, subst, arith}
 use Rattle.std.proofs.lemmas.Bool.{cases_Bool}
 use Rattle.sc_base.specs.Definitions.{Among, least_of}

@@ -55,11 +55,11 @@ module _ (may : Draw → ℕ → Ballot → Type 0) where
   IsRefusal to (TxWatched tx coord part vote) = Unit {0}
   IsRefusal to (Told order result) = Unit {0}
 
-  -- .. a mail
+  -- a mail is said so
   abbrev pub IsSaid : Mail → Type 0
   IsSaid mail = IsRefusal mail.to mail.body
 
-  -- .. each of some
+  -- each of some mails is said so
   abbrev pub AreSaid : List Mail → Type 0
   AreSaid mails = Each IsSaid mails
 

@@ -39,7 +39,7 @@ module _ (may : Draw → ℕ → Ballot → Type 0) (name : Draw) where
   abbrev K : Place → Type 0
   K place = Keeps may name place
 
-  -- .. with the children that a row made
+  -- the same of a place with the children that a row made
   abbrev After : Executed → Type 0
   After step = Keeps may name step.0
 

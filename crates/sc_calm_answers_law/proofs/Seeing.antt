@@ -202,7 +202,7 @@ module _ (r : ReplicaState) where
   mail_idly from (Told order result) a off = (off, refl)
   mail_idly from _ a off = absurd a
 
-  -- ---- an entry that is told, by which it does not elect itself
+  -- ---- an entry that is learnt, by which it does not elect itself
 
   entry_idly : (command : Command) (off : r.running ≡ false) (none : r.leader.flights ≡ []) → Stays (entered command r) → Idly (executed_one false command (r, []))
   entry_idly command off none stays = looks command r off none Idly (looked_same Idly (over command r off none) (place2 command r off none).1 (over_off command r off none) stays (λ hint. (over_off command r off none, entered_top command r)))

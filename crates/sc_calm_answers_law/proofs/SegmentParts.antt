@@ -1,4 +1,4 @@
--- The segments of a calm journal: quiet fronts that rest, requests behind them, and orders.
+-- The segments of a calm journal: quiet prefixes that rest, requests behind them, and orders.
 use Rattle.std.proofs.Common.{◌≡◌, ℕ, ◌+◌, ◌≤◌, true, false, true≢false, List, [], ◌∷◌, ◌++◌, length, refl, sym, ◌∙◌, ap, subst, arith, append_assoc, append-nil}
 use Rattle.sc_base.specs.Definitions.{Each}
 use Rattle.sc_node_table.specs.Values.{Base, OrderLine, Mail, Seat, Event, Deliver, Row}
@@ -17,7 +17,7 @@ use Rattle.sc_calm_charts_law.specs.Definitions.{chart_at, names_at, quiet_front
 use Rattle.sc_calm_answers_law.specs.Definitions.{IsCalmJournal, IsFront, GoesOnBy, RestsAt, JournalsBeginResting, GoesHome, RequestsSendNoErrands, HomewardGoesToActors, IsAskedSince, RequestsBeginAsked, AskedRowsGoOn, AskedRowsFindCalm, RequestsKeepGroups, RequestsRestAgain, IsOrderedSince, OrdersBeginOrdered, DeliveriesKeepOrdered, OrdersLeaveResting, HasFewNames, ClientsAreNear, NamesStayFew}
 use Rattle.sc_calm_answers_law.proofs.Segments.{Parts, IsSegment, segments}
 
--- an order that is told
+-- an order that is given
 pub told_line : (event : Event OrderLine) → is_told event ≡ true → (line : OrderLine) × (event ≡ Told line)
 told_line (Told line) told = (line, refl)
 told_line _ told = absurd (true≢false (sym told))
@@ -38,7 +38,7 @@ pub record SegmentLaws : Type 0 where
   pub keep_law : DeliveriesKeepOrdered
   pub over_law : OrdersLeaveResting
 
--- a calm journal that tells few orders, by how long ways may be, and how often clients may be sent on
+-- a calm journal with few orders, by how long ways may be, and how often clients may be sent on
 pub record IsFramed (words : ℕ → ℕ → ℕ × ℕ) (scenario : Scenario) (first : Base) (others : List Base) (far sends : ℕ) (journal : Rows) : Type 0 where
   pub groups : scenario.groups ≡ first ∷ others
   pub calm : IsCalmJournal words scenario journal
@@ -51,7 +51,7 @@ module _ (laws : SegmentLaws) (words : ℕ → ℕ → ℕ × ℕ) (scenario : S
   abbrev s : System Player Mail OrderLine
   s = players words (births as_nodes scenario)
 
-  -- a quiet front that rests, in which errands went to nodes, and no more groups were led than there were groups and orders
+  -- a quiet prefix that rests, in which errands went to nodes, and no more groups were led than there were groups and orders
   pub record RestsSo (quiet : Rows) : Type 0 where
     pub rests : RestsAt words scenario first journal quiet
     pub home : Each (GoesHome scenario) (mails quiet)
@@ -90,7 +90,7 @@ module _ (laws : SegmentLaws) (words : ℕ → ℕ → ℕ × ℕ) (scenario : S
             (λ name there. (laws.groups_law words scenario first others far sends journal quiet (rows ++ row ∷ []) frame.calm frame.groups later name).0 (subst (λ l. IsThere all l name) shift there)) a.named;
       }
 
-  -- .. which finds what keeps the journal calm
+  -- a row of requests finds what keeps the journal calm
   pub asks_find : (quiet rows : Rows) → quiet_front s (quiet ++ rows) ≡ quiet → RestsSo quiet → AsksSo quiet rows → (seat : Seat Player) (event : Event OrderLine) → IsSeat all seat → IsInOrder s (quiet ++ rows) seat.who event
       → FindsCalm (chart_at far sends s (quiet ++ rows)) all (quiet ++ rows) seat event
   asks_find quiet rows last r a seat event seated order =
@@ -102,7 +102,7 @@ module _ (laws : SegmentLaws) (words : ℕ → ℕ → ℕ × ℕ) (scenario : S
   abbrev event_of : Row Mail OrderLine → Event OrderLine
   event_of row = row.event
 
-  -- what an order tells
+  -- what the row of an order gives
   module _ (quiet : Rows) (row : Row Mail OrderLine) (front : IsFront journal (quiet ++ row ∷ [])) (timely : AreInTime s (quiet ++ row ∷ [])) (r : RestsSo quiet) (seat : Seat Player) (line : OrderLine) (is : row ≡ row_of player_table seat quiet (Told line)) (seated : IsSeat all seat) where
     abbrev told_all : IsOrderedSince words scenario first journal quiet (with_event quiet seat (Told line)) × StageAfter all quiet seat (Told line) Still × ((far_ sent : ℕ) → FindsCalm (chart_at far_ sent s quiet) all quiet seat (Told line))
     told_all =
@@ -172,6 +172,6 @@ module _ (laws : SegmentLaws) (words : ℕ → ℕ → ℕ × ℕ) (scenario : S
           let same = ap orders (append_assoc quiet (row ∷ []) rows) in
           omega (arith, one, more, same)
 
-  -- each front falls into such segments
+  -- each prefix falls into such segments
   pub segment_at : (rows : Rows) → IsFront journal rows → AreInTime s rows → IsSegment s RestsSo AsksSo OrdersSo rows
   segment_at rows front timely = segments s RestsSo AsksSo OrdersSo (IsFront journal) parts rows front timely

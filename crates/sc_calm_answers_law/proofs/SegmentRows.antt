@@ -97,7 +97,7 @@ module _ (segment : SegmentLaws) (laws : RowLaws) (words : ℕ → ℕ → ℕ �
   segment_of : (rows : Rows) → IsFront journal rows → AreInTime s rows → IsSegment s Rests Asks Orders rows
   segment_of = parts_of.segment_at segment words scenario first others far sends journal frame
 
-  -- a quiet front rests
+  -- a quiet prefix rests
   pub quiet_rests : (rows : Rows) → IsFront journal rows → AreInTime s rows → is_quiet s rows ≡ true → Rests rows
   quiet_rests rows front timely quiet = subst Rests (front_whole s rows quiet) (segment_of rows front timely).rests
 
@@ -110,7 +110,7 @@ module _ (segment : SegmentLaws) (laws : RowLaws) (words : ℕ → ℕ → ℕ �
       Each-weaker (λ other. IsResting (value player_table other rows)) (λ other. WaitsForNone (value player_table other rows)) (λ other is. waits_none (value player_table other rows) is) all
       (all_rest laws.all_bounded laws.found_law laws.once_law laws.agree_law laws.last_law laws.rest_law words scenario first others journal rows frame.groups frame.calm timely (quiet_rests rows front timely quiet).rests)
 
-  -- all groups of a front are well led
+  -- all groups of a prefix are well led
   sent_at : (rows : Rows) → IsFront journal rows → AreInTime s rows → AreSent words scenario journal rows
   sent_at rows front timely = by (segment_of rows front timely)
     where
@@ -126,7 +126,7 @@ module _ (segment : SegmentLaws) (laws : RowLaws) (words : ℕ → ℕ → ℕ �
   lone_at : (rows : Rows) → IsFront journal rows → AreInTime s rows → AllLeadAlone all rows
   lone_at rows front timely = all_lead laws.all_bounded laws.found_law laws.alone_law laws.once_law laws.agree_law words scenario journal rows frame.calm front (sent_at rows front timely)
 
-  -- by the chart of rows behind a quiet front hints rise there
+  -- by the chart of rows behind a quiet prefix hints rise there
   hints_rise : (quiet later : Rows) → RestsAt words scenario first journal quiet → quiet_front s later ≡ quiet → DoHintsRise (replicas_after scenario quiet) (chart later).ways
   hints_rise quiet later rests last =
       let found = laws.found_law words scenario journal quiet frame.calm rests.front in
@@ -154,13 +154,13 @@ module _ (segment : SegmentLaws) (laws : RowLaws) (words : ℕ → ℕ → ℕ �
     abbrev event_of : Row Mail OrderLine → Event OrderLine
     event_of r = r.event
 
-    -- requests behind the front, or nothing
+    -- requests behind the prefix, or nothing
     record HasAsked : Type 0 where
       behind : Rows
       rows_are : rows ≡ quiet_front s rows ++ behind
       asks : Asks (quiet_front s rows) behind
 
-    -- .. or an order
+    -- an order since the prefix
     record HasOrdered : Type 0 where
       behind : Rows
       rows_are : rows ≡ quiet_front s rows ++ behind

@@ -1,4 +1,4 @@
--- Rows that come in time, such as fronts of one lawful journal, fall into segments, each from the last quiet journal on: requests, or one order.
+-- Rows that come in time, such as prefixes of one lawful journal, fall into segments, each from the last quiet journal on: requests, or one order.
 use Rattle.std.proofs.Common.{◌≡◌, ℕ, zero, suc, ◌≤◌, true, false, true≢false, List, [], ◌∷◌, ◌++◌, length, take, ◌⊎◌, inl, inr, refl, sym, ◌∙◌, ap, subst, arith, append_assoc, append-nil, length-take, length-append}
 use Rattle.std.proofs.lemmas.Bool.{cases_Bool, both_ways, cond-true, cond-false}
 use Rattle.std.proofs.lemmas.List.{take_all, take-append-le}
@@ -19,7 +19,7 @@ each_last : {X : Type 0} (P : X → Type 0) (xs : List X) (x : X) (ys : List X) 
 each_last P [] x ys each = each.0
 each_last P (z ∷ xs) x ys each = each_last P xs x ys each.1
 
--- what stands behind a longer front stands behind a shorter one
+-- what stands behind a longer prefix stands behind a shorter one
 stands_behind : {X : Type 0} (P : X → Type 0) (before after front : List X) (x : X) (more : List X) → before ++ after ≡ front ++ x ∷ more → length before ≤ length front → Each P after → P x
 stands_behind P [] after front x more e low each = each_last P front x more (subst (Each P) e each)
 stands_behind P (b ∷ before) after [] x more e low each = absurd (omega (arith, low))
@@ -28,7 +28,7 @@ stands_behind P (b ∷ before) after (f ∷ front) x more e low each =
     stands_behind P before after front x more tail (omega (arith, low)) each
 
 module _ (s : System Player Mail OrderLine) where
-  -- a quiet journal is its own front
+  -- a quiet journal is its own prefix
   pub front_whole : (rows : Rows) → is_quiet s rows ≡ true → quiet_front s rows ≡ rows
   front_whole [] quiet = refl
   front_whole (row ∷ rows) quiet =
@@ -60,7 +60,7 @@ module _ (s : System Player Mail OrderLine) where
     pub over : (quiet rows : Rows) → Fits (quiet ++ rows) → AreInTime s (quiet ++ rows) → Rests quiet → Orders quiet rows → is_quiet s (quiet ++ rows) ≡ true → Rests (quiet ++ rows)
 
   module _ (Rests : Rows → Type 0) (Asks Orders : Rows → Rows → Type 0) where
-    -- an order is under way since it was told
+    -- an order is under way since it was given
     pub record IsOrdered (quiet behind : Rows) : Type 0 where
       pub first : Row Mail OrderLine
       pub more : Rows

@@ -10,7 +10,7 @@ use Rattle.sc_following_law.specs.Definitions.{Mark, Asks, Votes, Tells, Install
 use Rattle.sc_following_law.proofs.Lemmas.{each-row, offers-each, told-each, rises, reached-least}
 use Rattle.sc_calm_answers_law.specs.Definitions.{IsHeld, FindsOne, IsStranger, IsAtHome, HomesAreKept}
 
--- what a stranger is told: nothing
+-- what a stranger learns: nothing
 told_none : (at : Sets) (course : Course) (who : ℕ) → IsStranger at who → (more slot : ℕ) → told_from at course slot more who ≡ []
 told_none at course who out zero slot = refl
 told_none at course who out (suc more) slot = ap (λ l. l ++ told_from at course (slot + 1) more who) one ∙ told_none at course who out more (slot + 1)
@@ -19,7 +19,7 @@ told_none at course who out (suc more) slot = ap (λ l. l ++ told_from at course
     one = cond_both (eqb who course.ballot.node) _ _ (λ l. l ≡ []) (λ _. refl) (λ _.
         cond-false (is_member (members_at at slot) who) _ _ (out (slot + 3)) ∙ cond-false (is_member (members_at at (slot + 1)) who) _ _ (out (slot + 1 + 3)))
 
--- .. and offered
+-- what a stranger is offered: nothing
 offers_none : (at : Sets) (course : Course) (from who : ℕ) → IsStranger at who → (marks : List Mark) → Each (IsOffer at course from who) marks → marks ≡ []
 offers_none at course from who out [] e = refl
 offers_none at course from who out (Asks ballot slot ∷ marks) e = absurd (true≢false (sym e.0.3 ∙ out slot))

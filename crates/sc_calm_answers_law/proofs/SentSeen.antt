@@ -115,7 +115,7 @@ module _ (words : ℕ → ℕ → ℕ × ℕ) (at : Sets) (over : Ends) (by : Te
     stands : (T : Ballot → Type 0) → T r.top → StandsAt All_ T r
     stands T k = ((all_any r.acceptor.accepted, plain r view_r), k)
 
-    -- .. that it takes while it leads
+    -- a mail that the replica takes while it leads
     by_leader : r.running ≡ true → IsPlainMail All_ mail.body → Shown
     by_leader runs is_plain = elim (cases_Bool after.running) [
       | inl on ↦ ShowsOwn on
@@ -125,14 +125,14 @@ module _ (words : ℕ → ℕ → ℕ × ℕ) (at : Sets) (over : Ends) (by : Te
       ]
     ]
 
-    -- .. or not
+    -- a mail that the replica takes, whether it leads or not
     plainly : IsPlainMail All_ mail.body → (r.running ≡ false → Shown) → Shown
     plainly is_plain idly = elim (cases_Bool r.running) [ inl runs ↦ by_leader runs is_plain | inr off ↦ idly off ]
 
     idly : IsPlainMail All_ mail.body → IsIdleMail r mail.body → Shown
     idly is_plain is_idle = plainly is_plain (λ off. ShowsNone (same_least r.top after.top (mail_idly r mail.from mail.body is_idle off).1))
 
-    -- an entry that is told
+    -- an entry that is learnt
     told : (g : Draw) (slot : ℕ) (command : Command) → mail.body ≡ Learn g slot command → r.running ≡ false → Shown
     told g slot command e off =
         let body : mail.body ≡ Learn name slot command = e ∙ ap (λ n. Learn n slot command) (named_as g (ap group_of_mail e)) in

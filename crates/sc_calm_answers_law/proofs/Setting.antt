@@ -1,4 +1,4 @@
--- The setting that a quiet front gives.
+-- The setting that a quiet prefix gives.
 use Rattle.std.proofs.Common.{◌≡◌, ℕ, ◌-◌, ◌≤◌, true, Option, List, ◌∷◌, Some, None, refl, sym, ◌∙◌, ap, subst}
 use Rattle.std.specs.Prelude.{slice_get, unwrap_or}
 use Rattle.sc_base.specs.Definitions.{Among, is_member}
@@ -20,7 +20,7 @@ use Rattle.sc_paxos_law.proofs.Lemmas.{place_among}
 pub front_lawful : (words : ℕ → ℕ → ℕ × ℕ) (scenario : Scenario) (journal rows : Rows) → Lawful as_nodes words scenario journal → IsFront journal rows → Lawful as_nodes words scenario rows
 front_lawful words scenario journal rows lawful front = lawful-prefix (system_of as_nodes words scenario) (schedule scenario) rows front.more (subst (Lawful as_nodes words scenario) front.is lawful)
 
--- a quiet front is its own last quiet front
+-- a quiet prefix is its own last quiet prefix
 pub own_front : (words : ℕ → ℕ → ℕ × ℕ) (scenario : Scenario) (quiet : Rows) → is_quiet (players words (births as_nodes scenario)) quiet ≡ true → quiet_front (players words (births as_nodes scenario)) quiet ≡ quiet
 own_front words scenario quiet still = front_whole (players words (births as_nodes scenario)) quiet still
 

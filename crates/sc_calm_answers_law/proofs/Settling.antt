@@ -1,4 +1,4 @@
--- The group that is told an order, or coordinates its transaction, stays without rounds; so its leader has its promises.
+-- The group that gets an order, or coordinates its transaction, stays without rounds; so its leader has its promises.
 use Rattle.std.proofs.Common.{◌≡◌, ℕ, ◌*◌, ◌≤◌, ◌||◌, not, true, false, List, [], ◌∷◌, ◌++◌, length, Option, Some, ◌⊎◌, inl, inr, refl, sym, ◌∙◌, ap, subst, append-nil, append_assoc, arith}
 use Rattle.std.proofs.lemmas.Bool.{cases_Bool, or_left, or_right}
 use Rattle.sc_base.specs.Definitions.{Among, Each, is_majority, is_member}
@@ -40,7 +40,7 @@ same_members group tx asked First made c = ap (λ (g : Group). g.core.members) c
 same_members group tx asked Lone made c = ap (λ (g : Group). g.core.members) c.is
 same_members group tx asked (Next part host) made c = ap (λ (g : Group). g.core.members) c.heard.is ∙ ap (λ (g : Group). g.core.members) c.opened.is
 
--- the group that is told the order, or coordinates, after some rows: it is led by who led it in the quiet, with the members that it had
+-- the group that gets the order, or coordinates, after some rows: it is led by who led it in the quiet, with the members that it had
 record IsCoord (scenario : Scenario) (quiet xs : Rows) (x : Draw × ℕ) : Type 0 where
   first : ReplicaState
   was : view_at (births as_nodes scenario) quiet x.0 x.1 ≡ Some first

@@ -1,4 +1,4 @@
--- What the parties of an order are after some rows since a quiet journal, by what all logs tell.
+-- What the parties of an order are after some rows since a quiet journal, by what all logs record.
 use Rattle.std.proofs.Common.{◌≡◌, ℕ, false, true≢false, List, [], ◌∷◌, ◌++◌, Option, Some, None, ◌⊎◌, inl, inr, sym, ◌∙◌, ap, subst}
 use Rattle.sc_base.specs.Definitions.{Each}
 use Rattle.sc_node_table.specs.Values.{Draw, Seat, Body, Offer, Command, Split, Begin, RecordVote, Base, Coordinating, Free, Promised, Frozen, Heard, Flight}
@@ -99,7 +99,7 @@ module _ (tells : ReplicasTell) (words : ℕ → ℕ → ℕ × ℕ) (scenario :
   pub led_first : (it : Doer) (d : Has it) → (stands : StandsQuiet (replicas_after scenario quiet) it.group) × (d.first ≡ stands.lead)
   led_first it d = leads_it scenario quiet _ _ rests.is.quiet rests.known it.group it.host d.first (sym (seen it.group it.host) ∙ d.was) d.led
 
-  -- .. and its successor stood then
+  -- the successor of the group stood in the quiet
   pub succ_stands : (it : Doer) (d : Has it) → StandsQuiet (replicas_after scenario quiet) d.first.group.core.succ.group
   succ_stands it d =
       let s = led_first it d in
@@ -155,7 +155,7 @@ module _ (tells : ReplicasTell) (words : ℕ → ℕ → ℕ × ℕ) (scenario :
       pub frozen_is : both.heard.heard.frozen ≡ frozen_of p.first.group
       frozen_is = one_vote scenario journal deal.tx deal.coord part both.heard.heard.frozen (frozen_of p.now.group) 0 0 heard_vote its_vote ∙ promise.2
 
-      -- .. and whom it names is asked
+      -- the group that its link names is asked
       pub next_is : deal.asked ≡ p.first.group.core.succ.group
       next_is = both.heard.asked_is ∙ ap (λ (f : Frozen). f.succ.group) frozen_is
 

@@ -42,7 +42,7 @@ module _ (name : Draw) (work : Work) where
 pub work_leads : (now : Scene) (stage : Stage) (name : Draw) (work : Work) → IsAt stage now → Among work (now.at name).work → MustLead stage name
 work_leads now stage name work a there = by_stage name work stage (found work_of now.at name work there (parties_of stage) a.parties refl)
 
--- .. and one leads it
+-- a node leads the group to whose leader something is to come
 pub must_lead : (now : Scene) (stage : Stage) (name : Draw) → IsAt stage now → MustLead stage name → (node : ℕ) × (now.lead name ≡ Some node)
 must_lead now stage name a m = (m.0, Each-among (λ (lead : Draw × ℕ). now.lead lead.0 ≡ Some lead.1) (leads_of stage) (name, m.0) a.leads m.1)
 
@@ -73,7 +73,7 @@ module _ (name : Draw) where
       first (node, inl is) = (node, inl is)
       first (node, inr none) = absurd none
 
-  -- .. the coordinator, or one of those that said Yes
+  -- the coordinator leads, or one of those that said Yes
   question_back : (deal : Deal) (host to : ℕ) → Leads (Weighs deal host) → Before (Asks deal to)
   question_back deal host to (node, inl is) = inl (node, inl is)
   question_back deal host to (node, inr (inl is)) = inr (inr (deal, to, refl, ap (λ p. p.0) is))

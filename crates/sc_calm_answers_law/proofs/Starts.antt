@@ -22,7 +22,7 @@ use Rattle.sc_calm_answers_law.proofs.Hinting.{no_append}
 
 -- ---- what clients know
 
--- In a quiet journal a client that was not told to go knows one group alone.
+-- In a quiet journal a client that has not started knows one group alone.
 pub know_one : QuietJournalsKnowOne
 know_one words scenario first rows q asks client a not_gone v =
     let p = q.players asks a in
@@ -47,7 +47,7 @@ none_with to born (m ∷ sent) (c ∷ counts) none =
       | inr f ↦ ap (λ xs. xs ++ mail_with (λ x. born (to x)) sent counts) (cond-false (born (to m)) (replicate c m) [] f) ∙ rec
     ]
 
--- .. and no mail is under way.
+-- In a quiet journal no mail is under way.
 pub no_mail : QuietJournalsHaveNoMail
 no_mail words scenario first rows q =
     none_with (λ (m : Mail). (system_of as_nodes words scenario).receiver m) (λ who. is_born (system_of as_nodes words scenario) who) (mails rows) (copies rows) q.none
@@ -57,7 +57,7 @@ no_mail words scenario first rows q =
 none_left : (latest : ℕ) (r : ReplicaState) → r.running ≡ true → hints_left latest (Some r) ≡ 0
 none_left latest r e = ap (λ b. cond (b || is_some r.group.core.gone) 0 (1 + latest - r.top.round)) e
 
--- .. and each node that leads is reached, by the ways of the latest rounds.
+-- Each node that leads is reached, by the ways of the latest rounds.
 pub leaders_reached : QuietLeadersAreReached
 leaders_reached words scenario first rows frames latest most asks q s frame a =
     let w = s.are frame a in

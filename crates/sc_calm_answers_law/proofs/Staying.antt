@@ -53,7 +53,7 @@ errand_group name from to _ entry e g = absurd (none_some e)
 abbrev pub IsFor : Draw → Mail → Type 0
 IsFor name mail = group_of_mail mail.body ≡ Some name
 
--- .. of which there is none
+-- no mail of a group
 abbrev pub IsNoneFor : Draw → Mail → Type 0
 IsNoneFor name mail = IsFor name mail → ⊥
 

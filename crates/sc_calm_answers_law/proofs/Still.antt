@@ -1,4 +1,4 @@
--- Where nothing of an order is left in a quiet front, no group is bound.
+-- Where nothing of an order is left in a quiet prefix, no group is bound.
 use Rattle.std.proofs.Common.{◌≡◌, ℕ, true, List, Option, Some, None, refl, sym, ◌∙◌, ap, arith}
 use Rattle.sc_base.specs.Definitions.{Among}
 use Rattle.sc_node_table.specs.Values.{Base, Free}

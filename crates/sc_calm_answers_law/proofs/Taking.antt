@@ -17,7 +17,7 @@ use Rattle.sc_calm_answers_law.proofs.Affairs.{Affair}
 use Rattle.sc_calm_answers_law.proofs.WorkSaying.{one_sent, next_one_asked, vote_told, watch_told, outcome_said}
 use Rattle.sc_calm_answers_law.proofs.Places.{Does, Fly, Held, Fine, Kids, saw_fine, stopped_fine, looked_fine, pumped_fine, executed_fine, executed_kids}
 
--- What a mail must say to a replica, and find there: what may be said then; no promise has reports; nothing is asked from where the acceptor has forgotten, or other groups have a part; an entry that is told next finds nothing in flight; and nobody asks for entries.
+-- What a mail must say to a replica, and find there: what may be said then; no promise has reports; nothing is asked from where the acceptor has forgotten, or other groups have a part; an entry that is learnt next finds nothing in flight; and nobody asks for entries.
 abbrev pub Hears : Affair → ReplicaState → MailBody → Type 0
 Hears a r (Request group client seq op) = ⊥
 Hears a r (Answer group seq answer) = ⊥
@@ -165,7 +165,7 @@ module _ (a : Affair) (g : Draw) where
   unfolding accepted_row
   accepted_fine from ballot slot (r, mails) f = either_way FAll (leads ballot r) (voted from ballot slot (set_at slot r) (r, mails)) (childless (r, mails)) (voted_fine from ballot slot (set_at slot r) (r, mails) f) f
 
-  -- .. and its children
+  -- the children that an Accepted makes
   readied_kids : (slot : ℕ) (command : Command) (place : Place) → Does a g command → F place → Kids a g (readied slot command place).1
   unfolding readied
   readied_kids slot command (r, mails) c f =

@@ -31,7 +31,7 @@ module _ (births : List (Seat Player)) (name : Draw) (slot : ℕ) where
       by true later e = cc
       by false later e = later e
 
-  -- .. and if it has not, none has by one row more
+  -- if the next row's player has not executed the slot, none has by one row more
   pub none_hit : (before rows : Rows) (row : Row Mail OrderLine) → first_to births name slot before rows ≡ None → has_executed slot (view_at births (before ++ (rows ++ row ∷ [])) name row.who) ≡ false
       → first_to births name slot before (rows ++ row ∷ []) ≡ None
   none_hit before [] row none not = cond-false (has_executed slot (view_at births (before ++ row ∷ []) name row.who)) (Some row.who) None not
@@ -74,11 +74,11 @@ answers_none node promise (Prepares ballot) who slot a = cond_both (eqb who ball
 answers_none node promise (Votes other ballot s) who slot a = absurd a
 answers_none node promise _ who slot a = absurd a
 
--- .. nor does what a leader offers
+-- what a leader offers has no state
 pub offers_none : (at : Sets) (course : Course) (from who slot : ℕ) (marks : List Mark) → Each (IsOffer at course from who) marks → Among (Installs slot) marks → ⊥
 offers_none at course from who slot marks each a = Each-among (IsOffer at course from who) marks (Installs slot) each a
 
--- what it tells of states is of the slots that it executes
+-- the states that it sends are of the slots that it executes
 welcomes_one : (at : Sets) (course : Course) (from who slot : ℕ) → Among (Installs slot) (told_of at course from who) → slot ≡ from
 welcomes_one at course from who slot =
     cond_both (eqb who course.ballot.node) [] _ P (λ _ a. absurd a)

@@ -1,4 +1,4 @@
--- Each group of a quiet front has replicas at its first members: those of a scenario from birth on, and each child since its group's members learnt the entry that names it.
+-- Each group of a quiet prefix has replicas at its first members: those of a scenario from birth on, and each child since its group's members learnt the entry that names it.
 use Rattle.std.proofs.Common.{◌≡◌, ℕ, zero, suc, ◌≤◌, true, List, [], length, Some, None, inl, inr, ◌∙◌, ap, subst, arith}
 use Rattle.std.proofs.lemmas.Bool.{cond-true}
 use Rattle.sc_base.specs.Definitions.{Among, is_member}
@@ -86,7 +86,7 @@ module _ (bounded : ValidScenariosAreBounded) (begin : ValidScenariosBeginWell) 
   pub all_there : (base : Base) → Among base (groups_at as_nodes scenario.groups front) → IsThere (births as_nodes scenario) front base.core.id
   all_there base a = (let has = has_all base a base.core.first (first_member base a) in (base.core.first, has.0, has.1))
 
-  -- what has a replica is a group of the front
+  -- what has a replica is a group of the prefix
   pub members_there : (base : Base) → Among base (groups_at as_nodes scenario.groups journal) → IsThere (births as_nodes scenario) front base.core.id → HasAll base
   members_there base a there =
       let of = seen.replicas base.core.id there.0 there.1 (seen.views base.core.id there.0 ∙ there.2) in

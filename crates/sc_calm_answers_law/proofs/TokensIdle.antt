@@ -1,4 +1,4 @@
--- Where no replica holds a call and no mail is under way, each client counts one at most.
+-- Where no replica has a queued request and no mail is under way, each client counts one at most.
 use Rattle.std.proofs.Common.{◌≡◌, ℕ, ◌-◌, ◌≤◌, not, eqb, Bool, true, false, cond, List, [], ◌∷◌, map, sum_by, inl, inr, refl, sym, ◌∙◌, ap, subst, arith}
 use Rattle.std.specs.List.{list_any}
 use Rattle.std.proofs.lemmas.Bool.{and_parts, or_parts, cases_eq, eq-eqb, ne_eqb, cond-true, cond-false}

@@ -19,7 +19,7 @@ use Rattle.sc_calm_law.proofs.Lemmas.{ready_is}
 module _ (c : ℕ) (begun : Requests) (frame : Frame) (is : IsFrame frame) (first : ReplicaState) (free : IsFree first) (bound : ℕ) where
   -- ---- entries of a leader
 
-  -- it goes on, with so many tokens at most
+  -- it goes on, with at most this number of tokens
   record Holds (place : Place) : Type 0 where
     goes : Goes begun frame is first place.0
     low : next first ≤ next place.0
@@ -222,6 +222,6 @@ module _ (c : ℕ) (begun : Requests) (frame : Frame) (is : IsFrame frame) (me f
   stay_row (Answer group seq answer) k b due n = absurd (n b.1.client seq b.1.op b.1.is_begun b.1.to_is)
   stay_row _ k b due n = absurd b
 
--- While clients ask, no row of a replica raises how often a client's request is under way: as a request or an answer in mail, or as a call at the replica.
+-- While clients ask, no row of a replica raises how often a client's request is under way: as a request or an answer in mail, or as a queued request at the replica.
 pub tokens_stay : TokensStay
 tokens_stay scenario rows frame c me from body r is room k b due n = stay_row c (IsBegun scenario rows) frame is me from r room body k b due n

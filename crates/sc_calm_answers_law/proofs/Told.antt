@@ -1,4 +1,4 @@
--- What a journal tells of its replicas' locks, and of what they have in flight.
+-- What a journal records of its replicas' locks, and of what they have in flight.
 use Rattle.std.proofs.Common.{◌≡◌, ℕ, ◌≤◌, List, ◌++◌, drop, length, Some, refl, sym, ◌∙◌, ap, subst}
 use Rattle.std.proofs.lemmas.Option.{same_Some}
 use Rattle.sc_base.specs.Definitions.{Among, Each, united}
@@ -75,7 +75,7 @@ module _ (bounded : ValidScenariosAreBounded) (begin : ValidScenariosBeginWell) 
     shared : (c : Command) → Queues c → BeginsShared c
     shared c m tx body order is = (subst Queues is m).0.1
 
-    -- what was told of all
+    -- what was recorded of all
     apart_so : PartiesAreApart (stories_at as_nodes scenario.groups journal)
     apart_so = parties_are_apart sources scenario.groups well.place (entries_at as_nodes scenario.groups journal) (told_rows sources as_nodes scenario.groups well.place journal all.turn).allowed
 

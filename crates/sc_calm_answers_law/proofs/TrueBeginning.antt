@@ -1,4 +1,4 @@
--- What is known of an order since a quiet journal, from when it is told.
+-- What is known of an order since a quiet journal, from when it is given.
 use Rattle.std.proofs.Common.{◌≡◌, ℕ, eqb, true≢false, List, [], ◌∷◌, Option, Some, None, ◌⊎◌, inl, inr, refl, sym, ◌∙◌, ap, subst}
 use Rattle.std.proofs.lemmas.Bool.{cases_Bool, eq-eqb, eqb-true}
 use Rattle.sc_base.specs.Definitions.{Each, next_name}

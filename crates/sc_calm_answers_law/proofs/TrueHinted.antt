@@ -1,4 +1,4 @@
--- So each question goes to a node that has a replica of its group, and a coordinator that is to ask elsewhere is told whom.
+-- So each question goes to a node that has a replica of its group, and a coordinator that is to ask elsewhere learns whom.
 use Rattle.std.proofs.Common.{◌≡◌, ℕ, Bool, true, false, true≢false, List, [], ◌∷◌, Some, None, ◌⊎◌, inl, inr, refl, sym, ◌∙◌, ap, subst}
 use Rattle.sc_base.specs.Definitions.{Among, Each, least_of}
 use Rattle.sc_node_table.specs.Values.{Draw, Seat, Deliver, Command, Noop, Call, Join, RecordVote, RecordWatch, Base, Frozen, Mail, Flight}

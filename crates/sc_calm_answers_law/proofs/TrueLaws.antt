@@ -13,13 +13,13 @@ use Rattle.sc_calm_answers_law.proofs.Finishes.{finishes_true, entries_true}
 use Rattle.sc_calm_answers_law.proofs.Settling.{settled_begin, settled_go_on, coordinators_settle}
 use Rattle.sc_calm_answers_law.proofs.TrueHinted.{hinted_go_on}
 
--- What the lock of each replica's group says was told, and what a replica has in flight is allowed in its group's log, by what all logs of the journal tell.
+-- What the lock of each replica's group says was recorded, and what a replica has in flight is allowed in its group's log, by what all logs of the journal record.
 pub replicas_tell : ReplicasTell
 replicas_tell =
     replicas_tell_by valid_scenarios_are_bounded valid_scenarios_begin_well orders_are_allowed_allowed orders_are_allowed_wishes orders_are_allowed_positions
     names_have_one_owner_others
 
--- What a journal tells a transaction to have come to can be carried out by its participant, as it was when it voted.
+-- The outcome that a journal records of a transaction can be carried out by its participant, as it was when it voted.
 pub outcomes_are_taken : OutcomesAreTaken
 outcomes_are_taken =
     outcomes_taken valid_scenarios_are_bounded valid_scenarios_begin_well orders_are_allowed_allowed orders_are_allowed_wishes orders_are_allowed_positions
@@ -37,7 +37,7 @@ asked_groups_stood = asked_groups_stood_by replicas_tell
 pub true_orders_go_on : TrueOrdersGoOn
 true_orders_go_on = true_goes_on replicas_tell
 
--- What is known of an order since a quiet journal is so from when it is told: the name that its node draws was not in use, and its leader has executed nothing.
+-- What is known of an order since a quiet journal is so from when it is given: the name that its node draws was not in use, and its leader has executed nothing.
 pub true_orders_begin : TrueOrdersBegin
 true_orders_begin =
     true_begins valid_scenarios_are_bounded valid_scenarios_begin_well orders_are_allowed_allowed orders_are_allowed_wishes orders_are_allowed_positions
@@ -59,7 +59,7 @@ finishes_are_true = finishes_true replicas_tell valid_journals_are_sound valid_e
 pub entries_are_true : EntriesAreTrue
 entries_are_true = entries_true replicas_tell valid_journals_are_sound valid_entries_are_logs outcomes_are_taken votes_are_true records_are_true
 
--- Since a quiet journal nobody is asked to promise a ballot in the group that is told an order, or coordinates its transaction: not by the row that tells it.
+-- Since a quiet journal nobody is asked to promise a ballot in the group that gets an order, or coordinates its transaction: not by the row that gives it.
 pub settled_orders_begin : SettledOrdersBegin
 settled_orders_begin = settled_begin replicas_tell
 
@@ -71,6 +71,6 @@ settled_orders_go_on = settled_go_on replicas_tell
 pub coordinators_are_settled : CoordinatorsAreSettled
 coordinators_are_settled = coordinators_settle replicas_tell
 
--- And a leader asks the least member by a link, or whom it is told.
+-- A leader asks the least member by a link, or the node that a mail names.
 pub hinted_orders_go_on : HintedOrdersGoOn
 hinted_orders_go_on = hinted_go_on replicas_tell

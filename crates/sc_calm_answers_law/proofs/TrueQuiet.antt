@@ -41,7 +41,7 @@ module _ (scenario : Scenario) (quiet : Rows) (first : Route) (clients : _) (is 
         | inr gone ↦ absurd (no_route gone.into (sym l.stands ∙ (ap (λ (g : Group). g.core.gone) (newest_same s.lead.group.core.succ.group l.behind gone.last l.newest gone.newest) ∙ gone.went)))
       ]
 
-  -- .. and its least member, by the link, has a replica
+  -- the least member of the successor, by the link, has a replica
   pub link_least : AreReachable (replicas_after scenario quiet) → (name : Draw) (s : StandsQuiet (replicas_after scenario quiet) name) → HasReplica (replicas_after scenario quiet) s.lead.group.core.succ.group (least_of s.lead.group.core.succ.members)
   link_least reach name s = s.linked.nodes (least_of s.lead.group.core.succ.members) (least_in s.lead.group.core.succ.members (reach.links name s))
 

@@ -27,13 +27,13 @@ pub record TurnsMail (words : ℕ → ℕ → ℕ × ℕ) (births : List (Seat P
   pub has : HoldsReplica seat node base r
   pub row_ : IsReplicasRow births rows seat (Deliver number) base.core.id (Some r) (mailed mail.from mail.body (r, [])).0
 
--- .. makes one of a state
+-- a node of a seat makes a replica of a state
 pub record TurnsState (at : Sets) (by : Tellers) (births : List (Seat Player)) (rows : Rows) (seat : Seat Player) (event : Event OrderLine) (base : Base) (from slot : ℕ) (state : Base) (sets : List (List ℕ)) : Type 0 where
   pub was : view_at births rows base.core.id seat.who ≡ None
   pub logs : IsLogsState at by base slot from state sets
   pub then_ : view_at births (with_event rows seat event) base.core.id seat.who ≡ Some (made_by seat.who from base.core.id slot state sets).0
 
--- .. takes an order
+-- a node of a seat takes an order
 pub record TurnsOrder (births : List (Seat Player)) (rows : Rows) (seat : Seat Player) (event : Event OrderLine) (base : Base) (line : OrderLine) (node : NodeState) (r : ReplicaState) : Type 0 where
   pub event_is : event ≡ Told line
   pub was : view_at births rows base.core.id seat.who ≡ Some r

@@ -23,7 +23,7 @@ IsUnborn born base = list_any (λ other. same_draw other base.core.id) born ≡ 
 none_some : {P : Type 0} {x : Base} → None ≡ Some x → P
 none_some e = absurd (let bad : None ≡ Some _ = e in cc)
 
--- ---- a child that is borne is not known before
+-- ---- a child that is created is not known before
 
 named_unborn : (group : Group) (at : ℕ) (drawn : Draw) (kid : Base) → list_any (λ other. same_draw other drawn) group.core.born ≡ false → Some (child_of group at drawn) ≡ Some kid → IsUnborn group.core.born kid
 named_unborn group at drawn kid new e = (let own : child_of group at drawn ≡ kid = cc in subst (IsUnborn group.core.born) own new)

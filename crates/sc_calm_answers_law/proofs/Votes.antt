@@ -139,7 +139,7 @@ module _ (words : ℕ → ℕ → ℕ × ℕ) (births : List (Seat Player)) (row
       | inr d ↦ ap (λ b. (mailed mail.from b (r, [])).0.0.group) body ∙ (ap (λ (p : Place). p.0.group) d.is ∙ ((entries-run-alone flight.value is_work.0 d.readied d.lone is_work.1).group ∙ ap (λ x. (applied x flight.value).0) d.group))
     ]
 
-    -- .. and its state is the newest
+    -- the state of a leader that stops is the newest
     newest_is : (bond : Bond) → bond_of (applied r.group flight.value).0.core ≡ bond → after.0.running ≡ false → NewestAreBound births (with_event rows seat (Deliver number)) base.core.id bond
     newest_is bond leaves stops =
         let row = row_here words births rows seat number mail base node r h in

@@ -1,4 +1,4 @@
--- That no act waits at a replica with nothing in flight, since a quiet front of a calm journal.
+-- That no act waits at a replica with nothing in flight, since a quiet prefix of a calm journal.
 use Rattle.sc_calm_answers_law.proofs.NoneWaits.{none_waits as none_waits_by}
 use Rattle.sc_pump_law.proofs.Lemmas.{pumps_leave_none}
 use Rattle.sc_calm_mail_law.proofs.Lemmas.{journals_keep_idle, slots_are_left}
@@ -7,6 +7,6 @@ use Rattle.sc_calm_answers_law.proofs.KnownLaws.{fronts_are_found, no_mail_for_s
 use Rattle.sc_calm_logs_law.proofs.Lemmas.{slots_have_rosters}
 use Rattle.sc_calm_answers_law.specs.Definitions.{NoneWaits}
 
--- No act waits at a replica with nothing in flight: once an order is told, after each delivery, and in the next quiet front.
+-- No act waits at a replica with nothing in flight: once an order is given, after each delivery, and in the next quiet prefix.
 pub none_waits : NoneWaits
 none_waits = none_waits_by pumps_leave_none journals_keep_idle scenarios_are_well_born fronts_are_found slots_are_left scenarios_are_kept_born slots_have_rosters no_mail_for_strangers

@@ -1,4 +1,4 @@
--- An order that is told in a quiet journal stands at its group, or nothing does.
+-- An order given in a quiet journal stands at its group, or nothing does.
 use Rattle.std.proofs.Common.{◌≡◌, ℕ, ◌≤◌, eqb, cond, true, false, true≢false, List, [], ◌∷◌, ◌++◌, Option, Some, None, inl, inr, refl, sym, ◌∙◌, ap, subst}
 use Rattle.sc_base.specs.Definitions.{Each, next_name}
 use Rattle.sc_node_table.specs.Values.{Draw, Command, Order, OrderLine, OrderRefusal, Refused, Mail, Node, Client, Seat, Go, Input}

@@ -1,4 +1,4 @@
--- Which children a group knows to have borne: it forgets none, and knows each that an entry bears.
+-- Which children a group knows to have created: it forgets none, and knows each that an entry creates.
 use Rattle.std.proofs.Common.{◌≡◌, ◌⊎◌, ℕ, ◌&&◌, ◌||◌, not, nat_le, length, Bool, true, false, true≢false, cond, List, [], ◌∷◌, ◌++◌, Option, Some, None, inl, inr, refl, sym, ◌∙◌, ap, subst}
 use Rattle.std.specs.List.{list_any}
 use Rattle.std.proofs.lemmas.Bool.{cond_both}
@@ -19,7 +19,7 @@ module _ (group : Group) where
   abbrev Same : Group × Effect → Type 0
   Same x = x.0.core.born ≡ group.core.born
 
-  -- An entry bears none, and the group knows what it knew; or it bears one, which the group knows from then on.
+  -- An entry creates no child, and the group knows what it knew; or it creates one, which the group knows from then on.
   abbrev pub IsBirth : Group × Effect → Option Base → Type 0
   IsBirth x o = ((o ≡ None) × Same x) ⊎ ((at : ℕ) × (child : Draw) × (o ≡ Some (child_of group at child)) × (x.0.core.born ≡ group.core.born ++ child ∷ []))
 
@@ -220,13 +220,13 @@ module _ (group : Group) (command : Command) where
       some_of : {x y : Base} → Some x ≡ Some y → x ≡ y
       some_of e = cc
 
-  -- it knows what an entry bears
+  -- it knows the child that an entry creates
   pub bears_born : (kid : Base) → child_by group command ≡ Some kid → HasBorn kid.core.id (applied group command).0.core.born
   bears_born kid e =
       let k = kid_is kid e in
       subst (HasBorn kid.core.id) (sym k.3) (any_new (λ other. same_draw other kid.core.id) group.core.born k.1 (same_name k.1 kid.core.id (sym (ap (λ (b : Base). b.core.id) k.2))))
 
-  -- .. whose members are those that go
+  -- the members of the child are those that go
   pub kid_members : (kid : Base) → child_by group command ≡ Some kid → kid.core.members ≡ right_members group.core.members
   kid_members kid e = (let k = kid_is kid e in ap (λ (b : Base). b.core.members) k.2)
 

@@ -1,4 +1,4 @@
--- What stands at groups is kept from the order on, front by front.
+-- What stands at groups is kept from the order on, prefix by prefix.
 use Rattle.std.proofs.Common.{◌≡◌, ◌⊎◌, ℕ, eqb, Bool, true, false, List, [], drop, Some, inl, inr, refl, sym, ◌∙◌, ap, subst}
 use Rattle.std.proofs.lemmas.Bool.{cases_Bool, eq-eqb, eqb-true}
 use Rattle.sc_base.specs.Definitions.{Each}
@@ -27,7 +27,7 @@ use Rattle.sc_calm_answers_law.proofs.Tasks.{affair_by, begins_free}
 use Rattle.std.proofs.lemmas.Option.{same_Some}
 use Rattle.sc_calm_answers_law.proofs.OrderedSending.{each_filter}
 
--- what holds of an affair in a front
+-- what holds of an affair in a prefix
 pub record AreHeld (a : Affair) (words : ℕ → ℕ → ℕ × ℕ) (births : List (Seat Player)) (rows : Rows) : Type 0 where
   pub replicas : (name : Draw) (who : ℕ) (r : ReplicaState) → view_at births rows name who ≡ Some r → HeldSo a name r
   pub mail : (who : ℕ) → is_born (players words births) who ≡ true → AreGood a (rest (players words births) rows who)
@@ -42,7 +42,7 @@ module _ (a : Affair) (words : ℕ → ℕ → ℕ × ℕ) (births : List (Seat 
   who_or : (node : ℕ) → (node ≡ seat.who) ⊎ (node ≡ seat.who → ⊥)
   who_or node = elim (cases_Bool (eqb node seat.who)) [ inl t ↦ inl (eqb-true node seat.who t) | inr f ↦ inr (λ e. (let g : true ≡ false = sym (eq-eqb node seat.who e) ∙ f in absurd cc)) ]
 
-  -- a front goes on by what its row leaves and sends
+  -- a prefix goes on by what its row leaves and sends
   pub goes_on : RowHolds a words births rows seat event → AreHeld a words births rows → AreHeld a words births (with_event rows seat event)
   goes_on h k = record {
     replicas = λ name who r v. elim (who_or who) [
@@ -137,7 +137,7 @@ held_back : (b : Bool) (told child name : Draw) (r : ReplicaState) → HeldSo (a
 held_back true told child name r k = record { calls = k.0; acts = k.1; flights = k.2; ready = k.3; state = k.4 }
 held_back false told child name r k = record { calls = k.0; acts = k.1; flights = k.2; ready = k.3; state = k.4 }
 
--- .. which its group did not know
+-- a child that its group did not know
 module _ (well : ScenariosAreWellBorn) (words : ℕ → ℕ → ℕ × ℕ) (scenario : Scenario) (rows : Rows) (seat : Seat Player) (number : ℕ) (g : IsGuidedRow words scenario rows seat number) where
   unborn_by : (b : Bool) (told child : Draw) → AreHeld (affair_by b told child) words (births as_nodes scenario) rows → (mail : Mail) (group : Draw) (node : NodeState) (r : ReplicaState) → IsTaking words (births as_nodes scenario) rows seat number mail group node
       → replica_of group node.replicas ≡ Some r → Each (λ (kid : Base). BearsBy b told child group kid × IsUnborn r.group.core.born kid) (mailed mail.from mail.body (r, [])).1

@@ -31,7 +31,7 @@ use Rattle.sc_calm_answers_law.proofs.Taking.{Hears, mailed_fine, mailed_kids, m
 use Rattle.std.proofs.lemmas.Option.{same_Some}
 use Rattle.sc_calm_answers_law.proofs.Playing.{plays_of}
 
--- what holds of a replica at a front, but its name and what its leader counted
+-- what holds of a replica at a prefix, but its name and what its leader counted
 abbrev pub HeldSo : Affair → Draw → ReplicaState → Type 0
 HeldSo a name r = (r.calls ≡ []) × AllDo a name r.acts × Fly a name r.leader.flights × Wait a name r.ready × a.Is name r.group.core
 
@@ -158,7 +158,7 @@ module _ (well : ScenariosAreWellBorn) (a : Affair) (begins : BeginsFree a) (wor
             let low = kept.2 in
             omega (arith, high, low)
 
-        -- what is told next finds nothing in flight
+        -- a Learn of the next slot finds nothing in flight
         learn_finds : (n : Draw) (slot : ℕ) (command : Command) → mail.body ≡ Learn n slot command → slot ≡ next r → r.leader.flights ≡ []
         learn_finds n slot command e same = by (meets.here mail group node r t here)
           where
@@ -291,11 +291,11 @@ module _ (well : ScenariosAreWellBorn) (a : Affair) (begins : BeginsFree a) (wor
   pub delivery_holds : Done
   delivery_holds = player_so (value player_table seat rows) refl
 
-  -- and each child that a replica makes is one that it may bear
+  -- each child that a replica makes is one that it may create
   pub delivery_bears : (group : Draw) (node : NodeState) (r : ReplicaState) (t : IsTaking words (births as_nodes scenario) rows seat number mail group node) → replica_of group node.replicas ≡ Some r → Kids a group (mailed mail.from mail.body (r, [])).1
   delivery_bears group node r t here = kids node t.is_node group t r here (groups group seat.who r (view_of node t.is_node group (Some r) here))
 
-  -- .. of a name that the group did not know
+  -- the child has a name that the group did not know
   pub delivery_unborn : ((name : Draw) (x : Group) (command : Command) (kid : Base) → a.Is name x.core → child_by x command ≡ Some kid → IsUnborn x.core.born kid)
       → (group : Draw) (node : NodeState) (r : ReplicaState) (t : IsTaking words (births as_nodes scenario) rows seat number mail group node) → replica_of group node.replicas ≡ Some r → Each (λ (kid : Base). a.Bears group kid × IsUnborn r.group.core.born kid) (mailed mail.from mail.body (r, [])).1
   delivery_unborn unborn group node r t here = new_kids node t.is_node group t r here (groups group seat.who r (view_of node t.is_node group (Some r) here)) unborn

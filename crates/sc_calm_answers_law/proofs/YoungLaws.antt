@@ -13,7 +13,7 @@ use Rattle.sc_names_law.proofs.Lemmas.{orders_are_allowed_allowed, orders_are_al
 use Rattle.sc_calm_logs_law.proofs.Lemmas.{views_are_replicas}
 use Rattle.sc_following_law.proofs.Lemmas.{quiet_members_know}
 
--- A group that was nowhere in a quiet journal stays as it begins while an order is under way: once the order is told, and by each delivery.
+-- A group that was nowhere in a quiet journal stays as it begins while an order is under way: once the order is given, and by each delivery.
 pub young_groups_stay : YoungGroupsStay
 young_groups_stay = groups_stay scenarios_are_well_born children_are_begun
 

@@ -123,7 +123,7 @@ module _ (laws : OfJournals) (more_laws : OfMembers) (words : ℕ → ℕ → �
           let was = state_of laws words scenario journal calm p.0 p.1 quiet under.rests.front old.0 old.1 (ap (λ n. view_at (births as_nodes scenario) quiet n old.0) p.2 ∙ old.2) in
           true≢false (sym (subst (λ (g : Group). HasBorn task.name g.core.born) (sym was.2) (log_stays task.name (group_of p.0) (take was.0 (decided_log as_nodes p.0 journal)) has)) ∙ of.unknown on task.group old.0 old.1 old.2)
 
-      -- the entry by which it was borne
+      -- the entry that creates it
       entry : (m : ℕ) × (m < state.0) × ((kid : Base) × Among kid (groups_at as_nodes scenario.groups journal) × (kid.core.id ≡ task.name) × (kid.core.members ≡ right_members (State m).core.members)) × HasBorn task.name (State (suc m)).core.born
       entry = first_known laws words scenario journal calm p.0 p.1 task.name state.0 (subst (λ (g : Group). HasBorn task.name g.core.born) state.2 borne_of.2) not_first
 

@@ -46,7 +46,7 @@ module _ (words : ℕ → ℕ → ℕ × ℕ) (births : List (Seat Player)) (row
   abbrev pub AllStay : Type 0
   AllStay = (name : Draw) → view_at births (with_event rows seat (Deliver number)) name seat.who ≡ view_at births rows name seat.who
 
-  -- one takes a mail, and others stay or are borne
+  -- one takes a mail, and others stay or are created
   pub record Takes (mail : Mail) : Type 0 where
     pub group : Draw
     pub node : NodeState

@@ -56,7 +56,7 @@ module _ (laws : OfJournals) (words : ℕ → ℕ → ℕ × ℕ) (scenario : Sc
     abbrev log : List Command
     log = decided_log as_nodes base journal
 
-    -- the group after so many entries
+    -- the group after k entries
     abbrev pub State : ℕ → Group
     State k = state_after (group_of base) (take k (decided_log as_nodes base journal))
 
@@ -75,7 +75,7 @@ module _ (laws : OfJournals) (words : ℕ → ℕ → ℕ × ℕ) (scenario : Sc
       | inr (kid, a, e) ↦ inr (kid, all_found.fronts base stands (take k log) (drop k log) (sym (take-append-drop k log)) kid a, e)
     ]
 
-    -- .. and later ones too
+    -- later states know it too
     state_step : (name : Draw) (k : ℕ) → HasBorn name (State k).core.born → HasBorn name (State (suc k)).core.born
     state_step name k has = elim (take_more k log) [
       | inl e ↦ subst (λ l. HasBorn name (state_after (group_of base) l).core.born) (sym e) has
@@ -91,7 +91,7 @@ module _ (laws : OfJournals) (words : ℕ → ℕ → ℕ × ℕ) (scenario : Sc
     pub state_stays : (name : Draw) (k later : ℕ) → k ≤ later → HasBorn name (State k).core.born → HasBorn name (State later).core.born
     state_stays name k later least has = steps_stay name (later - k) k later (omega (arith, least)) has
 
-    -- an entry by which it comes to be known bears it: it is of the journal, and its members are those that go
+    -- an entry by which it comes to be known creates it: it is of the journal, and its members are those that go
     pub borne_by : (name : Draw) (k : ℕ) → HasBorn name (State (suc k)).core.born → HasBorn name (State k).core.born ⊎ ((kid : Base) × Among kid (groups_at as_nodes scenario.groups journal) × (kid.core.id ≡ name) × (kid.core.members ≡ right_members (State k).core.members))
     borne_by name k has = elim (take_more k log) [
       | inl e ↦ inl (subst (λ l. HasBorn name (state_after (group_of base) l).core.born) e has)
@@ -109,7 +109,7 @@ module _ (laws : OfJournals) (words : ℕ → ℕ → ℕ × ℕ) (scenario : Sc
               kid_members (State k) command kid is,
             )
 
-    -- so one that is known in a state and not as the group begins is borne by an entry before
+    -- so one that is known in a state and not as the group begins is created by an entry before
     pub first_known : (name : Draw) (k : ℕ) → HasBorn name (State k).core.born → (HasBorn name (State zero).core.born → ⊥)
         → (m : ℕ) × (m < k) × ((kid : Base) × Among kid (groups_at as_nodes scenario.groups journal) × (kid.core.id ≡ name) × (kid.core.members ≡ right_members (State m).core.members)) × HasBorn name (State (suc m)).core.born
     first_known name zero has not = absurd (not has)

@@ -1,4 +1,4 @@
--- Once an order is told in quiet nothing is there that was nowhere, and no group knows the child that the order may make.
+-- Once an order is given in quiet nothing is there that was nowhere, and no group knows the child that the order may make.
 use Rattle.std.proofs.Common.{◌≡◌, ℕ, eqb, true≢false, List, [], Option, Some, None, inl, inr, refl, sym, ◌∙◌, ap, subst}
 use Rattle.std.proofs.lemmas.Bool.{cases_Bool, eq-eqb, eqb-true}
 use Rattle.sc_base.specs.Definitions.{Drawer, next_name}
@@ -22,7 +22,7 @@ use Rattle.sc_calm_answers_law.proofs.Logs.{At}
 use Rattle.sc_calm_answers_law.proofs.Parts.{pumps}
 use Rattle.std.proofs.lemmas.Option.{same_Some}
 
--- an order that is told leaves the group
+-- an order that is given leaves the group
 ordered_same : (drawer : Drawer) (line : OrderLine) (r : ReplicaState) → (ordered_row drawer line (r, [])).0.group ≡ r.group
 unfolding ordered_row
 ordered_same drawer line r = by (untaken drawer line r)

@@ -10,7 +10,7 @@ use Rattle.sc_following_law.specs.Definitions.{Dated, Mark, Asks, Votes, Tells, 
 use Rattle.sc_calm_rows_law.specs.Definitions.{view_at}
 use Rattle.sc_calm_groups_law.specs.Definitions.{dated_at}
 
--- one that has accepted nothing from a slot on is asked to promise from no slot below that
+-- a node that has accepted nothing from the slot `top` on is asked to promise a ballot only for slots from `top` or a later one on; other marks ask nothing of it
 abbrev pub IsAbove : ℕ → Mark → ℕ → Type 0
 IsAbove top (Prepares ballot) from = top ≤ from
 IsAbove top (Asks ballot slot) from = Unit {0}
@@ -19,7 +19,7 @@ IsAbove top (Tells slot) from = Unit {0}
 IsAbove top (Installs slot) from = Unit {0}
 IsAbove top (Promises node ballot) from = Unit {0}
 
--- the slot from which on it has accepted nothing after it took a mail
+-- the slot from which on a node has accepted nothing, after it takes a mail with this mark: only a mail that asks it to accept raises it
 abbrev pub top_by : ℕ → Mark → ℕ
 top_by top (Asks ballot slot) = max top (suc slot)
 top_by top (Prepares ballot) = top
@@ -28,16 +28,16 @@ top_by top (Tells slot) = top
 top_by top (Installs slot) = top
 top_by top (Promises node ballot) = top
 
--- .. by each of these, one after another
+-- each of these marks is as `IsAbove` says, where the node takes the mail in this order
 abbrev pub AreAbove : ℕ → List Dated → Type 0
 AreAbove top [] = Unit {0}
 AreAbove top (d ∷ dated) = IsAbove top d.0 d.1 × AreAbove (top_by top d.0) dated
 
--- a replica has accepted nothing from a slot on
+-- a replica has accepted nothing from the slot `top` on
 abbrev pub HasBelow : ℕ → ReplicaState → Type 0
 HasBelow top r = Each (λ report. report.slot < top) r.acceptor.accepted
 
--- After some rows, in a course: no node has accepted or is asked to accept anything at a slot at which nothing was offered, and each is asked to promise from above all that it has accepted by then; and none has a report that binds it, or saw a later ballot than the leader's.
+-- what holds of a group after some rows, in a course: no node has accepted, or is asked to accept, anything at a slot at which nothing was offered; each node is asked to promise only from above all that it has accepted by then; no replica keeps a report, and none has seen a later ballot than the course's
 pub record IsAskedOn (words : ℕ → ℕ → ℕ × ℕ) (births : List (Seat Player)) (rows : Rows) (base : Base) (course : Course) : Type 0 where
   pub tops : ℕ → ℕ
   pub low : (node : ℕ) → tops node ≤ course.bound

@@ -1,4 +1,4 @@
--- That the rows of a journal guide its groups.
+-- Each row of a journal finds its groups guided (`IsGuided`).
 use Rattle.std.specs.Prelude.{ℕ, ◌++◌, ◌≡◌}
 use Rattle.sc_node_table.specs.Values.{Seat, Event, Base, OrderLine}
 use Rattle.sc_calm_answers_law.specs.Guided.{AreBoundBy, IsGuided, IsReachedSo}
@@ -14,7 +14,7 @@ use Rattle.sc_orderly_law.specs.Definitions.{IsCalmEvent, AreInTime}
 use Rattle.sc_scenario.specs.declared.scenarios.Scenario.{Scenario}
 use Rattle.sc_sound.specs.Definitions.{Player, as_nodes, births}
 
--- A group of a journal whose rows come in time is guided at a row, where its mail up to the row is sent so, no replica of it uses up its slots or its rounds, it is well led before the row, some replica of it is at its newest state, and its replicas are bound by what they have executed.
+-- a group of a journal whose rows come in time is guided at a row, where its mail up to the row is as `IsSentSo` says, no replica of it uses up its slots or rounds, it is well led before the row, some replica of it has its newest state, and what its replicas are bound by depends only on how much they have executed
 abbrev pub RowsAreGuided : Type 0
 RowsAreGuided =
     (words : ℕ → ℕ → ℕ × ℕ) (scenario : Scenario) (journal rows more : Rows) (seat : Seat Player) (event : Event OrderLine) (base : Base) (course : Course) (bonds : ℕ → Bond) → IsGroupOf as_nodes words scenario journal base

@@ -1,4 +1,4 @@
--- That every request of a calm scenario at its budget is answered.
+-- Every request of a calm scenario at its budget is answered.
 use Rattle.std.specs.Prelude.{◌≡◌, ℕ, ◌+◌, ◌≤◌, true, false, List, ◌∷◌, length}
 use Rattle.sc_node_table.specs.Values.{Base, OrderLine, Mail, Row}
 use Rattle.sc_actor.specs.Definitions.{is_quiet, unsettled}
@@ -10,32 +10,32 @@ use Rattle.sc_calm_charts_law.specs.Definitions.{chart_at}
 use Rattle.sc_budget_law.specs.Definitions.{IsQuietJournal, AreAnswered, orders_of, IsCalmAtBudget}
 use Rattle.sc_calm_answers_law.specs.Lines.{AreCharted}
 
--- In each lawful journal of a valid calm scenario at its budget no line is cut off with mail pending.
+-- in each lawful journal of a valid calm scenario at its budget no line of deliveries is cut off with mail pending
 abbrev pub CalmLinesSettle : Type 0
 CalmLinesSettle =
     (words : ℕ → ℕ → ℕ × ℕ) (scenario : Scenario) (journal : List (Row Mail OrderLine)) → IsValid scenario → IsCalmAtBudget scenario → Lawful as_nodes words scenario journal
     → unsettled (system_of as_nodes words scenario) (schedule scenario) journal ≡ false
 
--- Each lawful journal of one that gives an order, in which no mail is pending, is as a quiet journal asks it.
+-- each lawful journal with no mail pending, of a valid calm scenario at its budget that gives an order, is a quiet journal (`IsQuietJournal`)
 abbrev pub CalmJournalsRest : Type 0
 CalmJournalsRest =
     (words : ℕ → ℕ → ℕ × ℕ) (scenario : Scenario) (first : Base) (others : List Base) (rows : List (Row Mail OrderLine)) → IsValid scenario → IsCalmAtBudget scenario → 1 ≤ orders_of scenario → scenario.groups ≡ first ∷ others
     → Lawful as_nodes words scenario rows → is_quiet (system_of as_nodes words scenario) rows ≡ true → IsQuietJournal words scenario first rows
 
--- So in each whole journal of a valid calm scenario at its budget every request of a client that goes before a line of deliveries is answered.
+-- in each whole lawful journal of a valid calm scenario at its budget every request is answered of a client whose `go` line is followed by a line of deliveries
 abbrev pub CalmRequestsAreAnswered : Type 0
 CalmRequestsAreAnswered =
     (words : ℕ → ℕ → ℕ × ℕ) (scenario : Scenario) (journal : List (Row Mail OrderLine)) → IsValid scenario → IsCalmAtBudget scenario → Lawful as_nodes words scenario journal → Whole as_nodes words scenario journal → AreAnswered scenario journal
 
--- The charts of a calm scenario: no way by hints is longer than one more than there are orders, and no client is sent on more often than there are groups and orders.
+-- the charts of a calm scenario, by which the potential of its journals is counted: with G groups and N orders no way by hints is longer than N + 1, and no client is sent on more often than G + N times
 abbrev pub charts_of : (ℕ → ℕ → ℕ × ℕ) → Scenario → Rows → Chart
 charts_of words scenario = chart_at (orders_of scenario + 1) (length scenario.groups + orders_of scenario) (players words (births as_nodes scenario))
 
--- By these each row of a valid calm scenario that gives an order finds what keeps its journal calm, and quiet journals rest.
+-- for each valid calm scenario at its budget that gives an order the charts of `charts_of` are as `AreCharted` says: by them each row of its lawful journals finds what the potential needs, and journals with no mail pending rest, as long as no more than `calm_deliveries_of` deliveries are made
 abbrev pub CalmJournalsAreCharted : Type 0
 CalmJournalsAreCharted = (words : ℕ → ℕ → ℕ × ℕ) (scenario : Scenario) → IsValid scenario → IsCalmAtBudget scenario → 1 ≤ orders_of scenario → AreCharted words scenario (charts_of words scenario)
 
--- So calm journals go on calmly, by the charts of their scenario, and rest in quiet.
+-- calm journals have charts by which the potential falls with each delivery, and each of them with no mail pending is a quiet journal
 pub record CalmJournalsGoOn : Type 0 where
   pub charted : CalmJournalsAreCharted
   pub rests : CalmJournalsRest

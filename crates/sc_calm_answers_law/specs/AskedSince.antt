@@ -1,4 +1,4 @@
--- All that holds while clients ask alone since a quiet front of a calm journal: it begins so, each row keeps it, and the journal rests again once it is quiet.
+-- What holds while clients ask alone since a quiet prefix of a calm journal: it begins so, each row keeps it, and the journal rests again once it is quiet.
 use Rattle.std.specs.Prelude.{◌≡◌, ℕ, ◌+◌, ◌≤◌, true, false, List, [], ◌∷◌, ◌++◌}
 use Rattle.sc_base.specs.Definitions.{Among, Each}
 use Rattle.sc_node_table.specs.Values.{Draw, Base, OrderLine, Mail, Seat, Event, Row}
@@ -20,16 +20,16 @@ use Rattle.sc_calm_answers_law.specs.Journal.{IsCalmJournal, IsFront, AreSent}
 use Rattle.sc_calm_answers_law.specs.Resting.{RestsAt}
 use Rattle.sc_calm_answers_law.specs.Requested.{IsKnownFront, IsRequested}
 
--- A quiet front that rests is known so, where ways may be longer by one than orders were told.
+-- a quiet prefix that rests is known (`IsKnownFront`), where ways may be longer by one than the number of orders given so far
 abbrev pub RestingFrontsAreKnown : Type 0
 RestingFrontsAreKnown =
     (words : ℕ → ℕ → ℕ × ℕ) (scenario : Scenario) (first : Base) (journal quiet : Rows) (far : ℕ) → IsCalmJournal words scenario journal → RestsAt words scenario first journal quiet → orders quiet + 1 ≤ far → IsKnownFront words scenario journal quiet far
 
--- In a front of a calm journal whose groups are well led each replica of each node may pump.
+-- each replica of each node may pump after a prefix of a calm journal whose groups are well led
 abbrev pub SentNodesMayPump : Type 0
 SentNodesMayPump = (words : ℕ → ℕ → ℕ × ℕ) (scenario : Scenario) (journal rows : Rows) → IsCalmJournal words scenario journal → IsFront journal rows → AreSent words scenario journal rows → NodesMayPump scenario rows
 
--- Since a quiet front that rests, and is known, clients asked alone: players and mail are as requests leave them, all groups are well led, what becomes of those that left a group is as hints rise by, and each group keeps its ballot.
+-- since a quiet prefix that rests clients have asked alone: players and mail are as requests leave them (`IsRequested`), all groups are well led, hints rise in them (`IsRisingOn`), and each group has the ballot that it had in the quiet prefix
 pub record IsAskedSince (words : ℕ → ℕ → ℕ × ℕ) (scenario : Scenario) (first : Base) (far sends : ℕ) (journal quiet after : Rows) : Type 0 where
   pub rests : RestsAt words scenario first journal quiet
   pub known : IsKnownFront words scenario journal quiet far
@@ -39,26 +39,26 @@ pub record IsAskedSince (words : ℕ → ℕ → ℕ × ℕ) (scenario : Scenari
   pub rising : (base : Base) (among : Among base (groups_at as_nodes scenario.groups journal)) → IsRisingOn (logged_sets as_nodes base journal) (tellers_at as_nodes scenario base journal) words (births as_nodes scenario) (quiet ++ after) base (sent base among).course
   pub ballots : (base : Base) (among : Among base (groups_at as_nodes scenario.groups journal)) → IsBallotSince (rests.sent base among).course (sent base among).course
 
--- So it is with nothing behind, and no request waits ..
+-- after a quiet prefix that rests, `IsAskedSince` holds with no row behind it, and no request waits
 abbrev pub RequestsBeginAsked : Type 0
 RequestsBeginAsked =
     (words : ℕ → ℕ → ℕ × ℕ) (scenario : Scenario) (first : Base) (others : List Base) (far sends : ℕ) (journal quiet : Rows) → IsCalmJournal words scenario journal → scenario.groups ≡ first ∷ others → RestsAt words scenario first journal quiet → orders quiet + 1 ≤ far
     → IsAskedSince words scenario first far sends journal quiet [] × NobodyWaits scenario first quiet
 
--- .. and whatever comes next in order, which tells no order, leaves it so ..
+-- `IsAskedSince` holds after one event more that comes in order, a client that starts or a delivery
 abbrev pub RequestsStayAsked : Type 0
 RequestsStayAsked =
     (words : ℕ → ℕ → ℕ × ℕ) (scenario : Scenario) (first : Base) (others : List Base) (far sends : ℕ) (journal quiet after : Rows) (seat : Seat Player) (event : Event OrderLine) → IsCalmJournal words scenario journal → scenario.groups ≡ first ∷ others
     → IsAskedSince words scenario first far sends journal quiet after → IsFront journal (with_event (quiet ++ after) seat event) → IsSeat (births as_nodes scenario) seat
     → IsInOrder (players words (births as_nodes scenario)) (quiet ++ after) seat.who event → IsAskedSince words scenario first far sends journal quiet (after ++ row_of player_table seat (quiet ++ after) event ∷ [])
 
--- .. and so does each row of the journal that tells no order ..
+-- `IsAskedSince` holds after each further row of the journal that gives no order
 abbrev pub AskedRowsGoOn : Type 0
 AskedRowsGoOn =
     (words : ℕ → ℕ → ℕ × ℕ) (scenario : Scenario) (first : Base) (others : List Base) (far sends : ℕ) (journal quiet after : Rows) (row : Row Mail OrderLine) → IsCalmJournal words scenario journal → scenario.groups ≡ first ∷ others
     → IsAskedSince words scenario first far sends journal quiet after → IsFront journal (quiet ++ (after ++ row ∷ [])) → is_told row.event ≡ false → IsAskedSince words scenario first far sends journal quiet (after ++ row ∷ [])
 
--- .. and whatever comes next finds what keeps the journal calm, where no client is sent on more often than any.
+-- while clients ask alone the next event finds what the potential needs, where no client is sent on more often than the chart allows (`AreNear`)
 abbrev pub AskedRowsFindCalm : Type 0
 AskedRowsFindCalm =
     (words : ℕ → ℕ → ℕ × ℕ) (scenario : Scenario) (first : Base) (others : List Base) (far sends : ℕ) (journal quiet after : Rows) (seat : Seat Player) (event : Event OrderLine) → IsCalmJournal words scenario journal → scenario.groups ≡ first ∷ others
@@ -66,13 +66,13 @@ AskedRowsFindCalm =
     → quiet_front (players words (births as_nodes scenario)) (quiet ++ after) ≡ quiet → AreNear scenario (chart_at far sends (players words (births as_nodes scenario)) (quiet ++ after)) first (quiet ++ after)
     → FindsCalm (chart_at far sends (players words (births as_nodes scenario)) (quiet ++ after)) (births as_nodes scenario) (quiet ++ after) seat event
 
--- While clients ask, the groups that have replicas are those that had any in the quiet.
+-- while clients ask alone, the groups that have a replica are exactly those that had one in the quiet prefix
 abbrev pub RequestsKeepGroups : Type 0
 RequestsKeepGroups =
     (words : ℕ → ℕ → ℕ × ℕ) (scenario : Scenario) (first : Base) (others : List Base) (far sends : ℕ) (journal quiet after : Rows) → IsCalmJournal words scenario journal → scenario.groups ≡ first ∷ others → IsAskedSince words scenario first far sends journal quiet after → (name : Draw)
     → (IsThere (births as_nodes scenario) (quiet ++ after) name → IsThere (births as_nodes scenario) quiet name) × (IsThere (births as_nodes scenario) quiet name → IsThere (births as_nodes scenario) (quiet ++ after) name)
 
--- Where it is quiet again, and errands went to players, the journal rests again.
+-- where the journal is quiet again after requests alone, and all mail of transactions went to players, it rests again
 abbrev pub RequestsRestAgain : Type 0
 RequestsRestAgain =
     (words : ℕ → ℕ → ℕ × ℕ) (scenario : Scenario) (first : Base) (others : List Base) (far sends : ℕ) (journal quiet after : Rows) → IsCalmJournal words scenario journal → scenario.groups ≡ first ∷ others → IsAskedSince words scenario first far sends journal quiet after

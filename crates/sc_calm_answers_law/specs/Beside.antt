@@ -1,4 +1,4 @@
--- What a mail finds at a replica beside the leader.
+-- What a mail finds at a replica that does not lead.
 use Rattle.std.specs.Prelude.{List, None, Some, [], false, true, ℕ, ◌≡◌}
 use Rattle.sc_node_table.specs.Values.{Seat, Deliver, Base, OrderLine, OrderRefusal, Mail, MailBody, Accept, Accepted, Answer, Ask, Install, Learn, Nack, Prepare, Promise, Request, TxElsewhere, TxOutcome, TxPrepare, TxVote, TxWatch, TxWatched, Told as ToldMail}
 use Rattle.sc_actor.specs.declared.rows.Event.TheVariants.{Told}
@@ -10,7 +10,7 @@ use Rattle.sc_calm_scenes_law.specs.Definitions.{IsOrdered, BesideFinds, IsBesid
 use Rattle.sc_node_table.specs.Definitions.{NodeState, group_of_order, replica_of, ordered_row, untaken, ReplicaState, settled, mailed, noted_outcome, standing_vote}
 use Rattle.sc_sound.specs.Definitions.{Player}
 
--- A node takes a mail of a group of which it has a replica: the group is guided at this row, the replica is its node's, and where it does not run it has nothing to do.
+-- a node takes a mail of a group of which it has a replica: the group is guided at this row, the replica is the node's own, and where it does not run it has nothing to do
 pub record IsHere (words : ℕ → ℕ → ℕ × ℕ) (births : List (Seat Player)) (rows : Rows) (seat : Seat Player) (number : ℕ) (mail : Mail) (base : Base) (node : NodeState) (r : ReplicaState) : Type 0 where
   pub guided : IsGuided words births rows seat (Deliver number) base
   pub taking : IsTaking words births rows seat number mail base.core.id node
@@ -18,7 +18,7 @@ pub record IsHere (words : ℕ → ℕ → ℕ × ℕ) (births : List (Seat Play
   pub me_is : r.me ≡ seat.who
   pub idle : r.running ≡ false → IsIdle r
 
--- What is settled of a transaction whose mail comes to a replica: no vote stands there on a question, no outcome is noted there on a vote; and a leader that is to ask elsewhere is told whom, and has its promises.
+-- what a mail of a transaction finds at a replica: a question, that the group has cast no vote on it; a vote, that no outcome of the transaction is noted; and a mail that sends a leader elsewhere names a node, and the leader has its promises
 abbrev pub IsUnsettled : ReplicaState → MailBody → Type 0
 IsUnsettled r (TxPrepare tx offer) = standing_vote r.group.core tx ≡ None
 IsUnsettled r (TxWatch tx watch) = standing_vote r.group.core tx ≡ None
@@ -38,13 +38,13 @@ IsUnsettled r (Request named client seq op) = Unit {0}
 IsUnsettled r (Answer named seq answer) = Unit {0}
 IsUnsettled r (ToldMail order result) = Unit {0}
 
--- A mail to a replica that does not run comes beside the leader: another leads alone, and this one does not run by it; or none runs, the newest states stay bound, and one that elects itself has no work and is bound so. And it finds what an order needs.
+-- a mail to a replica that does not run finds what an order needs: either another replica leads alone, and this one does not run after the row; or none runs, the newest state stays bound as it was, and a replica that elects itself has no work of the order
 pub record BesidesAreFound : Type 0 where
   pub beside : (words : ℕ → ℕ → ℕ × ℕ) (births : List (Seat Player)) (rows : Rows) (seat : Seat Player) (number : ℕ) (mail : Mail) (base : Base) (node : NodeState) (r : ReplicaState) → IsHere words births rows seat number mail base node r
       → r.running ≡ false → IsBeside births rows seat (Deliver number) base.core.id (mailed mail.from mail.body (r, [])).0
   pub finds : (words : ℕ → ℕ → ℕ × ℕ) (births : List (Seat Player)) (rows : Rows) (seat : Seat Player) (number : ℕ) (mail : Mail) (base : Base) (node : NodeState) (r : ReplicaState) → IsHere words births rows seat number mail base node r
       → r.running ≡ false → IsPosted births mail → IsUnsettled r mail.body → BesideFinds mail r mail.body
-  -- .. and so it is where such a one is told an order, which it refuses
+  -- an order given to a replica that does not run is refused; either another replica leads alone, or none runs and the newest state stays bound as it was
   pub told : (words : ℕ → ℕ → ℕ × ℕ) (births : List (Seat Player)) (rows : Rows) (seat : Seat Player) (line : OrderLine) (node : NodeState) (base : Base) (r : ReplicaState) → IsGuided words births rows seat (Told line) base
       → IsOrdered words births rows seat line node r → base.core.id ≡ group_of_order line.order → r.running ≡ false
       → IsBeside births rows seat (Told line) (group_of_order line.order) (ordered_row node.draws line (r, [])) × ((why : OrderRefusal) × (untaken node.draws line r ≡ Some why))

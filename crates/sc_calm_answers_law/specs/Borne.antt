@@ -1,4 +1,4 @@
--- The child that an order makes, while it is under way and in the next quiet journal.
+-- The child that an order makes, while the order is under way and in the next quiet journal.
 use Rattle.std.specs.Prelude.{◌≡◌, ℕ, true, false, [], ◌++◌, Some}
 use Rattle.std.specs.List.{list_any}
 use Rattle.sc_base.specs.Definitions.{Among, Each, same_draw, is_member}
@@ -18,11 +18,11 @@ use Rattle.sc_calm_answers_law.specs.Works.{AreAtWork, IsTaskOf, IsGuidedRow}
 use Rattle.sc_calm_answers_law.specs.Journal.{IsCalmJournal, GoesOnBy, IsNamedGroup}
 use Rattle.sc_calm_answers_law.specs.JournalUnder.{IsUnder}
 
--- a replica's group knows a child of this name
+-- the replica's state lists a child of this name
 abbrev pub Knows : Draw → ReplicaState → Type 0
 Knows name r = list_any (λ other. same_draw other name) r.group.core.born ≡ true
 
--- Of the groups of a journal, one that was nowhere in the quiet is there only if it is the child of an order that splits; where a node has a replica of that, its replica of the parent knows it; and where that knows it, and the node is one of its first members, it has one.
+-- of the groups of a journal, one that had no replica in the quiet prefix has one only if it is the child of an order that splits; a node with a replica of that child has a replica of the parent that lists it; and a first member of the child whose replica of the parent lists it has a replica of the child
 pub record AreBorneSo (scenario : Scenario) (journal quiet rows : Rows) (task : Task) : Type 0 where
   pub only : (base : Base) → Among base (groups_at as_nodes scenario.groups journal) → IsNowhere (births as_nodes scenario) quiet base.core.id → IsThere (births as_nodes scenario) rows base.core.id → (task.splits ≡ true) × (base.core.id ≡ task.name)
   pub known : task.splits ≡ true → (base : Base) → Among base (groups_at as_nodes scenario.groups journal) → base.core.id ≡ task.name → (who : ℕ) (x : ReplicaState) → view_at (births as_nodes scenario) rows task.name who ≡ Some x
@@ -30,12 +30,12 @@ pub record AreBorneSo (scenario : Scenario) (journal quiet rows : Rows) (task : 
   pub kept : task.splits ≡ true → (base : Base) → Among base (groups_at as_nodes scenario.groups journal) → base.core.id ≡ task.name → (who : ℕ) (r : ReplicaState) → is_member base.core.members who ≡ true
       → view_at (births as_nodes scenario) rows task.group who ≡ Some r → Knows task.name r → HasReplica (view_at (births as_nodes scenario) rows) task.name who
 
--- each replica is of a group of the journal
+-- after these rows each replica is of a group of the journal
 abbrev pub AreOfGroups : Scenario → Rows → Rows → Type 0
 AreOfGroups scenario journal rows =
     (name : Draw) (who : ℕ) (r : ReplicaState) → view_at (births as_nodes scenario) rows name who ≡ Some r → IsNamedGroup scenario journal name
 
--- one more delivery, while an order is under way that is to do this
+-- one more delivery while an order with this task is under way, in a calm journal whose groups are guided at the row
 pub record IsWorkingRow (words : ℕ → ℕ → ℕ × ℕ) (scenario : Scenario) (first : Base) (journal quiet rows : Rows) (line : OrderLine) (task : Task) (seat : Seat Player) (number : ℕ) : Type 0 where
   pub calm : IsCalmJournal words scenario journal
   pub under : IsUnder words scenario first journal quiet rows
@@ -45,7 +45,7 @@ pub record IsWorkingRow (words : ℕ → ℕ → ℕ × ℕ) (scenario : Scenari
   pub of : IsTaskOf (births as_nodes scenario) quiet line task
   pub work : AreAtWork task words (births as_nodes scenario) rows
 
--- So it is once an order is told in quiet, and after each delivery; the children that a row makes are young; and in the next quiet journal each group that has a replica has one at each of its first members, where no mail of it is for who is no actor.
+-- `AreBorneSo` holds once an order is given in quiet, and after each delivery; the children that a row makes are young; and in the next quiet journal each group that has a replica has one at each of its first members
 pub record ChildrenAreBorne : Type 0 where
   pub begins : (words : ℕ → ℕ → ℕ × ℕ) (scenario : Scenario) (journal quiet : Rows) (seat : Seat Player) (line : OrderLine) (task : Task) → IsSeat (births as_nodes scenario) seat → AreInTime (players words (births as_nodes scenario)) (with_event quiet seat (Told line))
       → IsTaskOf (births as_nodes scenario) quiet line task → AreBorneSo scenario journal quiet (with_event quiet seat (Told line)) task

@@ -1,4 +1,4 @@
--- What follows for groups and their children from what stands while an order is under way.
+-- What follows for groups and their children from what holds while an order is under way.
 use Rattle.std.specs.Prelude.{◌≡◌, ℕ, false, [], ◌++◌, Some}
 use Rattle.sc_base.specs.Definitions.{Among, Each}
 use Rattle.sc_node_table.specs.Values.{Draw, Base, OrderLine, Mail, Seat}
@@ -15,7 +15,7 @@ use Rattle.sc_calm_answers_law.specs.Tasks.{Task}
 use Rattle.sc_calm_answers_law.specs.Journal.{IsCalmJournal}
 use Rattle.sc_calm_answers_law.specs.JournalUnder.{IsUnder}
 
--- While an order is under way, nothing of a group comes to a first member that has no replica of it, where no mail of the group is for who is no actor: each first member of one that was there in the quiet has had one since, and none of the mail of any other is under way.
+-- while an order is under way, no mail of a group is pending for a first member that has no replica of it yet; each first member of a group that existed in the quiet prefix has had a replica since, and no mail of any other group is under way
 abbrev pub GroupsAreQuietWhileYoung : Type 0
 GroupsAreQuietWhileYoung =
     (words : ℕ → ℕ → ℕ × ℕ) (scenario : Scenario) (first : Base) (journal quiet rows more : Rows) → IsCalmJournal words scenario journal → IsUnder words scenario first journal quiet rows → rows ≡ quiet ++ more
@@ -23,7 +23,7 @@ GroupsAreQuietWhileYoung =
     → ((who : ℕ) → is_born (players words (births as_nodes scenario)) who ≡ false → marks_at (players words (births as_nodes scenario)) rows base.core.id who ≡ [])
     → IsQuietWhileYoung words (births as_nodes scenario) rows base
 
--- Each child that a row makes is of a group that was nowhere in the quiet.
+-- each child that a row makes is a group that had no replica in the quiet prefix
 abbrev pub ChildrenWereNowhere : Type 0
 ChildrenWereNowhere =
     (words : ℕ → ℕ → ℕ × ℕ) (scenario : Scenario) (quiet rows : Rows) (seat : Seat Player) (number : ℕ) (line : OrderLine) (task : Task) → IsTaskOf (births as_nodes scenario) quiet line task → IsGuidedRow words scenario rows seat number

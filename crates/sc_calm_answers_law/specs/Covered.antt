@@ -1,16 +1,16 @@
--- The deliveries that suffice for a calm scenario cover what all owe at their births, and what one order raises.
+-- The budget of a calm scenario covers what all players owe at their births and what one order raises.
 use Rattle.std.specs.Prelude.{◌≡◌, ◌+◌, ◌*◌, ◌≤◌, length}
 use Rattle.sc_scenario.specs.declared.scenarios.Scenario.{Scenario}
 use Rattle.sc_sound.specs.Definitions.{births, as_nodes}
 use Rattle.sc_calm_law.specs.Definitions.{Chart, births_owe}
 use Rattle.sc_budget_law.specs.Definitions.{orders_of, calm_budget_of}
 
--- By a scenario's first chart no way by hints is longer than one more than there are orders, and no client is sent on more often than there are groups and orders.
+-- the chart before the first row of a scenario with G groups and N orders: no way by hints is longer than N + 1, and no client is sent on more often than G + N times
 pub record IsFirstChart (scenario : Scenario) (first : Chart) : Type 0 where
   pub most : first.ways.most ≡ orders_of scenario + 1
   pub reach : first.reach.most ≡ length scenario.groups + orders_of scenario
 
--- so the budget covers what is owed by it, where there is an order
+-- by a first chart (`IsFirstChart`), where there is an order, what clients owe at their births and the most that one order raises are together at most the budget
 abbrev pub BirthsAreCovered : Type 0
 BirthsAreCovered =
     (scenario : Scenario) (first : Chart) → IsFirstChart scenario first → 1 ≤ orders_of scenario

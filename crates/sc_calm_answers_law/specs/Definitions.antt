@@ -1,4 +1,4 @@
--- The definitions of this crate that others cite, under one name.
+-- The definitions of this crate that other crates cite, under one name.
 pub use Rattle.sc_calm_answers_law.specs.Above.{IsAbove, top_by, AreAbove, HasBelow, IsAskedOn}
 pub use Rattle.sc_calm_answers_law.specs.Along.{RowsAreGuided}
 pub use Rattle.sc_calm_answers_law.specs.Answered.{CalmLinesSettle, CalmJournalsRest, charts_of, CalmJournalsAreCharted, CalmJournalsGoOn, CalmRequestsAreAnswered}

@@ -1,4 +1,4 @@
--- That charts follow one another while an order is under way.
+-- The charts of a calm journal follow one another while an order is under way.
 use Rattle.std.specs.Prelude.{◌≡◌, ℕ, true}
 use Rattle.sc_base.specs.Definitions.{Each}
 use Rattle.sc_node_table.specs.Values.{Seat, Event, OrderLine}
@@ -13,7 +13,7 @@ use Rattle.sc_calm_orders_law.specs.Definitions.{Stage, IsAt}
 use Rattle.sc_calm_scenes_law.specs.Definitions.{StageAfter, scene_at}
 use Rattle.sc_calm_answers_law.specs.KeptAsking.{AllLeadAlone}
 
--- The chart after a row of an order follows that before it, where the stage after the row is that before it or one to which the row leads, each replica that runs leads alone, before it and after it, and no client waits once it is quiet.
+-- the chart after a row of an order may follow the chart before it, where the stage after the row is that before it or one to which the row leads, each replica that runs leads its group alone before and after the row, and no client waits once the journal is quiet
 abbrev pub OrderChartsFollow : Type 0
 OrderChartsFollow =
     (words : ℕ → ℕ → ℕ × ℕ) (scenario : Scenario) (rows : Rows) (far sent : ℕ) (seat : Seat Player) (event : Event OrderLine) (stage : Stage) → AreInTime (players words (births as_nodes scenario)) (with_event rows seat event)

@@ -1,4 +1,4 @@
--- That a calm journal rests before its first row.
+-- A calm journal rests before its first row.
 use Rattle.std.specs.Prelude.{◌≡◌, ℕ, List, [], ◌∷◌}
 use Rattle.sc_node_table.specs.Values.{Base}
 use Rattle.sc_scenario.specs.declared.scenarios.Scenario.{Scenario}
@@ -6,7 +6,7 @@ use Rattle.sc_calm_law.specs.Definitions.{Rows}
 use Rattle.sc_calm_answers_law.specs.Journal.{IsCalmJournal}
 use Rattle.sc_calm_answers_law.specs.Resting.{RestsAt}
 
--- Before its first row a calm journal rests.
+-- before its first row a calm journal rests (`RestsAt`)
 abbrev pub JournalsBeginResting : Type 0
 JournalsBeginResting =
     (words : ℕ → ℕ → ℕ × ℕ) (scenario : Scenario) (first : Base) (others : List Base) (journal : Rows) → scenario.groups ≡ first ∷ others → IsCalmJournal words scenario journal → RestsAt words scenario first journal []

@@ -1,4 +1,4 @@
--- Which groups go while an order is under way since a quiet front: one at most, into its coordinator, which stood in the quiet.
+-- Which groups go while an order is under way since a quiet prefix: one at most, into the coordinator of its transaction, which stood in that prefix.
 use Rattle.std.specs.Prelude.{◌≡◌, ◌++◌, ℕ, true, None, Some, ◌⊎◌}
 use Rattle.sc_base.specs.Definitions.{Among, Each}
 use Rattle.sc_node_table.specs.Values.{Draw, Seat, Deliver, Offer, Finish, Prepared, Base, Route, OrderLine, Merged}
@@ -28,7 +28,7 @@ use Rattle.sc_calm_answers_law.specs.TrueEntries.{LeadsSince}
 use Rattle.sc_calm_answers_law.specs.TrueGoing.{GoesOnSince}
 use Rattle.sc_calm_answers_law.specs.TrueUnder.{AreSeen}
 
--- a group had a replica in the quiet that was gone
+-- some replica of the group was gone in the quiet prefix
 pub record WasGone (scenario : Scenario) (quiet : Rows) (name : Draw) : Type 0 where
   pub who : ℕ
   pub replica : ReplicaState
@@ -36,22 +36,22 @@ pub record WasGone (scenario : Scenario) (quiet : Rows) (name : Draw) : Type 0 w
   pub was : replicas_after scenario quiet name who ≡ Some replica
   pub gone : replica.group.core.gone ≡ Some into
 
--- .. or none was
+-- no replica of the group was gone in the quiet prefix
 abbrev pub NoneGone : Scenario → Rows → Draw → Type 0
 NoneGone scenario quiet name = (who : ℕ) (r : ReplicaState) → replicas_after scenario quiet name who ≡ Some r → r.group.core.gone ≡ None
 
--- the group for which the name of a transaction was drawn stood in the quiet
+-- the group for which the transaction's name was drawn was not gone in the quiet prefix
 abbrev pub OwnerStood : Scenario → Rows → Rows → Draw → Type 0
 OwnerStood scenario journal quiet tx = (coord : Draw) → (sources_of scenario journal).owner tx ≡ Some coord → NoneGone scenario quiet coord
 
--- By what the journal tells, a group promised a transaction and went by it, into here; and the group that began it stood in the quiet.
+-- by the logs of the whole journal the group promised this transaction and went into another by its outcome, and the group that began the transaction stood in the quiet prefix
 pub record HasMerged (scenario : Scenario) (journal quiet : Rows) (tx name : Draw) (into : Route) : Type 0 where
   pub offer : Offer
   pub offered : IsAllowedBy scenario journal name (Prepared tx offer)
   pub ended : IsAllowedBy scenario journal name (Finish tx (Merged into))
   pub stood : OwnerStood scenario journal quiet tx
 
--- at a stage the order has begun its transaction
+-- at this stage the order has begun its transaction
 abbrev pub HasBegun : Stage → Type 0
 HasBegun Still = ⊥
 HasBegun (Ordered group chief work) = ⊥
@@ -63,7 +63,7 @@ HasBegun (Recorded deal agreed host) = Unit {0}
 HasBegun (Closes tx party) = Unit {0}
 HasBegun (ClosesBoth tx one two) = Unit {0}
 
--- Since a quiet front an order has one transaction at most; the group that began it stood in the quiet; and each group that is gone after these rows was gone in the quiet, or went by that transaction.
+-- since a quiet prefix the order has one transaction at most, whose coordinator stood in that prefix; and each group that is gone now was gone then, or went by that transaction
 pub record IsGoingSince (scenario : Scenario) (journal quiet rows : Rows) (stage : Stage) : Type 0 where
   pub tx : Draw
   pub same : Each (λ other. other ≡ tx) (listed (tx_of stage))
@@ -71,14 +71,14 @@ pub record IsGoingSince (scenario : Scenario) (journal quiet rows : Rows) (stage
   pub went : (name : Draw) (node : ℕ) (r : ReplicaState) (into : Route) → view_at (births as_nodes scenario) rows name node ≡ Some r → r.group.core.gone ≡ Some into
       → WasGone scenario quiet name ⊎ HasMerged scenario journal quiet tx name into
 
--- So it is at each stage that stands once an order is told in a quiet front of a calm journal ..
+-- `IsGoingSince` holds at each stage that stands once an order is given in a quiet prefix that rests
 abbrev pub GoersBegin : Type 0
 GoersBegin =
     (words : ℕ → ℕ → ℕ × ℕ) (scenario : Scenario) (first : Base) (journal quiet : Rows) (seat : Seat Player) (line : OrderLine) (stage : Stage) → IsCalmJournal words scenario journal → RestsAt words scenario first journal quiet → AreSeen scenario quiet
     → IsToldInQuiet words (births as_nodes scenario) quiet seat line → IsFront journal (with_event quiet seat (Told line)) → IsAt stage (scene_at (births as_nodes scenario) (with_event quiet seat (Told line)))
     → IsGoingSince scenario journal quiet (with_event quiet seat (Told line)) stage
 
--- .. and so it stays by each delivery, where groups are well led, what each has executed is reached at some replica, and one that is nowhere is young after it, and what leaders do is known ..
+-- each delivery keeps `IsGoingSince`, where all groups are well led after it, some replica of each group has its newest state, groups with no replica are young, and each leader is as `LeadsSince` says
 abbrev pub GoersGoOn : Type 0
 GoersGoOn =
     (words : ℕ → ℕ → ℕ × ℕ) (scenario : Scenario) (first : Base) (journal quiet rows : Rows) (seat : Seat Player) (number : ℕ) (stage later : Stage) → GoesOnSince words scenario first journal quiet rows seat number stage → (sent : AreSent words scenario journal rows)
@@ -90,13 +90,13 @@ GoersGoOn =
     → IsAt later (scene_at (births as_nodes scenario) (with_event rows seat (Deliver number))) → (later ≡ stage) ⊎ GoesBy rows (Deliver number) stage later
     → IsGoingSince scenario journal quiet rows stage → IsGoingSince scenario journal quiet (with_event rows seat (Deliver number)) later
 
--- .. so that after some rows one group at most is gone that was not in the quiet, and it went into one that stands.
+-- while an order is under way one group at most is gone that was not gone in the quiet prefix, and it went into one that stands
 abbrev pub GoersGoAlone : Type 0
 GoersGoAlone =
     (words : ℕ → ℕ → ℕ × ℕ) (scenario : Scenario) (journal quiet rows : Rows) (stage : Stage) → IsCalmJournal words scenario journal → IsFront journal rows → IsGoingSince scenario journal quiet rows stage
     → (group : Draw) × GoesAlone scenario quiet rows group
 
--- So groups go one after another once the journal is quiet again.
+-- once the journal is quiet again after an order, groups go one after another (`GoInTurn`)
 abbrev pub GoersGoInTurn : Type 0
 GoersGoInTurn =
     (words : ℕ → ℕ → ℕ × ℕ) (scenario : Scenario) (first : Base) (journal quiet behind : Rows) (stage : Stage) → IsCalmJournal words scenario journal → RestsAt words scenario first journal quiet → IsFront journal (quiet ++ behind) → AreSent words scenario journal (quiet ++ behind)

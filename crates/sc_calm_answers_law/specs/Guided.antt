@@ -1,4 +1,4 @@
--- What is known of each group at a row of a calm journal: who leads it, and how its newest replicas are bound.
+-- What is known of each group at a row of a calm journal: who leads it, and what its newest replicas are bound by.
 use Rattle.std.specs.Prelude.{List, Some, [], false, true, ℕ, ◌≡◌, ◌≤◌, ◌⊎◌}
 use Rattle.sc_actor.specs.Definitions.{is_quiet}
 use Rattle.sc_node_table.specs.Values.{Seat, Event, Draw, Base, OrderLine}
@@ -13,19 +13,19 @@ use Rattle.sc_node_table.specs.Definitions.{ReplicaState, last_slot, next}
 use Rattle.sc_orderly_law.specs.Definitions.{is_born, AreInTime}
 use Rattle.sc_sound.specs.Definitions.{Player}
 
--- How replicas of a group are bound after some rows, by how much they have executed.
+-- after some rows each replica of a group is bound by what `bonds` says of its next slot
 abbrev pub AreBoundBy : (ℕ → Bond) → List (Seat Player) → Rows → Draw → Type 0
 AreBoundBy bonds births rows name = (node : ℕ) (r : ReplicaState) → view_at births rows name node ≡ Some r → bond_of r.group.core ≡ bonds (next r)
 
--- some replica of the group has executed all that is executed
+-- some replica of the group has executed all that any has executed by the course
 abbrev pub IsReached : List (Seat Player) → Rows → Base → Course → Type 0
 IsReached births rows base course = (node : ℕ) × (r : ReplicaState) × (view_at births rows base.core.id node ≡ Some r) × (next r ≡ course.newest)
 
--- .. if there is any
+-- where the group has a replica, some replica has executed all that any has executed by the course
 abbrev pub IsReachedSo : List (Seat Player) → Rows → Base → Course → Type 0
 IsReachedSo births rows base course = IsThere births rows base.core.id → IsReached births rows base course
 
--- A group at one row of players: it is well led before the row and after it; in the rows up to it its log is one, and its mail is sent so; its replicas are bound by what they have executed, before the row and after it; and some replica is at the newest state.
+-- a group is guided at a row: it is well led before the row and after it; up to the row its log is one and its mail is as `IsSentSo` says; what a replica is bound by depends only on how much it has executed, before the row and after it; and some replica has the newest state
 pub record IsGuided (words : ℕ → ℕ → ℕ × ℕ) (births : List (Seat Player)) (rows : Rows) (seat : Seat Player) (event : Event OrderLine) (base : Base) : Type 0 where
   pub at : Sets
   pub over : Ends
@@ -40,7 +40,7 @@ pub record IsGuided (words : ℕ → ℕ → ℕ × ℕ) (births : List (Seat Pl
   pub is_bound : AreBoundBy bonds births (with_event rows seat event) base.core.id
   pub reached : IsReachedSo births rows base course
 
--- some group of this name is so
+-- a group with this name is guided at the row
 pub record IsNamedGuide (words : ℕ → ℕ → ℕ × ℕ) (births : List (Seat Player)) (rows : Rows) (seat : Seat Player) (event : Event OrderLine) (name : Draw) : Type 0 where
   pub base : Base
   pub named : base.core.id ≡ name
@@ -48,22 +48,22 @@ pub record IsNamedGuide (words : ℕ → ℕ → ℕ × ℕ) (births : List (Sea
 
 -- ---- who leads
 
--- one replica of a group leads alone, or none runs
+-- one replica of the group leads alone, or none runs
 abbrev pub LeadsOrNone : List (Seat Player) → Rows → Draw → Type 0
 LeadsOrNone births rows name = ((node : ℕ) × (lead : ReplicaState) × LeadsAlone births rows name node lead) ⊎ NoneRuns births rows name
 
--- A well led group has one that leads alone, bound by no report, or none; and each replica that runs is that one.
+-- a well led group has a replica that leads alone and is bound by no report, or none runs; and each replica that runs is that one
 pub record WellLedLeadAlone : Type 0 where
   pub alone : (at : Sets) (over : Ends) (by : Tellers) (words : ℕ → ℕ → ℕ × ℕ) (births : List (Seat Player)) (rows : Rows) (base : Base) (course : Course) (node : ℕ) (r : ReplicaState) → IsWellLed at over by words births rows base course
       → view_at births rows base.core.id node ≡ Some r → r.running ≡ true → LeadsAlone births rows base.core.id node r × IsUnbound r
   pub one : (at : Sets) (over : Ends) (by : Tellers) (words : ℕ → ℕ → ℕ × ℕ) (births : List (Seat Player)) (rows : Rows) (base : Base) (course : Course) → IsWellLed at over by words births rows base course
       → LeadsOrNone births rows base.core.id
 
--- what is no call waits at a replica only while something is in flight
+-- a replica has an act or an order waiting only while it has a command in flight
 abbrev pub WaitsForFlights : ReplicaState → Type 0
 WaitsForFlights r = r.leader.flights ≡ [] → (works_in r.acts ≡ []) × (works_in r.calls ≡ [])
 
--- In a quiet journal each replica of a well led group that runs has nothing in flight, where its slots are not used up, no mail of the group is for who is no actor, and what is no call waits only so.
+-- in a quiet journal each replica of a well led group that runs has nothing waiting, in flight or ready, where slots are left, no mail of the group is for a number that is no player, and acts wait only for flights
 abbrev pub QuietLeadersHaveNothing : Type 0
 QuietLeadersHaveNothing =
     (at : Sets) (over : Ends) (by : Tellers) (words : ℕ → ℕ → ℕ × ℕ) (births : List (Seat Player)) (rows : Rows) (base : Base) (course : Course) (node : ℕ) (r : ReplicaState) → AreKeptBorn births → ((slot : ℕ) → IsRoster (at slot)) → AreInTime (players words births) rows
@@ -72,7 +72,7 @@ QuietLeadersHaveNothing =
 
 -- ---- the newest state
 
--- The newest replicas are bound as the newest state, before a row and after it, and some replica is at that; and the row goes on to no other, where none runs.
+-- the newest replicas are bound as the newest state is, before a row and after it, and some replica has that state; and the row adds no newer state where no replica runs
 pub record NewestStay : Type 0 where
   pub was : (words : ℕ → ℕ → ℕ × ℕ) (births : List (Seat Player)) (rows : Rows) (seat : Seat Player) (event : Event OrderLine) (base : Base) (g : IsGuided words births rows seat event base) → IsThere births rows base.core.id
       → NewestAreBound births rows base.core.id (g.bonds g.course.newest)

@@ -1,4 +1,4 @@
--- That hints rise in quiet fronts of a calm journal: what is kept of each group row by row, and what follows of it in quiet.
+-- Hints rise in quiet prefixes of a calm journal: what each row keeps of each group, and what follows in quiet.
 use Rattle.std.specs.Prelude.{◌≡◌, ℕ, false, [], Some, None}
 use Rattle.sc_node_table.specs.Values.{Base, OrderLine, Seat, Event}
 use Rattle.sc_orderly_law.specs.Definitions.{AreInTime}
@@ -16,21 +16,21 @@ use Rattle.sc_calm_answers_law.specs.SentJournals.{IsSentThrough, IsSentStep}
 use Rattle.sc_calm_answers_law.specs.RiseRounds.{HasMembers}
 use Rattle.sc_calm_answers_law.specs.RiseRising.{IsRisingOn}
 
--- Each group of a lawful journal of a valid scenario is so at the births ..
+-- each group of a lawful journal of a valid scenario is as `IsRisingOn` says at the births
 abbrev pub GroupsBeginRising : Type 0
 GroupsBeginRising =
     (words : ℕ → ℕ → ℕ × ℕ) (scenario : Scenario) (journal : Rows) (base : Base) → IsGroupOf as_nodes words scenario journal base
     → (t : IsSentThrough (logged_sets as_nodes base journal) (over_at as_nodes base journal) (tellers_at as_nodes scenario base journal) words (births as_nodes scenario) [] base)
     → IsRisingOn (logged_sets as_nodes base journal) (tellers_at as_nodes scenario base journal) words (births as_nodes scenario) [] base t.course
 
--- .. and after one row more, in the course that comes of it
+-- `IsRisingOn` holds after one row more, in the course after that row
 abbrev pub NextRowsRise : Type 0
 NextRowsRise =
     (words : ℕ → ℕ → ℕ × ℕ) (at : Sets) (over : Ends) (by : Tellers) (scenario : Scenario) (rows : Rows) (seat : Seat Player) (event : Event OrderLine) (base : Base) → AreInTime (players words (births as_nodes scenario)) (with_event rows seat event) → IsSeat (births as_nodes scenario) seat
     → (t : IsSentThrough at over by words (births as_nodes scenario) rows base) → (s : IsSentStep at over by words (births as_nodes scenario) rows seat event base t.course)
     → IsRisingOn at by words (births as_nodes scenario) rows base t.course → IsRisingOn at by words (births as_nodes scenario) (with_event rows seat event) base s.through.course
 
--- So where none of the group's mail is under way, and its first members have made their replicas, hints rise.
+-- where no mail of a group is under way, and its first members have their replicas, hints rise in it: a replica that does not run names the node of the greatest ballot that it saw, and the replica there runs, is gone, or saw a later round
 abbrev pub QuietHintsRise : Type 0
 QuietHintsRise =
     (words : ℕ → ℕ → ℕ × ℕ) (at : Sets) (over : Ends) (by : Tellers) (scenario : Scenario) (front : Rows) (base : Base) (t : IsSentThrough at over by words (births as_nodes scenario) front base) → IsRisingOn at by words (births as_nodes scenario) front base t.course

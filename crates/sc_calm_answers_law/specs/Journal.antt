@@ -1,4 +1,4 @@
--- A calm journal and its fronts, and that all its groups are well led.
+-- A calm journal and its prefixes, and that all its groups are well led.
 use Rattle.std.specs.Prelude.{◌≡◌, ℕ, ◌≤◌, ◌^◌, ◌++◌, length}
 use Rattle.sc_base.specs.Definitions.{Among}
 use Rattle.sc_node_table.specs.Values.{Draw, Base, Seat, Deliver}
@@ -14,7 +14,7 @@ use Rattle.sc_calm_answers_law.specs.Tellers.{tellers_at}
 use Rattle.sc_calm_answers_law.specs.SentJournals.{IsSentThrough}
 use Rattle.sc_calm_answers_law.specs.Given.{may_be_given}
 
--- A lawful journal of a valid scenario whose rows come in time, that is not too long for slots and rounds, and in which orders are told as lines may give them.
+-- a calm journal: a lawful journal of a valid scenario whose rows come in time, of at most 2^28 rows, in which each order is given as a line may give it
 pub record IsCalmJournal (words : ℕ → ℕ → ℕ × ℕ) (scenario : Scenario) (journal : Rows) : Type 0 where
   pub valid : IsValid scenario
   pub lawful : Lawful as_nodes words scenario journal
@@ -22,27 +22,27 @@ pub record IsCalmJournal (words : ℕ → ℕ → ℕ × ℕ) (scenario : Scenar
   pub short : length journal ≤ 2 ^ 28
   pub given : AreToldSo (may_be_given scenario) journal
 
--- a journal begins with these rows
+-- the rows are a prefix of the journal
 pub record IsFront (journal rows : Rows) : Type 0 where
   pub more : Rows
   pub is : journal ≡ rows ++ more
 
--- each group of the journal is well led after first rows of it, with one log, and its mail is sent so
+-- after these rows each group of the journal is well led, has one log, and its mail is as `IsSentSo` says
 abbrev pub AreSent : (ℕ → ℕ → ℕ × ℕ) → Scenario → Rows → Rows → Type 0
 AreSent words scenario journal rows =
     (base : Base) → Among base (groups_at as_nodes scenario.groups journal)
     → IsSentThrough (logged_sets as_nodes base journal) (over_at as_nodes base journal) (tellers_at as_nodes scenario base journal) words (births as_nodes scenario) rows base
 
--- a front of the journal goes on by one more delivery
+-- the rows and one more delivery, which comes in time, are a prefix of the journal
 pub record GoesOnBy (words : ℕ → ℕ → ℕ × ℕ) (scenario : Scenario) (journal rows : Rows) (seat : Seat Player) (number : ℕ) : Type 0 where
   pub front : IsFront journal (with_event rows seat (Deliver number))
   pub seated : IsSeat (births as_nodes scenario) seat
   pub timely : AreInTime (players words (births as_nodes scenario)) (with_event rows seat (Deliver number))
 
--- what a front begins with is a front
+-- a prefix of a prefix of the journal is a prefix of the journal
 abbrev pub FrontsOfFronts : Type 0
 FrontsOfFronts = (journal rows more : Rows) → IsFront journal (rows ++ more) → IsFront journal rows
 
--- a group of the journal has this name
+-- some group of the journal has this name
 abbrev pub IsNamedGroup : Scenario → Rows → Draw → Type 0
 IsNamedGroup scenario journal name = (base : Base) × Among base (groups_at as_nodes scenario.groups journal) × (base.core.id ≡ name)

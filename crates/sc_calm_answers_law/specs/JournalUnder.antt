@@ -1,4 +1,4 @@
--- What holds while an order is under way since a quiet front of a calm journal.
+-- What holds while an order is under way since a quiet prefix of a calm journal.
 use Rattle.std.specs.Prelude.{◌≡◌, ℕ, true, List, Some, None, ◌⊎◌}
 use Rattle.sc_base.specs.Definitions.{Among, Each}
 use Rattle.sc_node_table.specs.Values.{Base, Seat}
@@ -14,12 +14,12 @@ use Rattle.sc_calm_answers_law.specs.Guided.{IsReachedSo}
 use Rattle.sc_calm_answers_law.specs.Journal.{IsFront, AreSent}
 use Rattle.sc_calm_answers_law.specs.Resting.{RestsAt}
 
--- a group is as it began wherever it has a replica, and no mail of it is under way
+-- a group is young: each of its replicas is as at birth, and no mail of it is under way
 pub record IsYoungAt (words : ℕ → ℕ → ℕ × ℕ) (births : List (Seat Player)) (rows : Rows) (base : Base) : Type 0 where
   pub born : (who : ℕ) → (view_at births rows base.core.id who ≡ None) ⊎ (view_at births rows base.core.id who ≡ Some (born_replica slots_ahead who base))
   pub unsent : (who : ℕ) → is_born (players words births) who ≡ true → Each (λ mail. group_of_mail mail.body ≡ Some base.core.id → ⊥) (rest (players words births) rows who)
 
--- Since a quiet front that rests the order is at a stage, and groups that have no part in it are as they were; all groups are well led, each that has a replica has one that has executed all; and those that were nowhere in the quiet are as they began.
+-- since a quiet prefix that rests an order is at a stage, and groups that have no part in it are as they were; all groups are well led, each that has a replica has one with its newest state; and groups that had no replica in the quiet prefix are young
 pub record IsUnder (words : ℕ → ℕ → ℕ × ℕ) (scenario : Scenario) (first : Base) (journal quiet rows : Rows) : Type 0 where
   pub rests : RestsAt words scenario first journal quiet
   pub front : IsFront journal rows

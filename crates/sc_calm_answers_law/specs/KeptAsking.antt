@@ -1,4 +1,4 @@
--- That the chart of a calm journal says what the coordinator of an order that is under way asks.
+-- The chart of a calm journal says what the coordinator of an order that is under way asks.
 use Rattle.std.specs.Prelude.{◌≡◌, ℕ, true, List, Some}
 use Rattle.sc_base.specs.Definitions.{Among}
 use Rattle.sc_node_table.specs.Values.{Draw, Seat}
@@ -13,7 +13,7 @@ use Rattle.sc_calm_scenes_law.specs.Definitions.{scene_at, LeadsAlone}
 abbrev pub AllLeadAlone : List (Seat Player) → Rows → Type 0
 AllLeadAlone births rows = (r : ReplicaState) → Among r (all_replicas births rows) → r.running ≡ true → (node : ℕ) × LeadsAlone births rows (name_of r) node r
 
--- Where that is so, and a group waits in a transaction for another, as a stage says, whose leader is there, the chart says that this one is asked, and whether as a watcher.
+-- where each replica that runs leads its group alone, and by the stage a group whose leader is there waits for another in a transaction, the chart says that this other group is asked, and whether as a watcher
 abbrev pub StagesAsk : Type 0
 StagesAsk =
     (births : List (Seat Player)) (rows : Rows) (stage : Stage) (tx coord asked : Draw) (turn : Turn) (r : ReplicaState) → AllLeadAlone births rows → IsAt stage (scene_at births rows)

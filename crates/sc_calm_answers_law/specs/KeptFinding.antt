@@ -1,4 +1,4 @@
--- That each delivery finds what keeps a calm journal calm while an order is under way.
+-- Each delivery finds what the potential needs while an order is under way.
 use Rattle.std.specs.Prelude.{◌≡◌, ℕ, ◌≤◌, true, [], Some, length}
 use Rattle.sc_base.specs.Definitions.{Among, Each}
 use Rattle.sc_node_table.specs.Values.{Draw, Base, Mail, Node, Client, Seat, Deliver}
@@ -21,13 +21,13 @@ use Rattle.sc_calm_answers_law.specs.Journal.{IsCalmJournal, AreSent, GoesOnBy}
 use Rattle.sc_calm_answers_law.specs.JournalUnder.{IsUnder}
 use Rattle.sc_calm_answers_law.specs.KeptAsking.{AllLeadAlone}
 
--- what is in flight or ready at a leader is work alone; each command in flight is an entry of an order that leaves at most nine members; and no call waits while one is in flight
+-- at a leader only work of the order is in flight or ready; each command in flight is an entry of an order that leaves at most nine members; and no request waits while one is in flight
 pub record CountsEntries (r : ReplicaState) : Type 0 where
   pub alone : IsOrdersAlone r
   pub calls : (r.leader.flights ≡ [] → ⊥) → r.calls ≡ []
   pub entries : Each (λ flight. IsEntry flight.value r × (length (applied r.group flight.value).0.core.members ≤ 9)) r.leader.flights
 
--- What else is known of a mail that comes to a node while an order is under way: its group is one of the journal; a replica that does not run keeps no reports; what is settled of its transaction; that it is no request; and what a leader counts.
+-- what else is known of a mail that comes to a node while an order is under way: its group is one of the journal, a replica that does not run keeps no reports, the mail is as `IsUnsettled` says, it is no request, and a leader there is as `CountsEntries` says
 pub record IsKnownMail (scenario : Scenario) (journal : Rows) (mail : Mail) (node : NodeState) (name : Draw) : Type 0 where
   pub base : Base
   pub among : Among base (groups_at as_nodes scenario.groups journal)
@@ -37,7 +37,7 @@ pub record IsKnownMail (scenario : Scenario) (journal : Rows) (mail : Mail) (nod
   pub unasked : IsNoRequest mail.body
   pub counts : (r : ReplicaState) → replica_of name node.replicas ≡ Some r → r.running ≡ true → CountsEntries r
 
--- A delivery while an order is under way: nobody but a node takes it, each replica that runs leads alone, hints rise by the chart, and its mail is known.
+-- what is known of a delivery while an order is under way: each replica that runs leads its group alone, replicas are at nodes, hints rise by the chart, only a node takes the mail, and the mail is as `IsKnownMail` says
 pub record IsKnownDelivery (words : ℕ → ℕ → ℕ × ℕ) (scenario : Scenario) (journal quiet rows : Rows) (far sent : ℕ) (seat : Seat Player) (number : ℕ) : Type 0 where
   pub alone : AllLeadAlone (births as_nodes scenario) rows
   pub homes : AreAtNodes scenario quiet
@@ -46,7 +46,7 @@ pub record IsKnownDelivery (words : ℕ → ℕ → ℕ × ℕ) (scenario : Scen
   pub nodes : (client : ClientState) → value player_table seat rows ≡ Client client → ⊥
   pub mail : (mail : Mail) (node : NodeState) (name : Draw) → numbered (mails rows) number ≡ Some mail → value player_table seat rows ≡ Node node → group_of_mail mail.body ≡ Some name → IsKnownMail scenario journal mail node name
 
--- So it finds what keeps the journal calm.
+-- a delivery as `IsKnownDelivery` says finds what the potential needs, by the chart of the rows before it
 abbrev pub OrderRowsFindCalm : Type 0
 OrderRowsFindCalm =
     (words : ℕ → ℕ → ℕ × ℕ) (scenario : Scenario) (first : Base) (journal quiet rows : Rows) (far sent : ℕ) (seat : Seat Player) (number : ℕ) → IsCalmJournal words scenario journal → IsUnder words scenario first journal quiet rows

@@ -1,4 +1,4 @@
--- That by the chart of a calm journal hints rise in the last quiet front.
+-- Hints rise in the last quiet prefix, by the chart of the rows behind it.
 use Rattle.std.specs.Prelude.{◌≡◌, ℕ, ◌+◌, ◌≤◌, List, ◌∷◌}
 use Rattle.sc_node_table.specs.Values.{Base}
 use Rattle.sc_orderly_law.specs.Definitions.{orders}
@@ -12,7 +12,7 @@ use Rattle.sc_calm_answers_law.specs.Hearing.{AreReached}
 use Rattle.sc_calm_answers_law.specs.Settings.{AreAtNodes}
 use Rattle.sc_calm_answers_law.specs.Resting.{RestsAt}
 
--- Where a way may be longer by one than orders were told, each hint of a quiet front that rests leads nearer by the chart of the rows behind it, and each node that leads is reached.
+-- by the chart of rows behind a quiet prefix that rests, each hint of that prefix leads nearer to a leader, and each node that leads is at distance 0, where a way may be longer by one than the number of orders given so far
 abbrev pub ChartHintsRise : Type 0
 ChartHintsRise =
     (words : ℕ → ℕ → ℕ × ℕ) (scenario : Scenario) (first : Base) (others : List Base) (journal quiet later : Rows) (far sent : ℕ) (frames : List Frame) → IsValid scenario → scenario.groups ≡ first ∷ others → Lawful as_nodes words scenario quiet → RestsAt words scenario first journal quiet → AreAtNodes scenario quiet

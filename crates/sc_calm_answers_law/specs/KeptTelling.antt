@@ -1,4 +1,4 @@
--- That an order that is told in a quiet front that rests finds what keeps the journal calm.
+-- An order given in a quiet prefix that rests finds what the potential needs.
 use Rattle.std.specs.Prelude.{ℕ}
 use Rattle.sc_node_table.specs.Values.{Base, OrderLine, Seat}
 use Rattle.sc_actor.specs.declared.rows.Event.TheVariants.{Told}
@@ -11,7 +11,7 @@ use Rattle.sc_calm_answers_law.specs.Settings.{AreAtNodes}
 use Rattle.sc_calm_answers_law.specs.Journal.{IsCalmJournal}
 use Rattle.sc_calm_answers_law.specs.Resting.{RestsAt}
 
--- So does each order, to whomever it is told.
+-- an order given in a quiet prefix that rests finds what the potential needs, whichever player it is given to
 abbrev pub ToldOrdersFindCalm : Type 0
 ToldOrdersFindCalm =
     (words : ℕ → ℕ → ℕ × ℕ) (scenario : Scenario) (first : Base) (journal quiet : Rows) (far sent : ℕ) (seat : Seat Player) (line : OrderLine) → IsCalmJournal words scenario journal → RestsAt words scenario first journal quiet → AreAtNodes scenario quiet

@@ -1,4 +1,4 @@
--- What is known of groups, links and routes in a quiet front of a calm journal.
+-- What is known of groups, links and routes in a quiet prefix of a calm journal.
 use Rattle.std.specs.Prelude.{◌≡◌, ℕ, ◌+◌, false, length, Some}
 use Rattle.sc_base.specs.Definitions.{Among}
 use Rattle.sc_node_table.specs.Values.{Base, Route}
@@ -18,40 +18,40 @@ use Rattle.sc_calm_answers_law.specs.Settings.{AreReachable}
 use Rattle.sc_calm_answers_law.specs.KnownFronts.{IsQuietFront}
 use Rattle.sc_calm_answers_law.specs.Links.{AreAllFree}
 
--- each group of some rows has a replica then
+-- after these rows each of their groups has a replica
 abbrev pub AreAllThere : Scenario → Rows → Type 0
 AreAllThere scenario rows = (base : Base) → Among base (groups_at as_nodes scenario.groups rows) → IsThere (births as_nodes scenario) rows base.core.id
 
--- In a quiet front replicas of one group that are gone know the same route.
+-- in a quiet prefix all replicas of one group that are gone know the same route
 abbrev pub FrontsGoneAgree : Type 0
 FrontsGoneAgree = (words : ℕ → ℕ → ℕ × ℕ) (scenario : Scenario) (journal front : Rows) → IsQuietFront words scenario journal front → GoneAgree (replicas_after scenario front)
 
--- The course of a group of a quiet front ends with its log, whatever course that is.
+-- in each course of a group of a quiet prefix, the newest state is the one after the group's whole decided log
 abbrev pub QuietCoursesEnd : Type 0
 QuietCoursesEnd =
     (words : ℕ → ℕ → ℕ × ℕ) (scenario : Scenario) (journal front : Rows) (by : Tellers) (base : Base) (course : Course) → IsQuietFront words scenario journal front → Among base (groups_at as_nodes scenario.groups front)
     → IsQuietGroup by words scenario journal front base course → length (decided_log as_nodes base front) + 1 ≡ course.newest
 
--- Where nothing of an order is left, no group is bound by its log.
+-- where no part of an order is left in a quiet prefix, no group is locked by its log
 abbrev pub StillFrontsAreFree : Type 0
 StillFrontsAreFree =
     (words : ℕ → ℕ → ℕ × ℕ) (scenario : Scenario) (journal front : Rows) → IsQuietFront words scenario journal front → IsAt Still (scene_at (births as_nodes scenario) front) → AreAllFree scenario front
 
--- Then the groups of the front are known ..
+-- where no group of a quiet prefix is locked by its log, the groups are known (`AreKnown`)
 abbrev pub FrontsAreKnown : Type 0
 FrontsAreKnown = (words : ℕ → ℕ → ℕ × ℕ) (scenario : Scenario) (journal front : Rows) → IsQuietFront words scenario journal front → AreAllFree scenario front → AreKnown scenario front
 
--- .. links and routes name nodes that have replicas ..
+-- where no group of a quiet prefix is locked by its log, links and routes name nodes that have a replica of the group named
 abbrev pub FrontsAreReachable : Type 0
 FrontsAreReachable = (words : ℕ → ℕ → ℕ × ℕ) (scenario : Scenario) (journal front : Rows) → IsQuietFront words scenario journal front → AreAllFree scenario front → AreReachable (replicas_after scenario front)
 
--- .. also those of the route by which a group went, whatever its course ..
+-- where no group of a quiet prefix is locked by its log, the route by which a group went names a group of which each node of the route has a replica
 abbrev pub FrontsAreTakenIn : Type 0
 FrontsAreTakenIn =
     (words : ℕ → ℕ → ℕ × ℕ) (scenario : Scenario) (journal front : Rows) (by : Tellers) (base : Base) (course : Course) (into : Route) → IsQuietFront words scenario journal front → AreAllFree scenario front
     → Among base (groups_at as_nodes scenario.groups front) → IsQuietGroup by words scenario journal front base course → (state_at as_nodes base journal course.newest).core.gone ≡ Some into → IsTakenIn (replicas_at scenario front) into
 
--- .. and of a group that stands the link is as a quiet journal asks it.
+-- where no group of a quiet prefix is locked by its log, the link of a leader whose group stands is as a quiet journal needs it (`IsLinked`)
 abbrev pub FrontsAreLinked : Type 0
 FrontsAreLinked =
     (words : ℕ → ℕ → ℕ × ℕ) (scenario : Scenario) (journal front : Rows) (by : Tellers) (base : Base) (course : Course) (lead : ReplicaState) → IsQuietFront words scenario journal front → AreAllFree scenario front

@@ -1,4 +1,4 @@
--- A quiet front of a calm journal, and what is known of its groups.
+-- A quiet prefix of a calm journal, and what is known of its groups.
 use Rattle.std.specs.Prelude.{◌≡◌, ℕ, ◌+◌, true, length, Some}
 use Rattle.sc_base.specs.Definitions.{Among}
 use Rattle.sc_node_table.specs.Values.{Draw, Base}
@@ -18,14 +18,14 @@ use Rattle.sc_calm_answers_law.specs.Settings.{AreAtNodes}
 use Rattle.sc_calm_answers_law.specs.Journal.{IsCalmJournal, IsFront, AreSent}
 use Rattle.sc_calm_answers_law.specs.Offered.{AreAskedBelow}
 
--- a replica is of a group of some rows, and has executed first entries of its log
+-- the replica is of a group of these rows, and has executed a prefix of its log
 pub record IsOfGroup (scenario : Scenario) (rows : Rows) (name : Draw) (r : ReplicaState) : Type 0 where
   pub base : Base
   pub among : Among base (groups_at as_nodes scenario.groups rows)
   pub named : base.core.id ≡ name
   pub run : HasRun as_nodes base rows r
 
--- The groups of a front are groups of the journal, in which no two have one name, and their logs are logs and go on; each replica is of one of them; replicas are at nodes of the scenario, and a player of it has those that its node has.
+-- what is known of a prefix of a journal: its groups are groups of the journal, no two with the same name; their logs are logs, and prefixes of those of the journal; each replica is of one of them and at a node of the scenario; and a player has the replicas that its node has
 pub record IsFoundFront (words : ℕ → ℕ → ℕ × ℕ) (scenario : Scenario) (journal front : Rows) : Type 0 where
   pub lawful : Lawful as_nodes words scenario front
   pub apart : (one other : Base) → Among one (groups_at as_nodes scenario.groups journal) → Among other (groups_at as_nodes scenario.groups journal) → one.core.id ≡ other.core.id → one ≡ other
@@ -36,31 +36,31 @@ pub record IsFoundFront (words : ℕ → ℕ → ℕ × ℕ) (scenario : Scenari
   pub homes : AreAtNodes scenario front
   pub views : (name : Draw) (node : ℕ) → replicas_after scenario front name node ≡ view_at (births as_nodes scenario) front name node
 
--- So it is of each front of a calm journal.
+-- each prefix of a calm journal is as `IsFoundFront` says
 abbrev pub FrontsAreFound : Type 0
 FrontsAreFound =
     (words : ℕ → ℕ → ℕ × ℕ) (scenario : Scenario) (journal front : Rows) → IsCalmJournal words scenario journal → IsFront journal front → IsFoundFront words scenario journal front
 
--- A quiet front of a calm journal, whose groups are well led.
+-- a quiet prefix of a calm journal: no mail is pending after it, and all groups of the journal are well led
 pub record IsQuietFront (words : ℕ → ℕ → ℕ × ℕ) (scenario : Scenario) (journal front : Rows) : Type 0 where
   pub calm : IsCalmJournal words scenario journal
   pub begins : IsFront journal front
   pub quiet : is_quiet (players words (births as_nodes scenario)) front ≡ true
   pub sent : AreSent words scenario journal front
 
--- a group of the journal is a quiet group after the front, asked for nothing beyond its course; and its log after the front is executed
+-- after a quiet prefix the group is a quiet group (`IsQuietGroup`), and no mail ever asked for a slot beyond its course
 pub record IsKnownGroup (words : ℕ → ℕ → ℕ × ℕ) (scenario : Scenario) (journal front : Rows) (base : Base) : Type 0 where
   pub course : Course
   pub quiet : IsQuietGroup (tellers_at as_nodes scenario base journal) words scenario journal front base course
   pub asked : AreAskedBelow base.core.id course.bound (mails front)
 
--- So it is of each group that has a replica then ..
+-- each group that has a replica in a quiet prefix is as `IsKnownGroup` says
 abbrev pub QuietFrontsHaveGroups : Type 0
 QuietFrontsHaveGroups =
     (words : ℕ → ℕ → ℕ × ℕ) (scenario : Scenario) (journal front : Rows) (base : Base) → IsQuietFront words scenario journal front → Among base (groups_at as_nodes scenario.groups journal) → IsThere (births as_nodes scenario) front base.core.id
     → IsKnownGroup words scenario journal front base
 
--- .. and one that is a group after the front has executed its log then, at its newest replicas.
+-- of each group of a quiet prefix that has a replica, the newest replicas have executed its whole log
 abbrev pub QuietLogsAreExecuted : Type 0
 QuietLogsAreExecuted =
     (words : ℕ → ℕ → ℕ × ℕ) (scenario : Scenario) (journal front : Rows) (base : Base) → IsQuietFront words scenario journal front → Among base (groups_at as_nodes scenario.groups front) → IsThere (births as_nodes scenario) front base.core.id

@@ -1,4 +1,4 @@
--- That members of groups are nodes of their scenario.
+-- Members of groups are nodes of their scenario.
 use Rattle.std.specs.Prelude.{◌≡◌, ℕ, ◌≤◌, true}
 use Rattle.sc_node_table.specs.Values.{Base}
 use Rattle.sc_base.specs.Definitions.{is_member}
@@ -7,7 +7,7 @@ use Rattle.sc_sound.specs.Definitions.{Ahead}
 use Rattle.sc_log_law.specs.Definitions.{Rows}
 use Rattle.sc_calm_logs_law.specs.Definitions.{logged_sets, IsGroupOf}
 
--- The first members of each group of a lawful journal of a valid scenario are nodes of the scenario, and so are those of each slot of its log.
+-- the first members of each group of a lawful journal of a valid scenario, and the members of each slot of its log, are nodes of the scenario
 pub record MembersAreHome : Type 0 where
   pub first : (ahead : Ahead) (words : ℕ → ℕ → ℕ × ℕ) (scenario : Scenario) (journal : Rows) (base : Base) → IsGroupOf ahead words scenario journal base → (node : ℕ) → is_member base.core.members node ≡ true → (1 ≤ node) × (node ≤ scenario.nodes)
   pub slots : (ahead : Ahead) (words : ℕ → ℕ → ℕ × ℕ) (scenario : Scenario) (journal : Rows) (base : Base) → IsGroupOf ahead words scenario journal base

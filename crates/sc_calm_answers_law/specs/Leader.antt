@@ -1,4 +1,4 @@
--- What a mail finds at the leader.
+-- What a mail finds at the replica that leads.
 use Rattle.std.specs.Prelude.{List, Option, true, ℕ, ◌≡◌}
 use Rattle.sc_node_table.specs.Values.{Seat, Ballot, Draw, Op, Base, Mail, Accepted, Request}
 use Rattle.sc_calm_answers_law.specs.Beside.{IsHere, IsUnsettled}
@@ -8,11 +8,11 @@ use Rattle.sc_calm_scenes_law.specs.Definitions.{FindsFlight, LeaderFinds, scene
 use Rattle.sc_node_table.specs.Definitions.{NodeState, ReplicaState, listed}
 use Rattle.sc_sound.specs.Definitions.{Player}
 
--- The stages leave each leader one work, or none.
+-- while an order is under way each leader has one work of it, or none
 abbrev pub StagesLeaveOneWork : Type 0
 StagesLeaveOneWork = (now : Scene) (group : Draw) → IsUnderWay now → (work : Option Work) × ((now.at group).work ≡ listed work)
 
--- A mail to the leader finds what an order needs, where an order is under way and no request is: what is settled of its transaction, a ballot that is not later than the leader's, a bare promise, and no entry and no state that it has not executed. What a vote finds is asked.
+-- a mail to the leader finds what an order needs, where an order is under way and no request comes; for a vote, `FindsFlight` is a premise
 abbrev pub LeadersAreFound : Type 0
 LeadersAreFound =
     (words : ℕ → ℕ → ℕ × ℕ) (births : List (Seat Player)) (rows : Rows) (seat : Seat Player) (number : ℕ) (mail : Mail) (base : Base) (node : NodeState) (r : ReplicaState) → IsHere words births rows seat number mail base node r

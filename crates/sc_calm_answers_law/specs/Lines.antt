@@ -1,4 +1,4 @@
--- That the lines of a calm scenario at its budget end quiet, where its journals keep what they need.
+-- The lines of a calm scenario at its budget end quiet, where its journals find what the potential needs.
 use Rattle.std.specs.Prelude.{◌≡◌, ℕ, ◌+◌, ◌*◌, false, List, []}
 use Rattle.sc_node_table.specs.Values.{OrderLine, Mail, Row}
 use Rattle.sc_actor.specs.Definitions.{unsettled}
@@ -9,17 +9,17 @@ use Rattle.sc_calm_law.specs.Definitions.{Chart, players, KeepCalm, RestCalm, Ro
 use Rattle.sc_budget_law.specs.Definitions.{orders_of, calm_budget_of, IsCalmAtBudget}
 use Rattle.sc_calm_answers_law.specs.Covered.{IsFirstChart}
 
--- how many deliveries a calm scenario at its budget makes at most: its budget, and for each order what one raises
+-- an upper bound of the deliveries of a calm scenario at its budget with N orders: the budget, and 242 + 4 * (N + 1) for each order
 abbrev pub calm_deliveries_of : Scenario → ℕ
 calm_deliveries_of scenario = calm_budget_of scenario + orders_of scenario * (242 + 4 * (orders_of scenario + 1))
 
--- There are charts, one for each lawful journal of a scenario with no more deliveries than it makes, by which each row finds what it needs, and by which quiet journals rest.
+-- there are charts, one for each lawful journal of a scenario with at most `calm_deliveries_of` deliveries, by which each row finds what the potential needs, and by which quiet journals rest
 pub record AreCharted (words : ℕ → ℕ → ℕ × ℕ) (scenario : Scenario) (charts : Rows → Chart) : Type 0 where
   pub first : IsFirstChart scenario (charts [])
   pub keeps : KeepCalm (players words (births as_nodes scenario)) (schedule scenario) charts (calm_deliveries_of scenario)
   pub rests : RestCalm words (births as_nodes scenario) (schedule scenario) charts (calm_deliveries_of scenario)
 
--- In each lawful journal of a valid calm scenario at its budget that has such charts no line is cut off with mail pending.
+-- in each lawful journal of a valid calm scenario at its budget that has charts as `AreCharted` says no line of deliveries is cut off with mail pending
 abbrev pub CalmLinesEndQuiet : Type 0
 CalmLinesEndQuiet =
     (words : ℕ → ℕ → ℕ × ℕ) (scenario : Scenario) (charts : Rows → Chart) (journal : List (Row Mail OrderLine))

@@ -1,4 +1,4 @@
--- A mail that is delivered to a node in a journal in which its group is well led, and what it needs besides, by what it says.
+-- A mail that comes to a node in a journal in which its group is well led, and what the mail needs besides, by its kind.
 use Rattle.std.specs.Prelude.{◌≡◌, ℕ, ◌+◌, true, false, List, [], Option, Some, None}
 use Rattle.sc_node_table.specs.Values.{Ballot, Draw, Base, Mail, MailBody, Request, Answer, Prepare, Promise, Accept, Accepted, Nack, Learn, Ask, Install, TxPrepare, TxVote, TxOutcome, TxElsewhere, TxWatch, TxWatched, Told, Node, Seat, Deliver}
 use Rattle.sc_actor.specs.Definitions.{value}
@@ -10,7 +10,7 @@ use Rattle.sc_following_law.specs.Definitions.{Course, Sets, Tellers}
 use Rattle.sc_calm_rows_law.specs.Definitions.{IsSeat, with_event}
 use Rattle.sc_calm_groups_law.specs.Definitions.{IsLedStep, Ends, IsWellLed, Delivers, HasOneLog, IsSentSo}
 
--- In first rows of a journal a mail is delivered in time to a node; a group is well led before it, in a course from which the row goes on, its log is one, its mail is sent so, and no state of it is sent when it is gone.
+-- in a prefix of a journal a mail is delivered in time to a node; before the row its group is well led in a course from which the row goes on, it has one log, its mail is as `IsSentSo` says, and a state that the mail brings is of a group that stands
 pub record MeetsMail (at : Sets) (over : Ends) (by : Tellers) (words : ℕ → ℕ → ℕ × ℕ) (births : List (Seat Player)) (front rows : Rows) (seat : Seat Player) (number : ℕ) (mail : Mail) (node : NodeState) (base : Base) (course : Course) : Type 0 where
   pub seated : IsSeat births seat
   pub is : value player_table seat rows ≡ Node node
@@ -22,11 +22,11 @@ pub record MeetsMail (at : Sets) (over : Ends) (by : Tellers) (words : ℕ → �
   pub sent : IsSentSo births front base
   pub standing : (slot : ℕ) (state : Base) (sets : List (List ℕ)) → mail.body ≡ Install base.core.id slot state sets → over (slot + 1) ≡ false
 
--- one that does not run keeps no reports of a promise
+-- a replica that does not run keeps no reports of promises
 abbrev pub IsPlain : ReplicaState → Type 0
 IsPlain r = r.running ≡ false → r.leader.reports ≡ []
 
--- what a replica that takes a mail has to be besides: where it pumps, plain; where it sends others on, a hint nearer to the one that runs; and a leader may count a vote
+-- what a replica that takes a mail has to be besides, by the mail's kind: where it may pump, as `IsPlain` says; where it sends others on, its hint is nearer to the replica that runs; and a leader that takes a vote may count it
 abbrev pub NeedsBesides : Ways → ReplicaState → MailBody → Type 0
 NeedsBesides ways r (Request group client seq op) = IsPlain r × Points ways group r
 NeedsBesides ways r (Prepare group ballot from_slot) = Unit {0}
@@ -46,17 +46,17 @@ NeedsBesides ways r (TxWatched tx coord part vote) = IsPlain r
 NeedsBesides ways r (Answer group seq answer) = Unit {0}
 NeedsBesides ways r (Told order result) = Unit {0}
 
--- .. where a node has no replica of the group, no request comes
+-- the mail is no request
 abbrev pub IsNoRequest : MailBody → Type 0
 IsNoRequest (Request group client seq op) = ⊥
 IsNoRequest body = Unit {0}
 
--- .. by what the node has
+-- what a mail needs besides at a node: as `NeedsBesides` says where the node has a replica of the group; where it has none, the mail is no request
 abbrev pub NeedsAt : Ways → Option ReplicaState → MailBody → Type 0
 NeedsAt ways None body = IsNoRequest body
 NeedsAt ways (Some r) body = NeedsBesides ways r body
 
--- mail of the agreement that needs nothing besides: what is asked, refused or told
+-- mail of Paxos that needs nothing besides: Prepare, Accept, Nack, Learn, Ask and Install
 abbrev pub IsAgreed : MailBody → Type 0
 IsAgreed (Request group client seq op) = ⊥
 IsAgreed (Prepare group ballot from_slot) = Unit {0}
@@ -76,7 +76,7 @@ IsAgreed (TxWatched tx coord part vote) = ⊥
 IsAgreed (Answer group seq answer) = ⊥
 IsAgreed (Told order result) = ⊥
 
--- mail by which a leader may only pump: a promise, and the votes and outcomes of transactions
+-- mail by which a leader only offers what it has queued: a Promise, and the votes and outcomes of transactions
 abbrev pub IsPumped : MailBody → Type 0
 IsPumped (Request group client seq op) = ⊥
 IsPumped (Prepare group ballot from_slot) = ⊥
@@ -96,17 +96,17 @@ IsPumped (TxWatched tx coord part vote) = Unit {0}
 IsPumped (Answer group seq answer) = ⊥
 IsPumped (Told order result) = ⊥
 
--- a replica, if there is one, keeps no reports where it does not run
+-- a replica, if there is one, is as `IsPlain` says
 abbrev pub IsPlainAt : Option ReplicaState → Type 0
 IsPlainAt None = Unit {0}
 IsPlainAt (Some r) = IsPlain r
 
--- a replica, if there is one, may count a vote at this slot where it runs
+-- a replica, if there is one and it runs, may count a vote at this slot
 abbrev pub MayCountAt : ℕ → Option ReplicaState → Type 0
 MayCountAt slot None = Unit {0}
 MayCountAt slot (Some r) = r.running ≡ true → MayCount slot r
 
--- What mail needs besides, by its kind.
+-- what mail needs besides, by its kind: nothing for that of `IsAgreed`, a plain replica for that of `IsPumped`, and for a vote that a leader may count it
 pub record NeedsByKind : Type 0 where
   pub agreed : (ways : Ways) (here : Option ReplicaState) (body : MailBody) → IsAgreed body → NeedsAt ways here body
   pub pumped : (ways : Ways) (here : Option ReplicaState) (body : MailBody) → IsPumped body → IsPlainAt here → NeedsAt ways here body

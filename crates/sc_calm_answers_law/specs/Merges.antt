@@ -1,4 +1,4 @@
--- Where a group goes that is merged, by what a journal tells.
+-- Where a group goes that is merged, by the logs of a journal.
 use Rattle.std.specs.Prelude.{◌≡◌, ℕ, Some}
 use Rattle.sc_node_table.specs.Values.{Draw, Offer, Finish, Prepared, Base, Route, Merged}
 use Rattle.sc_scenario.specs.declared.scenarios.Scenario.{Scenario}
@@ -7,7 +7,7 @@ use Rattle.sc_calm_law.specs.Definitions.{Rows}
 use Rattle.sc_calm_logs_law.specs.Definitions.{IsGroupOf}
 use Rattle.sc_calm_answers_law.specs.Told.{IsAllowedBy, sources_of}
 
--- A group that promised a transaction by which a group is merged goes into the one for which its name was drawn, which is another.
+-- a group that promised a transaction whose outcome is a merge goes into the group for which the transaction's name was drawn, which is another group
 abbrev pub MergesGoHome : Type 0
 MergesGoHome =
     (words : ℕ → ℕ → ℕ × ℕ) (scenario : Scenario) (journal : Rows) (base : Base) → IsGroupOf as_nodes words scenario journal base

@@ -1,4 +1,4 @@
--- What a mail finds at a node without replica, and what children find that a row makes.
+-- What a mail finds at a node that has no replica of its group, and what the children that a row makes find.
 use Rattle.std.specs.Prelude.{List, None, Some, ℕ, ◌≡◌}
 use Rattle.sc_node_table.specs.Values.{Seat, Deliver, Draw, Base, Free, Mail, Install}
 use Rattle.sc_calm_answers_law.specs.Guided.{IsNamedGuide}
@@ -12,14 +12,14 @@ use Rattle.sc_following_law.specs.Definitions.{Course, Sets, Tellers}
 use Rattle.sc_node_table.specs.Definitions.{NodeState, ReplicaState}
 use Rattle.sc_sound.specs.Definitions.{Player}
 
--- A mail to a node without replica of its group finds what an order needs: a question is its sender's; and a state is whole, of a member, and of a group that is guided at this row and has a replica.
+-- a mail to a node without a replica of its group finds what an order needs, where a group of which a state comes is guided at the row and has a replica
 abbrev pub MissedAreFound : Type 0
 MissedAreFound =
     (words : ℕ → ℕ → ℕ × ℕ) (births : List (Seat Player)) (rows : Rows) (seat : Seat Player) (number : ℕ) (mail : Mail) (group : Draw) (node : NodeState) → IsTaking words births rows seat number mail group node → IsPosted births mail
     → ((slot : ℕ) (state : Base) (sets : List (List ℕ)) → mail.body ≡ Install group slot state sets → IsNamedGuide words births rows seat (Deliver number) group × IsThere births rows group)
     → NodeFinds births rows seat number mail group mail.body
 
--- A child that a row makes at a seat: it is well led, free, none of its replicas is bound, and its first member's node, if it is this one, has none yet.
+-- a child that a row makes at a node is young: it is well led, its record is not locked, no replica of it is bound in a transaction, and where this node is to lead it, the node has no replica of it yet
 pub record IsYoung (words : ℕ → ℕ → ℕ × ℕ) (births : List (Seat Player)) (rows : Rows) (seat : Seat Player) (child : Base) : Type 0 where
   pub at : Sets
   pub over : Ends
@@ -30,6 +30,6 @@ pub record IsYoung (words : ℕ → ℕ → ℕ × ℕ) (births : List (Seat Pla
   pub unbound : (node : ℕ) (r : ReplicaState) → view_at births rows child.core.id node ≡ Some r → bond_of r.group.core ≡ Unbound
   pub first : child.core.first ≡ seat.who → view_at births rows child.core.id seat.who ≡ None
 
--- Such a one may be made.
+-- a young child may be made (`MayBear`)
 abbrev pub YoungMayBear : Type 0
 YoungMayBear = (words : ℕ → ℕ → ℕ × ℕ) (births : List (Seat Player)) (rows : Rows) (seat : Seat Player) (child : Base) → IsYoung words births rows seat child → MayBear births rows seat child

@@ -1,4 +1,4 @@
--- How often a client that was not told to go is sent on, and how many names there are.
+-- How often a client that has not started is sent on, and how many names of groups there are.
 use Rattle.std.specs.Prelude.{◌≡◌, ℕ, ◌+◌, ◌≤◌, List, [], ◌∷◌, ◌++◌, length, ◌⊎◌}
 use Rattle.sc_node_table.specs.Values.{Draw, Base, OrderLine, Mail, Seat, Row, Event}
 use Rattle.sc_orderly_law.specs.Definitions.{orders}
@@ -15,22 +15,22 @@ use Rattle.sc_calm_answers_law.specs.Resting.{RestsAt}
 use Rattle.sc_calm_answers_law.specs.Rows.{AreNear}
 use Rattle.sc_calm_answers_law.specs.Tasks.{Task}
 
--- While clients ask since a quiet front that rests, one that was not told to go is sent on no more often than there are names of groups.
+-- while clients ask alone since a quiet prefix that rests, a client that has not started is sent on no more often than the chart allows, where that is at least the number of names of groups
 abbrev pub ClientsAreNear : Type 0
 ClientsAreNear =
     (words : ℕ → ℕ → ℕ × ℕ) (scenario : Scenario) (first : Base) (others : List Base) (far sent : ℕ) (journal quiet after : Rows) → IsCalmJournal words scenario journal → scenario.groups ≡ first ∷ others → RestsAt words scenario first journal quiet
     → IsKnownFront words scenario journal quiet far → IsRequested words scenario first far sent quiet after → quiet_front (players words (births as_nodes scenario)) (quiet ++ after) ≡ quiet → length (names_at (births as_nodes scenario) quiet) ≤ sent
     → AreNear scenario (chart_at far sent (players words (births as_nodes scenario)) (quiet ++ after)) first (quiet ++ after)
 
--- there are no more names than groups of the scenario and orders
+-- after these rows there are no more names of groups than groups of the scenario and orders given
 abbrev pub HasFewNames : Scenario → Rows → Type 0
 HasFewNames scenario rows = length (names_at (births as_nodes scenario) rows) ≤ length scenario.groups + orders rows
 
--- the names are those of the quiet, or one more, of the child that an order may make
+-- the names of groups are those of the quiet prefix, or these and the name that the order draws
 abbrev pub HasNamesSince : List (Seat Player) → Rows → Rows → Task → Type 0
 HasNamesSince births quiet rows task = (names_at births rows ≡ names_at births quiet) ⊎ (names_at births rows ≡ names_at births quiet ++ task.name ∷ [])
 
--- Names are few at the births; they stay by a row after which all groups that are there were so in the quiet; one order adds no name but its child's; and so they are few in the next quiet.
+-- there are few names at the births, requests add none, an order adds at most the name of its child, and so there are few in the next quiet journal
 pub record NamesStayFew : Type 0 where
   pub born : (words : ℕ → ℕ → ℕ × ℕ) (scenario : Scenario) (journal : Rows) → IsCalmJournal words scenario journal → HasFewNames scenario []
   pub asked : (words : ℕ → ℕ → ℕ × ℕ) (scenario : Scenario) (first : Base) (journal quiet rows : Rows) (row : Row Mail OrderLine) → IsCalmJournal words scenario journal → RestsAt words scenario first journal quiet

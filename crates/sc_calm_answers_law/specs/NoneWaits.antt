@@ -1,4 +1,4 @@
--- That no act waits at a replica with nothing in flight, while an order is under way since a quiet front of a calm journal.
+-- No act waits at a replica with nothing in flight, while an order is under way since a quiet prefix of a calm journal.
 use Rattle.std.specs.Prelude.{◌≡◌, ℕ, true, [], Some}
 use Rattle.sc_node_table.specs.Values.{Draw, Base, OrderLine, Seat, Deliver}
 use Rattle.sc_actor.specs.Definitions.{is_quiet}
@@ -12,11 +12,11 @@ use Rattle.sc_calm_rows_law.specs.Definitions.{view_at, IsSeat, with_event}
 use Rattle.sc_calm_answers_law.specs.Journal.{IsCalmJournal, IsFront, AreSent, GoesOnBy}
 use Rattle.sc_calm_answers_law.specs.Resting.{RestsAt}
 
--- each replica that runs has an act waiting only while something is in flight or ready, where it may offer
+-- each replica that runs is as `HasNoneWaiting` says: it has an act waiting only while something is in flight or ready, where it may offer
 abbrev pub HaveNoneWaiting : Scenario → Rows → Type 0
 HaveNoneWaiting scenario rows = (name : Draw) (node : ℕ) (r : ReplicaState) → view_at (births as_nodes scenario) rows name node ≡ Some r → r.running ≡ true → HasNoneWaiting r
 
--- So it is once an order is told in a quiet front that rests, and after each delivery, where all groups are well led after the row; and in the next quiet front each replica that runs, with nothing in flight, has no act waiting.
+-- `HaveNoneWaiting` holds once an order is given in a quiet prefix that rests, and after each delivery, where all groups are well led after the row; and in the next quiet prefix a replica that runs with nothing in flight has no act waiting
 pub record NoneWaits : Type 0 where
   pub begins : (words : ℕ → ℕ → ℕ × ℕ) (scenario : Scenario) (first : Base) (journal quiet : Rows) (seat : Seat Player) (line : OrderLine) → IsCalmJournal words scenario journal → RestsAt words scenario first journal quiet
       → IsSeat (births as_nodes scenario) seat → IsFront journal (with_event quiet seat (Told line)) → AreSent words scenario journal (with_event quiet seat (Told line)) → HaveNoneWaiting scenario (with_event quiet seat (Told line))

@@ -1,4 +1,4 @@
--- That the requests which groups note in a quiet front of a calm journal were begun.
+-- The requests which groups have noted in a quiet prefix of a calm journal were begun.
 use Rattle.std.specs.Prelude.{◌≡◌, ℕ, ◌≤◌, List, ◌∷◌, Some}
 use Rattle.sc_base.specs.Definitions.{Among}
 use Rattle.sc_node_table.specs.Values.{Draw, Base}
@@ -13,13 +13,13 @@ use Rattle.sc_budget_law.specs.Definitions.{replicas_after, frame_at_rest, IsBeg
 use Rattle.sc_calm_answers_law.specs.KnownFronts.{IsQuietFront}
 use Rattle.sc_calm_answers_law.specs.Links.{AreAllFree}
 
--- In rows that come in time each request that was issued is begun.
+-- in rows that come in time each request that a client issued is begun
 abbrev pub IssuedAreBegun : Type 0
 IssuedAreBegun =
     (words : ℕ → ℕ → ℕ × ℕ) (scenario : Scenario) (first : Base) (others : List Base) (rows : Rows) (asks : Asks) (seq at : ℕ) → IsValid scenario → scenario.groups ≡ first ∷ others → AreInTime (players words (births as_nodes scenario)) rows → Among asks scenario.clients
     → issue_row asks.client seq rows ≡ Some at → seq ≤ begun_of (value player_table (client_seat (route_of first) asks) rows)
 
--- So the group of a leader that stands in a quiet front has noted begun requests alone, and all values that it has come of such.
+-- in a quiet prefix where no group is locked, the group of each leader that stands has noted only begun requests, and holds only values that such requests wrote
 abbrev pub FrontsAreNoted : Type 0
 FrontsAreNoted =
     (words : ℕ → ℕ → ℕ × ℕ) (scenario : Scenario) (journal front : Rows) → IsQuietFront words scenario journal front → AreAllFree scenario front

@@ -1,4 +1,4 @@
--- That nothing was asked for at a slot beyond what a group's leader offered.
+-- No mail ever asked to accept anything at a slot beyond what the group's leader offered.
 use Rattle.std.specs.Prelude.{◌≡◌, ℕ, ◌<◌, List, []}
 use Rattle.sc_base.specs.Definitions.{Each}
 use Rattle.sc_node_table.specs.Values.{Draw, Base, Mail, MailBody, Request, Answer, Prepare, Promise, Accept, Accepted, Nack, Learn, Ask, Install, TxPrepare, TxVote, TxOutcome, TxElsewhere, TxWatch, TxWatched, Told, Seat}
@@ -9,7 +9,7 @@ use Rattle.sc_calm_law.specs.Definitions.{players, Rows}
 use Rattle.sc_following_law.specs.Definitions.{Course, Sets, Tellers}
 use Rattle.sc_calm_groups_law.specs.Definitions.{Ends, IsWellLed, AreTaughtAt, IsTaughtOn, AreWellBorn, HasOneLog, IsSentSo}
 
--- what a mail asks to accept of the group with this name is below a slot
+-- the mail asks to accept only below this slot in the group with this name; all other mail is allowed
 abbrev pub AsksBelow : Draw → ℕ → MailBody → Type 0
 AsksBelow name bound (Accept group ballot slot command) = group ≡ name → slot < bound
 AsksBelow name bound (Request group client seq op) = Unit {0}
@@ -29,18 +29,18 @@ AsksBelow name bound (TxWatch tx watch) = Unit {0}
 AsksBelow name bound (TxWatched tx coord part vote) = Unit {0}
 AsksBelow name bound (Told order result) = Unit {0}
 
--- each of these mails does
+-- each of these mails is as `AsksBelow` says
 abbrev pub AreAskedBelow : Draw → ℕ → List Mail → Type 0
 AreAskedBelow name bound sent = Each (λ mail. AsksBelow name bound mail.body) sent
 
--- After some rows a group is well led and its members learn all entries, in a course beyond whose bound no mail ever asked for anything.
+-- after some rows a group is well led and its members learn all entries, in a course beyond whose bound no mail ever asked for anything
 pub record IsAskedOn (at : Sets) (over : Ends) (by : Tellers) (words : ℕ → ℕ → ℕ × ℕ) (births : List (Seat Player)) (rows : Rows) (base : Base) : Type 0 where
   pub course : Course
   pub led : IsWellLed at over by words births rows base course
   pub taught : AreTaughtAt at words births rows base course
   pub asked : AreAskedBelow base.core.id course.bound (mails rows)
 
--- So it is after a journal whose rows come in time, and in which the group's log is one and its mail is sent so, if it is at first.
+-- `IsAskedOn` holds after a journal whose rows come in time, where the group has one log, its mail is as `IsSentSo` says, and its members are taught at the births
 abbrev pub GroupsAreAskedThrough : Type 0
 GroupsAreAskedThrough =
     (at : Sets) (over : Ends) (by : Tellers) (words : ℕ → ℕ → ℕ × ℕ) (births : List (Seat Player)) (journal : Rows) (base : Base) → AreWellBorn births → HasOneLog at over by births journal base → IsSentSo births journal base

@@ -1,4 +1,4 @@
--- Replicas of one group that executed as much are in one state.
+-- Replicas of one group which have executed as many entries are in the same state.
 use Rattle.std.specs.Prelude.{◌≡◌, ℕ, ◌≤◌, true, List, [], ◌∷◌, ◌++◌, Some}
 use Rattle.sc_node_table.specs.Values.{Draw, Base, OrderLine, Mail, Row}
 use Rattle.sc_node_table.specs.Definitions.{ReplicaState}
@@ -10,17 +10,17 @@ use Rattle.sc_calm_law.specs.Definitions.{MayPump, Ways, View as Replicas, HasRe
 use Rattle.sc_budget_law.specs.Definitions.{AreRequests, AreSeated, replicas_after, setting_at, AreFramesOf, DoHintsRise, IsQuietJournal, IsLinkedSetting, Frame}
 use Rattle.sc_calm_answers_law.specs.QuietLines.{HaveOneLog}
 
--- all replicas may pump
+-- all replicas may pump (`MayPump`)
 abbrev pub AllMayPump : Replicas → Type 0
 AllMayPump at = (group : Draw) (node : ℕ) (r : ReplicaState) → at group node ≡ Some r → MayPump r
 
--- so it is in each lawful journal of a valid scenario, whose replicas are at its nodes
+-- in each lawful journal of a valid scenario, whose replicas are at its nodes, replicas of one group which have executed as many entries are in the same state
 abbrev pub LawfulJournalsHaveOneLog : Type 0
 LawfulJournalsHaveOneLog =
     (words : ℕ → ℕ → ℕ × ℕ) (scenario : Scenario) (rows : List (Row Mail OrderLine)) → IsValid scenario → Lawful as_nodes words scenario rows
     → ((group : Draw) (node : ℕ) → HasReplica (replicas_after scenario rows) group node → (1 ≤ node) × (node ≤ scenario.nodes)) → HaveOneLog (replicas_after scenario rows)
 
--- .. and so a line of requests in a lawful journal leaves it quiet, and all replicas may pump if all might before
+-- a line of requests from a quiet journal that leaves no mail leaves a lawful journal quiet, and all replicas may pump if all might before
 abbrev pub LawfulLinesLeaveQuiet : Type 0
 LawfulLinesLeaveQuiet =
     (words : ℕ → ℕ → ℕ × ℕ) (scenario : Scenario) (first : Base) (others : List Base) (before after : List (Row Mail OrderLine)) (frames : List Frame) (ways : Ways)

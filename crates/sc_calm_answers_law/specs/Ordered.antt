@@ -1,4 +1,4 @@
--- All that holds while an order is under way since a quiet front of a calm journal, and that each delivery keeps it.
+-- All that holds while an order is under way since a quiet prefix of a calm journal, and that each delivery keeps it.
 use Rattle.std.specs.Prelude.{◌≡◌, ℕ, ◌+◌, true, ◌++◌, Some}
 use Rattle.sc_base.specs.Definitions.{Among, Each}
 use Rattle.sc_node_table.specs.Values.{Draw, Base, OrderLine, Mail, Client, Seat, Deliver}
@@ -33,11 +33,11 @@ use Rattle.sc_calm_answers_law.specs.Borne.{AreBorneSo}
 use Rattle.sc_calm_answers_law.specs.Tasks.{Task}
 use Rattle.sc_calm_answers_law.specs.Works.{AreAtWork, IsTaskOf}
 
--- the group of a mail is one of the journal
+-- if the mail names a group, a group of the journal has that name
 abbrev pub IsOfJournal : Scenario → Rows → Mail → Type 0
 IsOfJournal scenario journal mail = (name : Draw) → group_of_mail mail.body ≡ Some name → IsNamedGroup scenario journal name
 
--- An order is under way since a quiet front that rests: what is known of its stage, of the groups that it has not touched, of those that left a group, of rounds, of its transaction, of the groups that go, of its coordinator, of what stands at groups, and of the child that it makes; clients are as they were; each mail under way is of a group of the journal, errands go to nodes, no act waits in vain, and no group more has a name than the child.
+-- what holds while one order is under way since a quiet prefix that rests: its stage and the groups that it has not touched, hints and rounds of each group, what its leaders have executed, the groups that go, its coordinator and whom it asks, the commands that wait at groups, the child that it makes and the names of groups; clients are as they were, each mail under way is of a group of the journal, errands go to nodes, and no act waits with nothing in flight
 pub record IsOrderedSince (words : ℕ → ℕ → ℕ × ℕ) (scenario : Scenario) (first : Base) (journal quiet rows : Rows) : Type 0 where
   pub behind : Rows
   pub rows_are : rows ≡ quiet ++ behind
@@ -60,7 +60,7 @@ pub record IsOrderedSince (words : ℕ → ℕ → ℕ × ℕ) (scenario : Scena
   pub waits : HaveNoneWaiting scenario rows
   pub names : HasNamesSince (births as_nodes scenario) quiet rows task
 
--- So it is from an order on that is told in a quiet front that rests, before which errands went to nodes, which begins a stage, and finds what keeps the journal calm.
+-- an order given in a quiet prefix that rests, whose errands went to nodes, begins a stage, `IsOrderedSince` holds after its row, and the row finds what the potential needs
 abbrev pub OrdersBeginOrdered : Type 0
 OrdersBeginOrdered =
     (words : ℕ → ℕ → ℕ × ℕ) (scenario : Scenario) (first : Base) (journal quiet : Rows) (seat : Seat Player) (line : OrderLine) → IsCalmJournal words scenario journal → RestsAt words scenario first journal quiet → Each (GoesHome scenario) (mails quiet)
@@ -68,7 +68,7 @@ OrdersBeginOrdered =
     → IsOrderedSince words scenario first journal quiet (with_event quiet seat (Told line)) × StageAfter (births as_nodes scenario) quiet seat (Told line) Still
     × ((far sent : ℕ) → FindsCalm (chart_at far sent (players words (births as_nodes scenario)) quiet) (births as_nodes scenario) quiet seat (Told line))
 
--- All this holds after each delivery, which leaves the stage or is a step to the next one, and finds what keeps the journal calm, by the chart of the rows before it.
+-- each delivery keeps `IsOrderedSince`, leaves the stage as it is or takes it one step on, and finds what the potential needs by the chart of the rows before it
 abbrev pub DeliveriesKeepOrdered : Type 0
 DeliveriesKeepOrdered =
     (words : ℕ → ℕ → ℕ × ℕ) (scenario : Scenario) (first : Base) (journal quiet rows : Rows) (seat : Seat Player) (number : ℕ) → IsCalmJournal words scenario journal

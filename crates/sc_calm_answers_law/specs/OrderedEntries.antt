@@ -1,4 +1,4 @@
--- That a leader may count what is in flight at it, while an order is under way.
+-- A leader may count votes for what is in flight at it while an order is under way.
 use Rattle.std.specs.Prelude.{ℕ, ◌≤◌, length}
 use Rattle.sc_base.specs.Definitions.{Among}
 use Rattle.sc_node_table.specs.Values.{Draw, Command, Base, Flight}
@@ -10,7 +10,7 @@ use Rattle.sc_calm_orders_law.specs.Definitions.{Stage}
 use Rattle.sc_calm_entries_law.specs.Paid.{IsEntry}
 use Rattle.sc_calm_answers_law.specs.TrueEntries.{LeadsSince}
 
--- Each command that is in flight at a leader is an entry of an order, and leaves at most nine members.
+-- each command in flight at a leader is an entry of an order, and leaves at most nine members
 abbrev pub FlightsAreEntries : Type 0
 FlightsAreEntries =
     (words : ℕ → ℕ → ℕ × ℕ) (scenario : Scenario) (first : Base) (journal quiet rows : Rows) (name : Draw) (node : ℕ) (r : ReplicaState) (stage : Stage) → LeadsSince words scenario first journal quiet rows name node r stage

@@ -1,4 +1,4 @@
--- That what a journal tells a transaction to have come to can be carried out by its participant.
+-- A participant can carry out the outcome that the logs of a journal give its transaction.
 use Rattle.std.specs.Prelude.{◌≡◌, ℕ, false, List, Some, None}
 use Rattle.std.specs.FinMap.{get}
 use Rattle.sc_node_table.specs.Values.{Draw, Offer, Finish, Prepared, RecordVote, Base, Frozen, Outcome}
@@ -12,15 +12,15 @@ use Rattle.sc_calm_law.specs.Definitions.{Rows}
 use Rattle.sc_calm_logs_law.specs.Definitions.{IsGroupOf}
 use Rattle.sc_calm_answers_law.specs.Told.{IsAllowedBy}
 
--- what a group has lies on its arc
+-- all pairs of the group lie on its arc
 abbrev pub HasOwnKeys : Group → Type 0
 HasOwnKeys group = (key : List ℕ) → holds_key group.core.arc key ≡ false → get group.pairs key ≡ None
 
--- An outcome is one that a participant can carry out that was offered this and handed over that, while it has what lies on its arc.
+-- a participant can carry out this outcome, if it was offered this, has handed over this frozen state, and its pairs lie on its arc
 abbrev pub IsTakenBy : Outcome → Offer → Frozen → Type 0
 IsTakenBy outcome offer frozen = (group : Group) (own : Offer) → frozen_of group ≡ frozen → unsigned own ≡ offer → HasOwnKeys group → (after : Group) × (participant_after outcome group own ≡ Some after)
 
--- So is each that a journal tells of a transaction with a participant.
+-- a participant can carry out each outcome that the logs of a lawful journal allow for its transaction
 abbrev pub OutcomesAreTaken : Type 0
 OutcomesAreTaken =
     (words : ℕ → ℕ → ℕ × ℕ) (scenario : Scenario) (journal : Rows) (base : Base) → IsGroupOf as_nodes words scenario journal base

@@ -1,4 +1,4 @@
--- That a calm journal rests again once an order is over.
+-- A calm journal rests again once an order is over.
 use Rattle.std.specs.Prelude.{◌≡◌, ℕ, true, List, ◌∷◌}
 use Rattle.sc_node_table.specs.Values.{Base}
 use Rattle.sc_actor.specs.Definitions.{is_quiet}
@@ -9,7 +9,7 @@ use Rattle.sc_calm_answers_law.specs.Journal.{IsCalmJournal}
 use Rattle.sc_calm_answers_law.specs.Resting.{RestsAt}
 use Rattle.sc_calm_answers_law.specs.Ordered.{IsOrderedSince}
 
--- Once an order is over and it is quiet, the journal rests again.
+-- once the journal is quiet again after an order, it rests again (`RestsAt`)
 abbrev pub OrdersLeaveResting : Type 0
 OrdersLeaveResting =
     (words : ℕ → ℕ → ℕ × ℕ) (scenario : Scenario) (first : Base) (others : List Base) (journal quiet rows : Rows) → scenario.groups ≡ first ∷ others → IsCalmJournal words scenario journal → IsOrderedSince words scenario first journal quiet rows

@@ -1,4 +1,4 @@
--- That a quiet front of a calm journal rests, by what is known of its replicas, its clients and its notes.
+-- A quiet prefix of a calm journal rests, by what is known of its replicas, its clients and its groups.
 use Rattle.std.specs.Prelude.{◌≡◌, ℕ, ◌+◌, ◌≤◌, Bool, true, List, [], Some}
 use Rattle.sc_base.specs.Definitions.{Among, Each, client_actor, least_of}
 use Rattle.sc_node_table.specs.Values.{Draw, Base, Client}
@@ -22,7 +22,7 @@ use Rattle.sc_calm_answers_law.specs.RiseRising.{IsRisingOn}
 use Rattle.sc_calm_answers_law.specs.Journal.{AreSent}
 use Rattle.sc_calm_answers_law.specs.Resting.{RestsAt}
 
--- Nothing of an order is left, and a replica that runs waits for nothing; what becomes of those that left a group is as hints rise by, and rounds are few; a client that was told to go has all replies, and all others are as at their births; the scenario's first group has a replica where clients ask first; and groups went one after another.
+-- no part of an order is left, and a replica that runs has nothing waiting; hints rise and rounds are few; a client that has started has all replies, and each other is as at its birth; the node that clients ask first has a replica; and groups went one after another
 pub record EndsQuietly (words : ℕ → ℕ → ℕ × ℕ) (scenario : Scenario) (first : Base) (journal front : Rows) (sent : AreSent words scenario journal front) : Type 0 where
   pub still : IsAt Still (scene_at (births as_nodes scenario) front)
   pub done : (name : Draw) (node : ℕ) (r : ReplicaState) → view_at (births as_nodes scenario) front name node ≡ Some r → r.running ≡ true → (r.acts ≡ []) × (r.calls ≡ [])
@@ -36,6 +36,6 @@ pub record EndsQuietly (words : ℕ → ℕ → ℕ × ℕ) (scenario : Scenario
   pub turn : Draw → ℕ
   pub turns : GoInTurn (names_at (births as_nodes scenario) front) (all_replicas (births as_nodes scenario) front) turn
 
--- So such a front rests.
+-- a quiet prefix as `EndsQuietly` says rests
 abbrev pub QuietFrontsRest : Type 0
 QuietFrontsRest = (words : ℕ → ℕ → ℕ × ℕ) (scenario : Scenario) (first : Base) (journal front : Rows) → (q : IsQuietFront words scenario journal front) → EndsQuietly words scenario first journal front q.sent → RestsAt words scenario first journal front

@@ -1,4 +1,4 @@
--- That a quiet front of a calm journal rests, where its players are as a quiet journal asks it.
+-- A quiet prefix of a calm journal rests, where its players are as `IsQuietJournal` says.
 use Rattle.std.specs.Prelude.{◌≡◌, ℕ, ◌+◌, ◌≤◌, List, ◌∷◌, ◌++◌, Some}
 use Rattle.sc_base.specs.Definitions.{Each, Among}
 use Rattle.sc_node_table.specs.Values.{Draw, Base}
@@ -20,7 +20,7 @@ use Rattle.sc_calm_answers_law.specs.Journal.{AreSent}
 use Rattle.sc_calm_answers_law.specs.Resting.{RestsAt}
 use Rattle.sc_calm_answers_law.specs.Requested.{IsKnownFront, IsRequested}
 
--- Errands went to players, no more rounds were begun behind the first than orders told, what becomes of those that left a group is as hints rise by, and groups went one after another.
+-- mail of transactions went to players, no replica saw a later round than one more than the number of orders given, hints rise, and groups went one after another
 pub record RestsBesides (words : ℕ → ℕ → ℕ × ℕ) (scenario : Scenario) (journal front : Rows) (sent : AreSent words scenario journal front) : Type 0 where
   pub errands : Each (GoesToActor words (births as_nodes scenario)) (mails front)
   pub rounds : (name : Draw) (node : ℕ) (r : ReplicaState) → view_at (births as_nodes scenario) front name node ≡ Some r → r.top.round ≤ orders front + 1
@@ -28,12 +28,12 @@ pub record RestsBesides (words : ℕ → ℕ → ℕ × ℕ) (scenario : Scenari
   pub turn : Draw → ℕ
   pub turns : GoInTurn (names_at (births as_nodes scenario) front) (all_replicas (births as_nodes scenario) front) turn
 
--- Then it rests.
+-- a quiet prefix rests, where it is a quiet journal and is as `RestsBesides` says
 abbrev pub QuietJournalsRest : Type 0
 QuietJournalsRest =
     (words : ℕ → ℕ → ℕ × ℕ) (scenario : Scenario) (first : Base) (journal front : Rows) → (q : IsQuietFront words scenario journal front) → IsQuietJournal words scenario first front → RestsBesides words scenario journal front q.sent → RestsAt words scenario first journal front
 
--- So does one since whose last quiet front clients asked alone.
+-- a quiet prefix behind one that rests, with requests alone between the two, rests where it is as `RestsBesides` says
 abbrev pub RequestsLeaveResting : Type 0
 RequestsLeaveResting =
     (words : ℕ → ℕ → ℕ × ℕ) (scenario : Scenario) (first : Base) (others : List Base) (far sent : ℕ) (journal quiet after : Rows) → scenario.groups ≡ first ∷ others → RestsAt words scenario first journal quiet → IsKnownFront words scenario journal quiet far

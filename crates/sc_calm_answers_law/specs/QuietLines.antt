@@ -9,11 +9,11 @@ use Rattle.sc_orderly_law.specs.Definitions.{rest, is_born}
 use Rattle.sc_calm_law.specs.Definitions.{MayPump, Ways, View as Replicas, HasReplica, StandsQuiet, IsGoneQuiet, IsAtRest, RisesAt}
 use Rattle.sc_budget_law.specs.Definitions.{AreRequests, AreSeated, replicas_after, setting_at, AreFramesOf, DoHintsRise, IsQuietJournal, IsKept, IsLinkedSetting, Frame}
 
--- replicas of one group that executed as much are in one state
+-- replicas of one group that have executed as many entries are in the same state
 abbrev pub HaveOneLog : Replicas → Type 0
 HaveOneLog at = (group : Draw) (one other : ℕ) (r s : ReplicaState) → at group one ≡ Some r → at group other ≡ Some s → next r ≡ next s → r.group ≡ s.group
 
--- each replica is quiet, and kept; where all might pump before, all may
+-- all replicas are as in a quiet journal, and each is as any journal keeps it; and all may pump, if all might before
 pub record AreReplicasQuiet (before at : Replicas) : Type 0 where
   pub groups : (group : Draw) (node : ℕ) → HasReplica at group node → StandsQuiet at group ⊎ IsGoneQuiet at group
   pub at_rest : (group : Draw) (node : ℕ) (r : ReplicaState) → at group node ≡ Some r → IsAtRest r
@@ -21,7 +21,7 @@ pub record AreReplicasQuiet (before at : Replicas) : Type 0 where
   pub kept : (group : Draw) (node : ℕ) (r : ReplicaState) → at group node ≡ Some r → IsKept group node r
   pub may_pump : ((group : Draw) (node : ℕ) (r : ReplicaState) → before group node ≡ Some r → MayPump r) → (group : Draw) (node : ℕ) (r : ReplicaState) → at group node ≡ Some r → MayPump r
 
--- Where a line of requests from a quiet journal leaves no mail to anybody, all replicas are quiet again.
+-- where a line of requests from a quiet journal leaves no mail to any player, all replicas are quiet again
 abbrev pub LinesLeaveReplicasQuiet : Type 0
 LinesLeaveReplicasQuiet =
     (words : ℕ → ℕ → ℕ × ℕ) (scenario : Scenario) (first : Base) (others : List Base) (before after : List (Row Mail OrderLine)) (frames : List Frame) (ways : Ways)
@@ -32,7 +32,7 @@ LinesLeaveReplicasQuiet =
     → HaveOneLog (replicas_after scenario before) → HaveOneLog (replicas_after scenario (before ++ after))
     → AreReplicasQuiet (replicas_after scenario before) (replicas_after scenario (before ++ after))
 
--- .. and so the journal is quiet again
+-- where a line of requests from a quiet journal leaves no mail to any player, the journal is quiet again
 abbrev pub LinesLeaveQuiet : Type 0
 LinesLeaveQuiet =
     (words : ℕ → ℕ → ℕ × ℕ) (scenario : Scenario) (first : Base) (others : List Base) (before after : List (Row Mail OrderLine)) (frames : List Frame) (ways : Ways)

@@ -1,4 +1,4 @@
--- That the groups of a scenario have replicas at their first members in each front of a calm journal.
+-- The groups of a scenario have replicas at their first members in each prefix of a calm journal.
 use Rattle.std.specs.Prelude.{◌≡◌, ℕ, true, List, ◌∷◌}
 use Rattle.sc_base.specs.Definitions.{Among, is_member, least_of}
 use Rattle.sc_node_table.specs.Values.{Base}
@@ -8,7 +8,7 @@ use Rattle.sc_calm_law.specs.Definitions.{HasReplica, Rows}
 use Rattle.sc_budget_law.specs.Definitions.{replicas_after}
 use Rattle.sc_calm_answers_law.specs.Journal.{IsCalmJournal, IsFront}
 
--- Each first member of a group of the scenario has a replica of it; so has the one whom clients ask first.
+-- in each prefix of a calm journal each first member of a group of the scenario has a replica of it, and so has the node that clients ask first
 pub record FirstGroupsAreReached : Type 0 where
   pub members : (words : ℕ → ℕ → ℕ × ℕ) (scenario : Scenario) (journal front : Rows) (base : Base) → IsCalmJournal words scenario journal → IsFront journal front → Among base scenario.groups
       → (node : ℕ) → is_member base.core.members node ≡ true → HasReplica (replicas_after scenario front) base.core.id node

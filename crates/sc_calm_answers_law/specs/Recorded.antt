@@ -1,4 +1,4 @@
--- That a vote that a coordinator has in flight is true, since a quiet journal.
+-- A vote which a coordinator has in flight is true, since a quiet prefix.
 use Rattle.std.specs.Prelude.{ℕ}
 use Rattle.sc_base.specs.Definitions.{Among}
 use Rattle.sc_node_table.specs.Values.{Draw, Command, Noop, Call, Join, Leave, Split, Begin, Prepared, RecordVote, GiveUp, Finish, Watched, RecordWatch, Base, Flight}
@@ -9,7 +9,7 @@ use Rattle.sc_calm_orders_law.specs.Definitions.{Stage}
 use Rattle.sc_calm_answers_law.specs.Votes.{IsTrueEntry}
 use Rattle.sc_calm_answers_law.specs.TrueEntries.{LeadsSince}
 
--- a vote that is recorded
+-- the command records a vote: of a participant, or of a watcher
 abbrev pub IsRecord : Command → Type 0
 IsRecord (RecordVote tx vote by) = Unit {0}
 IsRecord (RecordWatch tx vote by) = Unit {0}
@@ -24,7 +24,7 @@ IsRecord (Prepared tx offer) = ⊥
 IsRecord (GiveUp tx) = ⊥
 IsRecord (Watched tx watch) = ⊥
 
--- Each of these that it has in flight is true: a participant's Yes decides, or asks a watcher that is neither the coordinator nor the participant, and its leader stays; and a watcher's vote decides.
+-- each vote that a coordinator is recording is true (`IsTrueEntry`): a participant's Yes decides, or it asks a watcher that is neither the coordinator nor the participant, and the leader stays; and a watcher's vote decides
 abbrev pub RecordsAreTrue : Type 0
 RecordsAreTrue =
     (words : ℕ → ℕ → ℕ × ℕ) (scenario : Scenario) (first : Base) (journal quiet rows : Rows) (name : Draw) (node : ℕ) (r : ReplicaState) (stage : Stage) → LeadsSince words scenario first journal quiet rows name node r stage

@@ -1,4 +1,4 @@
--- What holds while clients ask alone since a quiet front of a calm journal.
+-- What holds while clients ask alone since a quiet prefix of a calm journal.
 use Rattle.std.specs.Prelude.{◌≡◌, ℕ, ◌+◌, ◌≤◌, List, [], ◌∷◌, ◌++◌, true}
 use Rattle.sc_base.specs.Definitions.{Among, is_member}
 use Rattle.sc_node_table.specs.Values.{Base, OrderLine, Seat, Event}
@@ -18,11 +18,11 @@ use Rattle.sc_calm_answers_law.specs.Settings.{frames_after, AreAtNodes}
 use Rattle.sc_calm_answers_law.specs.Journal.{IsCalmJournal, IsFront}
 use Rattle.sc_calm_answers_law.specs.Resting.{RestsAt}
 
--- The setting that a quiet front gives to the requests behind it: the frames of the groups that stand, and ways as its chart has them.
+-- the setting that a quiet prefix gives to the requests behind it: the frames of the groups that stand, its replicas, and the ways of its chart
 abbrev pub setting_of : (ℕ → ℕ → ℕ × ℕ) → Scenario → ℕ → ℕ → Rows → Setting
 setting_of words scenario far sent quiet = setting_at (replicas_after scenario quiet) (frames_after scenario quiet) (chart_at far sent (players words (births as_nodes scenario)) quiet).ways
 
--- What else is known of a calm journal and one of its quiet fronts: there the entries are the logs and make one map, and replicas that are gone agree where; replicas are at nodes of the scenario after all first rows; first members are players; and ways may be longer by one than orders were told.
+-- what else is known of a quiet prefix of a calm journal: the entries are the logs of its groups and make one map; replicas that are gone agree where they went; replicas are at nodes of the scenario; first members of groups are players; and a way may be longer by one than the number of orders given so far
 pub record IsKnownFront (words : ℕ → ℕ → ℕ × ℕ) (scenario : Scenario) (journal quiet : Rows) (far : ℕ) : Type 0 where
   pub one : IsOneMap (world_at as_nodes scenario.groups quiet)
   pub logs : AreItsLogs as_nodes scenario.groups quiet
@@ -31,25 +31,25 @@ pub record IsKnownFront (words : ℕ → ℕ → ℕ × ℕ) (scenario : Scenari
   pub born : (base : Base) → Among base (groups_at as_nodes scenario.groups journal) → (who : ℕ) → is_member base.core.members who ≡ true → is_born (players words (births as_nodes scenario)) who ≡ true
   pub room : orders quiet + 1 ≤ far
 
--- Since a quiet front that rests clients asked by the rows behind it, and all players and mail are as requests leave them.
+-- since a quiet prefix clients have asked by the rows behind it, and all players and mail are as `IsAsking` says
 pub record IsRequested (words : ℕ → ℕ → ℕ × ℕ) (scenario : Scenario) (first : Base) (far sent : ℕ) (quiet after : Rows) : Type 0 where
   pub requests : AreRequests words scenario (setting_of words scenario far sent quiet) quiet after
   pub asking : IsAsking words scenario (setting_of words scenario far sent quiet) first (quiet ++ after)
 
--- So it is with nothing behind ..
+-- `IsRequested` holds with no row behind a quiet prefix that rests, and no request waits
 abbrev pub RequestsBegin : Type 0
 RequestsBegin =
     (words : ℕ → ℕ → ℕ × ℕ) (scenario : Scenario) (first : Base) (others : List Base) (far sent : ℕ) (journal quiet : Rows) → IsCalmJournal words scenario journal → scenario.groups ≡ first ∷ others → RestsAt words scenario first journal quiet
     → IsKnownFront words scenario journal quiet far → IsRequested words scenario first far sent quiet [] × NobodyWaits scenario first quiet
 
--- .. and whatever comes next in order, which tells no order, leaves it so ..
+-- `IsRequested` holds after one event more that comes in order, a client that starts or a delivery
 abbrev pub RequestsStay : Type 0
 RequestsStay =
     (words : ℕ → ℕ → ℕ × ℕ) (scenario : Scenario) (first : Base) (others : List Base) (far sent : ℕ) (journal quiet after : Rows) (seat : Seat Player) (event : Event OrderLine) → IsCalmJournal words scenario journal → scenario.groups ≡ first ∷ others
     → RestsAt words scenario first journal quiet → IsKnownFront words scenario journal quiet far → IsRequested words scenario first far sent quiet after → IsFront journal (quiet ++ after) → IsSeat (births as_nodes scenario) seat
     → IsInOrder (players words (births as_nodes scenario)) (quiet ++ after) seat.who event → IsRequested words scenario first far sent quiet (after ++ row_of player_table seat (quiet ++ after) event ∷ [])
 
--- .. and finds what keeps the journal calm, where each replica may pump and no client is sent on more often than any.
+-- while clients ask alone the next event finds what the potential needs, where each replica may pump and no client is sent on more often than the chart allows
 abbrev pub RequestsFindCalm : Type 0
 RequestsFindCalm =
     (words : ℕ → ℕ → ℕ × ℕ) (scenario : Scenario) (first : Base) (others : List Base) (far sent : ℕ) (journal quiet after : Rows) (seat : Seat Player) (event : Event OrderLine) → IsCalmJournal words scenario journal → scenario.groups ≡ first ∷ others
@@ -58,7 +58,7 @@ RequestsFindCalm =
     → NodesMayPump scenario (quiet ++ after) → AreNear scenario (chart_at far sent (players words (births as_nodes scenario)) (quiet ++ after)) first (quiet ++ after)
     → FindsCalm (chart_at far sent (players words (births as_nodes scenario)) (quiet ++ after)) (births as_nodes scenario) (quiet ++ after) seat event
 
--- While clients ask, no first member of a group that has no replica of it yet is sent anything of it.
+-- while clients ask alone, no mail of a group is pending for a first member that has no replica of it yet
 abbrev pub RequestsLeaveYoung : Type 0
 RequestsLeaveYoung =
     (words : ℕ → ℕ → ℕ × ℕ) (scenario : Scenario) (first : Base) (others : List Base) (far sent : ℕ) (journal quiet after : Rows) (base : Base) → IsCalmJournal words scenario journal → scenario.groups ≡ first ∷ others → RestsAt words scenario first journal quiet → IsFront journal (quiet ++ after)

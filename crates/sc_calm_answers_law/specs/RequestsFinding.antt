@@ -1,4 +1,4 @@
--- That mail finds what it needs while clients ask, between two orders of a calm journal.
+-- Mail finds what the potential needs while clients ask, between two orders of a calm journal.
 use Rattle.std.specs.Prelude.{◌≡◌, ℕ, ◌+◌, ◌≤◌, List}
 use Rattle.sc_base.specs.Definitions.{Among, Each, client_actor}
 use Rattle.sc_node_table.specs.Values.{Draw, Op, Route, OrderLine, Mail, Node, Row}
@@ -7,7 +7,7 @@ use Rattle.sc_scenario.specs.declared.scenarios.Scenario.{Scenario}
 use Rattle.sc_calm_law.specs.Definitions.{Chart, AreBounded, IsCalmFor, MayPump, Elsewhere, StandsOnce}
 use Rattle.sc_budget_law.specs.Definitions.{Setting, IsHome, HasGoneTo, IsSetting, IsCalmNode, IsCalmMail, ComesInTime, Frame, IsBegun}
 
--- A chart counts as requests find it: ways as the setting has them, each group of which there is a replica once, those that stand reached and all others away from one that stands by as many ends as lead there.
+-- a chart counts as a setting does: its ways are the setting's, each group that has a replica is among its groups once, and a group that is gone is farther, by at least one end, from a group that stands than the one that it went into
 pub record CountsAs (set : Setting) (chart : Chart) : Type 0 where
   pub bounded : AreBounded chart.ways
   pub far : (group : Draw) (node : ℕ) → chart.ways.far group node ≡ set.ways.far group node
@@ -15,7 +15,7 @@ pub record CountsAs (set : Setting) (chart : Chart) : Type 0 where
   pub stand : (frame : Frame) → Among frame set.frames → Among frame.core.id chart.reach.stands × (chart.reach.ends frame.core.id ≡ 0)
   pub go : (group : Draw) (into : Route) → HasGoneTo set group into → Each (λ other. other ≡ group → ⊥) chart.reach.stands × (chart.reach.ends into.group + 1 ≤ chart.reach.ends group)
 
--- A node whose replicas may all pump finds what it needs in each mail of requests that comes to it when it is due.
+-- a node whose replicas may pump finds what the potential needs in each mail of requests that comes to it when it is due
 abbrev pub RequestsAreTakenCalmly : Type 0
 RequestsAreTakenCalmly =
     (scenario : Scenario) (rows : List (Row Mail OrderLine)) (set : Setting) (chart : Chart) (elsewhere : Elsewhere) (node : NodeState) (mail : Mail)

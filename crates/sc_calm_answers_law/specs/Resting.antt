@@ -1,4 +1,4 @@
--- What holds of a quiet front of a calm journal.
+-- What holds of a quiet prefix of a calm journal that rests.
 use Rattle.std.specs.Prelude.{◌≡◌, ℕ, ◌+◌, ◌≤◌, true, Some}
 use Rattle.sc_base.specs.Definitions.{Among, is_member}
 use Rattle.sc_node_table.specs.Values.{Draw, Base}
@@ -21,7 +21,7 @@ use Rattle.sc_calm_answers_law.specs.Tellers.{tellers_at}
 use Rattle.sc_calm_answers_law.specs.RiseRising.{IsRisingOn}
 use Rattle.sc_calm_answers_law.specs.Journal.{IsFront, AreSent}
 
--- The players are as a quiet journal asks it; all groups are well led, and the first members of each that is there have a replica; nothing of an order is left; links and routes name nodes that have replicas; rounds are counted from 1 on, and no more were begun behind the first than orders told; what becomes of those that left a group is as hints rise by; and groups went one after another.
+-- a prefix of a calm journal rests: no mail is pending after it, and it is a quiet journal; all groups are well led, the first members of each that has a replica have one, and no part of an order is left; links and routes name nodes that have replicas; all replicas may pump; rounds are at least 1 and at most one more than the number of orders given; hints rise; and groups went one after another
 pub record RestsAt (words : ℕ → ℕ → ℕ × ℕ) (scenario : Scenario) (first : Base) (journal quiet : Rows) : Type 0 where
   pub front : IsFront journal quiet
   pub calm : is_quiet (players words (births as_nodes scenario)) quiet ≡ true

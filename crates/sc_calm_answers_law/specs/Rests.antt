@@ -1,4 +1,4 @@
--- What a group that is well led is in a quiet journal, as the definition of a quiet journal asks it.
+-- A group that is well led is, in a quiet journal, as `IsQuiet` says.
 use Rattle.std.specs.Prelude.{◌≡◌, ℕ, ◌^◌, ◌<◌, ◌≤◌, true, false, [], ◌++◌, length, Some}
 use Rattle.sc_base.specs.Definitions.{Each, is_member}
 use Rattle.sc_node_table.specs.Values.{Base, Free, Route}
@@ -18,11 +18,11 @@ use Rattle.sc_calm_groups_law.specs.Definitions.{IsWellLed, AreTaughtAt, HasOneL
 use Rattle.sc_calm_answers_law.specs.Led.{over_at}
 use Rattle.sc_calm_answers_law.specs.States.{state_at}
 
--- the replicas of a scenario after some rows
+-- the replicas of players after some rows, by group and number
 abbrev pub replicas_at : Scenario → Rows → View
 replicas_at scenario rows = view_at (births as_nodes scenario) rows
 
--- A group of a lawful journal is well led in quiet first rows of it that come in time, has one log, and its members learn all entries; no mail of it is for who is no actor, its slots are not used up, and each of its first members has made its replica.
+-- a group of a lawful journal after a quiet prefix of at most 2^28 rows that come in time: it is well led, has one log, and its members learn all entries; no mail of it is for a number that is no player; and each of its first members has a replica
 pub record IsQuietGroup (by : Tellers) (words : ℕ → ℕ → ℕ × ℕ) (scenario : Scenario) (journal front : Rows) (base : Base) (course : Course) : Type 0 where
   pub group : IsGroupOf as_nodes words scenario journal base
   pub more : Rows
@@ -36,45 +36,45 @@ pub record IsQuietGroup (by : Tellers) (words : ℕ → ℕ → ℕ × ℕ) (sce
   pub one : HasOneLog (logged_sets as_nodes base journal) (over_at as_nodes base journal) by (births as_nodes scenario) front base
   pub born : (node : ℕ) → is_member base.core.members node ≡ true → HasReplica (replicas_at scenario front) base.core.id node
 
--- each node that was ever a member has a replica
+-- in a quiet prefix each node that was ever a member of a quiet group (`IsQuietGroup`) has a replica of it
 abbrev pub MembersHaveReplicas : Type 0
 MembersHaveReplicas =
     (by : Tellers) (words : ℕ → ℕ → ℕ × ℕ) (scenario : Scenario) (journal front : Rows) (base : Base) (course : Course) → IsQuietGroup by words scenario journal front base course
     → (node slot : ℕ) → slot ≤ course.newest → is_member (members_at (logged_sets as_nodes base journal) slot) node ≡ true → HasReplica (replicas_at scenario front) base.core.id node
 
--- none saw a later ballot than the leader's, or accepted what was not offered
+-- no replica of the group saw a later ballot than the course's, or accepted anything at a slot at which nothing was offered
 abbrev pub SawNoMore : View → Base → Course → Type 0
 SawNoMore at base course = (node : ℕ) (r : ReplicaState) → at base.core.id node ≡ Some r → IsAtLeast course.ballot r.top × Each (λ report. report.slot < course.bound) r.acceptor.accepted
 
--- So a group that stands has one that leads, with nothing in flight or ready, and stands as a quiet journal asks it, where its leader's link is as that asks.
+-- a quiet group (`IsQuietGroup`) that is not gone stands as `StandsQuiet` says, with the course's node as its leader, where `SawNoMore` holds and the leader's link is as `IsLinked` says
 abbrev pub QuietGroupsStand : Type 0
 QuietGroupsStand =
     (by : Tellers) (words : ℕ → ℕ → ℕ × ℕ) (scenario : Scenario) (journal front : Rows) (base : Base) (course : Course) → IsQuietGroup by words scenario journal front base course → course.gone ≡ false
     → SawNoMore (replicas_at scenario front) base course → ((lead : ReplicaState) → replicas_at scenario front base.core.id course.ballot.node ≡ Some lead → IsLinked (replicas_at scenario front) lead)
     → (stands : StandsQuiet (replicas_at scenario front) base.core.id) × (replicas_at scenario front base.core.id course.ballot.node ≡ Some stands.lead)
 
--- the nodes of the group that a group went into have a replica of it
+-- each node that the route names has a replica of the group that the route names
 abbrev pub IsTakenIn : View → Route → Type 0
 IsTakenIn at into = (node : ℕ) → is_member into.members node ≡ true → HasReplica at into.group node
 
--- .. and one that is gone is so as that asks it, where the nodes of the group that took it in have a replica of that
+-- a quiet group (`IsQuietGroup`) that is gone is as `IsGoneQuiet` says, where the nodes of the group that it went into have a replica of that group
 abbrev pub QuietGroupsAreGone : Type 0
 QuietGroupsAreGone =
     (by : Tellers) (words : ℕ → ℕ → ℕ × ℕ) (scenario : Scenario) (journal front : Rows) (base : Base) (course : Course) → IsQuietGroup by words scenario journal front base course → course.gone ≡ true
     → ((into : Route) → (state_at as_nodes base journal course.newest).core.gone ≡ Some into → IsTakenIn (replicas_at scenario front) into) → IsGoneQuiet (replicas_at scenario front) base.core.id
 
--- no work stands at the one that runs
+-- each replica of the group that runs has no act and no request or order queued
 abbrev pub IsDone : View → Base → Type 0
 IsDone at base = (node : ℕ) (r : ReplicaState) → at base.core.id node ≡ Some r → r.running ≡ true → (r.acts ≡ []) × (r.calls ≡ [])
 
--- Where the newest state is locked in no transaction, and no work stands at the one that runs, each replica is at rest.
+-- each replica of a quiet group (`IsQuietGroup`) is at rest (`IsAtRest`), where the newest state is not locked and no replica that runs has anything queued
 abbrev pub QuietReplicasRest : Type 0
 QuietReplicasRest =
     (by : Tellers) (words : ℕ → ℕ → ℕ × ℕ) (scenario : Scenario) (journal front : Rows) (base : Base) (course : Course) → IsQuietGroup by words scenario journal front base course
     → (state_at as_nodes base journal course.newest).core.lock ≡ Free → IsDone (replicas_at scenario front) base
     → (node : ℕ) (r : ReplicaState) → replicas_at scenario front base.core.id node ≡ Some r → IsAtRest r
 
--- Each is as any journal keeps it, and may pump, where no report binds it.
+-- each replica of a quiet group (`IsQuietGroup`) is as any journal keeps it (`IsKept`), and may pump where it keeps no report while it does not run
 pub record QuietReplicasAreKept : Type 0 where
   pub kept : (by : Tellers) (words : ℕ → ℕ → ℕ × ℕ) (scenario : Scenario) (journal front : Rows) (base : Base) (course : Course) → IsQuietGroup by words scenario journal front base course
       → (node : ℕ) (r : ReplicaState) → replicas_at scenario front base.core.id node ≡ Some r → IsKept base.core.id node r

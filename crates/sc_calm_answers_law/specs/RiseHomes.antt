@@ -1,4 +1,4 @@
--- Each ballot that a node of a group has promised, is asked to promise, or is named in a refusal was seen by its own node, to which such refusals go.
+-- Each ballot which a node of a group has promised, is asked to promise, or finds in a Nack was seen by the ballot's own node, to which such Nacks go.
 use Rattle.std.specs.Prelude.{◌≡◌, ℕ, List, Option, Some, None}
 use Rattle.sc_base.specs.Definitions.{Each}
 use Rattle.sc_node_table.specs.Values.{Ballot, Base, Mail, Nack, Seat}
@@ -10,16 +10,16 @@ use Rattle.sc_calm_law.specs.Definitions.{players, Rows}
 use Rattle.sc_following_law.specs.Definitions.{Mark, Asks, Votes, Tells, Installs, Prepares, Promises}
 use Rattle.sc_calm_rows_law.specs.Definitions.{view_at, marks_at, promise_in}
 
--- the greatest ballot that a replica saw, the group's first where there is none
+-- the greatest ballot that a replica saw, or the group's first where there is no replica
 abbrev pub top_in : Base → Option ReplicaState → Ballot
 top_in base None = first_ballot base.core
 top_in base (Some r) = r.top
 
--- the node of a ballot saw it
+-- the node of the ballot has seen a ballot that is at least as great
 abbrev pub IsSeen : List (Seat Player) → Rows → Base → Ballot → Type 0
 IsSeen births rows base ballot = IsAtLeast (top_in base (view_at births rows base.core.id ballot.node)) ballot
 
--- .. that is to be promised by a mark
+-- if the mark asks to promise a ballot, the node of that ballot has seen it
 abbrev pub AsksSeen : List (Seat Player) → Rows → Base → Mark → Type 0
 AsksSeen births rows base (Prepares ballot) = IsSeen births rows base ballot
 AsksSeen births rows base (Asks ballot slot) = Unit {0}
@@ -28,11 +28,11 @@ AsksSeen births rows base (Tells slot) = Unit {0}
 AsksSeen births rows base (Installs slot) = Unit {0}
 AsksSeen births rows base (Promises node ballot) = Unit {0}
 
--- .. that is named in a refusal of the group, which goes to that node
+-- if the mail is a Nack of the group, it goes to the node of the ballot that it names, which has seen that ballot
 abbrev pub RefusesSeen : List (Seat Player) → Rows → Base → Mail → Type 0
 RefusesSeen births rows base mail = (promised : Ballot) → mail.body ≡ Nack base.core.id promised → (mail.to ≡ promised.node) × IsSeen births rows base promised
 
--- each such ballot was seen by its node, and the group's first by all
+-- each ballot that a node has promised, is asked to promise, or finds in a Nack was seen by the ballot's node; and every node has seen the group's first ballot
 pub record AreSeen (words : ℕ → ℕ → ℕ × ℕ) (births : List (Seat Player)) (rows : Rows) (base : Base) : Type 0 where
   pub first : (who : ℕ) → IsAtLeast (top_in base (view_at births rows base.core.id who)) (first_ballot base.core)
   pub promised : (who : ℕ) → IsSeen births rows base (promise_in base (view_at births rows base.core.id who))

@@ -1,4 +1,4 @@
--- That each row of a line of requests finds what it needs.
+-- Each row of a line of requests finds what the potential needs.
 use Rattle.std.specs.Prelude.{◌≡◌, ℕ, ◌≤◌, ◌==◌, ◌++◌, false, List, ◌∷◌, find, Some}
 use Rattle.sc_base.specs.Definitions.{Among, Each, client_actor}
 use Rattle.sc_node_table.specs.Values.{Base, OrderLine, Mail, Node, Client, Seat, Event, Row}
@@ -16,24 +16,24 @@ use Rattle.sc_calm_answers_law.specs.RequestsFinding.{CountsAs}
 use Rattle.sc_calm_answers_law.specs.Hearing.{AreReached, KnowOne}
 use Rattle.sc_calm_answers_law.specs.Tokens.{token_owing}
 
--- each replica of each node may pump
+-- each replica of each node may pump (`MayPump`)
 abbrev pub NodesMayPump : Scenario → List (Row Mail OrderLine) → Type 0
 NodesMayPump scenario rows =
     (me : ℕ) (node : NodeState) → 1 ≤ me → me ≤ scenario.nodes → value player_table (node_seat as_nodes scenario.groups scenario.policy me) rows ≡ Node node → Each MayPump node.replicas
 
--- a client that was not told to go is not sent on more often than any
+-- each client that has not started is sent on no more often than the chart allows
 abbrev pub AreNear : Scenario → Chart → Base → List (Row Mail OrderLine) → Type 0
 AreNear scenario chart first rows =
     (asks : Asks) (client : ClientState) → Among asks scenario.clients → value player_table (client_seat (route_of first) asks) rows ≡ Client client → has_gone rows (client_actor asks.client) ≡ false → sent_on chart.reach client.known ≤ chart.reach.most
 
--- what holds where a line of requests begins: nobody waits, who has not gone knows one group alone, and each client's request is under way once at most
+-- what holds where a line of requests begins: no request waits, a client that has not started knows one group alone, and each client's request is under way once at most
 pub record MayBegin (words : ℕ → ℕ → ℕ × ℕ) (scenario : Scenario) (set : Setting) (first : Base) (before : List (Row Mail OrderLine)) : Type 0 where
   pub asking : IsAsking words scenario set first before
   pub waits : NobodyWaits scenario first before
   pub knows : KnowOne scenario first before
   pub once : (asks : Asks) → Among asks scenario.clients → owed (system_of as_nodes words scenario) (token_owing asks.client) before ≤ 1
 
--- Whatever comes next in such a line, in order, finds what it needs, by a chart that counts as the setting does.
+-- whatever comes next in a line of requests, in order, finds what the potential needs, by a chart that counts as the setting does
 abbrev pub RequestRowsFindCalm : Type 0
 RequestRowsFindCalm =
     (words : ℕ → ℕ → ℕ × ℕ) (scenario : Scenario) (set : Setting) (chart : Chart) (first : Base) (others : List Base) (before after : List (Row Mail OrderLine)) (seat : Seat Player) (event : Event OrderLine)

@@ -1,10 +1,10 @@
--- What mail of a group says: none asks for entries, a Nack names no later ballot than the group's, and a Promise has no reports.
+-- What mail of a group may say: none asks for entries, a Nack names no later ballot than the group's, and a Promise has no reports.
 use Rattle.std.specs.Prelude.{◌≡◌, List, []}
 use Rattle.sc_base.specs.Definitions.{Each}
 use Rattle.sc_node_table.specs.Values.{Ballot, Draw, Mail, MailBody, Request, Answer, Prepare, Promise, Accept, Accepted, Nack, Learn, Ask, Install, TxPrepare, TxVote, TxOutcome, TxElsewhere, TxWatch, TxWatched, Told}
 use Rattle.sc_paxos_words.specs.Definitions.{IsAtLeast}
 
--- a mail says so of the group with this name, whose ballot is this
+-- a mail, if it is of the group with this name, asks for no entries, names no later ballot in a Nack, and reports nothing in a Promise
 abbrev pub SaysWell : Draw → Ballot → MailBody → Type 0
 SaysWell name ballot (Ask group from_slot) = group ≡ name → ⊥
 SaysWell name ballot (Nack group promised) = group ≡ name → IsAtLeast ballot promised
@@ -24,6 +24,6 @@ SaysWell name ballot (TxWatch tx watch) = Unit {0}
 SaysWell name ballot (TxWatched tx coord part vote) = Unit {0}
 SaysWell name ballot (Told order result) = Unit {0}
 
--- each of these mails does
+-- each of these mails is as `SaysWell` says
 abbrev pub AreSaidWell : Draw → Ballot → List Mail → Type 0
 AreSaidWell name ballot mails = Each (λ mail. SaysWell name ballot mail.body) mails

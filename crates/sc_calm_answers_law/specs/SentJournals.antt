@@ -1,4 +1,4 @@
--- That a group's mail is sent so through a calm journal, as its leader's course needs it.
+-- The mail of a group is, through a calm journal, as its leader's course needs it.
 use Rattle.std.specs.Prelude.{◌≡◌, ℕ, ◌<◌, true, List, [], ◌++◌, Some, None, ◌⊎◌}
 use Rattle.sc_base.specs.Definitions.{Among, Each, is_member}
 use Rattle.sc_node_table.specs.Values.{Base, OrderLine, Seat, Event}
@@ -20,16 +20,16 @@ use Rattle.sc_calm_answers_law.specs.Above.{IsAskedOn}
 use Rattle.sc_calm_answers_law.specs.SentHomes.{IsAtHome}
 use Rattle.sc_calm_answers_law.specs.Sent.{AreSaidWell}
 
--- After some rows, in the course in which a group is well led: its mail finds a replica where it needs one, and each mail that was ever sent says so of the group.
+-- after some rows, in a course of the group: its mail finds a replica where it needs one, and each mail that was ever sent is as `SaysWell` says
 pub record IsSentOn (at : Sets) (words : ℕ → ℕ → ℕ × ℕ) (births : List (Seat Player)) (rows : Rows) (base : Base) (course : Course) : Type 0 where
   pub homes : IsAtHome at (progress_at births rows base course) (marks_at (players words births) rows base.core.id)
   pub says : AreSaidWell base.core.id course.ballot (mails rows)
 
--- a first member of a group that has no replica of it yet is sent nothing of it
+-- no mail of a group is pending for a first member that has no replica of it yet
 abbrev pub IsQuietWhileYoung : (ℕ → ℕ → ℕ × ℕ) → List (Seat Player) → Rows → Base → Type 0
 IsQuietWhileYoung words births rows base = (who : ℕ) → is_member base.core.members who ≡ true → view_at births rows base.core.id who ≡ None → marks_at (players words births) rows base.core.id who ≡ []
 
--- So its mail is sent so in one row more.
+-- the group's mail is as `IsSentSo` says after one row more, where the group is well led, and no mail of it is pending for a first member that has no replica yet
 abbrev pub NextMailIsSentSo : Type 0
 NextMailIsSentSo =
     (words : ℕ → ℕ → ℕ × ℕ) (at : Sets) (over : Ends) (by : Tellers) (scenario : Scenario) (rows : Rows) (seat : Seat Player) (event : Event OrderLine) (base : Base) (course : Course) → IsBounded scenario → IsLogOf at by
@@ -40,7 +40,7 @@ NextMailIsSentSo =
 abbrev pub AreBornAsBegun : List (Seat Player) → Base → Type 0
 AreBornAsBegun births base = (who : ℕ) → (view_at births [] base.core.id who ≡ None) ⊎ ((view_at births [] base.core.id who ≡ Some (born_replica slots_ahead who base)) × (is_member base.core.members who ≡ true))
 
--- a group is well led after some rows, in whose course its mail is sent so, with one log
+-- after some rows a group is well led in a course, its mail is as that course needs it, and it has one log
 pub record IsSentThrough (at : Sets) (over : Ends) (by : Tellers) (words : ℕ → ℕ → ℕ × ℕ) (births : List (Seat Player)) (rows : Rows) (base : Base) : Type 0 where
   pub course : Course
   pub led : IsWellLed at over by words births rows base course
@@ -49,19 +49,19 @@ pub record IsSentThrough (at : Sets) (over : Ends) (by : Tellers) (words : ℕ �
   pub so : IsSentSo births rows base
   pub one : HasOneLog at over by births rows base
 
--- .. and so it is after one event more, in the course that comes of its row
+-- `IsSentThrough` holds after one event more, in the course that comes of its row
 pub record IsSentStep (at : Sets) (over : Ends) (by : Tellers) (words : ℕ → ℕ → ℕ × ℕ) (births : List (Seat Player)) (rows : Rows) (seat : Seat Player) (event : Event OrderLine) (base : Base) (course : Course) : Type 0 where
   pub step : IsLedStep at over by words births rows seat event base course
   pub through : IsSentThrough at over by words births (with_event rows seat event) base
   pub same : through.course ≡ step.later
 
--- Each group of a lawful journal of a valid scenario is so at the births ..
+-- each group of a lawful journal of a valid scenario is as `IsSentThrough` says at the births
 abbrev pub GroupsBeginSent : Type 0
 GroupsBeginSent =
     (words : ℕ → ℕ → ℕ × ℕ) (scenario : Scenario) (journal : Rows) (base : Base) → IsGroupOf as_nodes words scenario journal base → AreInTime (players words (births as_nodes scenario)) journal → AreFew as_nodes scenario journal base
     → IsSentThrough (logged_sets as_nodes base journal) (over_at as_nodes base journal) (tellers_at as_nodes scenario base journal) words (births as_nodes scenario) [] base
 
--- .. and after each of its rows, where the journal comes in time, if no first member is sent anything before it has its replica
+-- `IsSentThrough` holds after each row of a journal whose rows come in time, where no mail of the group is pending for a first member that has no replica of it yet
 abbrev pub NextRowsAreSent : Type 0
 NextRowsAreSent =
     (words : ℕ → ℕ → ℕ × ℕ) (scenario : Scenario) (journal : Rows) (base : Base) → IsGroupOf as_nodes words scenario journal base → AreInTime (players words (births as_nodes scenario)) journal → AreFew as_nodes scenario journal base
@@ -69,25 +69,25 @@ NextRowsAreSent =
     → (t : IsSentThrough (logged_sets as_nodes base journal) (over_at as_nodes base journal) (tellers_at as_nodes scenario base journal) words (births as_nodes scenario) rows base) → IsQuietWhileYoung words (births as_nodes scenario) rows base
     → IsSentStep (logged_sets as_nodes base journal) (over_at as_nodes base journal) (tellers_at as_nodes scenario base journal) words (births as_nodes scenario) rows seat event base t.course
 
--- So it is after first rows of such a journal, where no first member is sent anything before it has its replica.
+-- `IsSentThrough` holds after each prefix of a journal whose rows come in time, where in no prefix mail of the group is pending for a first member that has no replica of it yet
 abbrev pub LedJournalsAreSentSo : Type 0
 LedJournalsAreSentSo =
     (words : ℕ → ℕ → ℕ × ℕ) (scenario : Scenario) (journal : Rows) (base : Base) → IsGroupOf as_nodes words scenario journal base → AreInTime (players words (births as_nodes scenario)) journal → AreFew as_nodes scenario journal base
     → ((rows more : Rows) → journal ≡ rows ++ more → IsQuietWhileYoung words (births as_nodes scenario) rows base)
     → (rows more : Rows) → journal ≡ rows ++ more → IsSentThrough (logged_sets as_nodes base journal) (over_at as_nodes base journal) (tellers_at as_nodes scenario base journal) words (births as_nodes scenario) rows base
 
--- Then no replica saw a later ballot than the leader's, has accepted anything at a slot at which nothing was offered, or has a report that binds it.
+-- no replica of a group as `IsSentThrough` says saw a later ballot than the course's, has accepted anything at a slot at which nothing was offered, or keeps a report
 pub record SentReplicas : Type 0 where
   pub saw : (at : Sets) (over : Ends) (by : Tellers) (words : ℕ → ℕ → ℕ × ℕ) (births : List (Seat Player)) (rows : Rows) (base : Base) (t : IsSentThrough at over by words births rows base) (node : ℕ) (r : ReplicaState) → view_at births rows base.core.id node ≡ Some r
       → IsAtLeast t.course.ballot r.top × Each (λ report. report.slot < t.course.bound) r.acceptor.accepted
   pub plain : (at : Sets) (over : Ends) (by : Tellers) (words : ℕ → ℕ → ℕ × ℕ) (births : List (Seat Player)) (rows : Rows) (base : Base) → IsSentThrough at over by words births rows base → (node : ℕ) (r : ReplicaState) → view_at births rows base.core.id node ≡ Some r
       → r.leader.reports ≡ []
 
--- So each group of a lawful journal of a valid scenario is born: one of the scenario, and each other since no node has a replica of it then.
+-- each group of a lawful journal of a valid scenario is at the births as it begins: one of the scenario, or one of which no node has a replica then
 abbrev pub GroupsAreBornAsBegun : Type 0
 GroupsAreBornAsBegun = (words : ℕ → ℕ → ℕ × ℕ) (scenario : Scenario) (journal : Rows) (base : Base) → IsGroupOf as_nodes words scenario journal base → AreBornAsBegun (births as_nodes scenario) base
 
--- A first member of a group of the scenario has a replica at the births, and so at all times.
+-- a first member of a group of the scenario has a replica at all times, so no mail is pending for one without
 abbrev pub FirstGroupsAreNeverYoung : Type 0
 FirstGroupsAreNeverYoung =
     (words : ℕ → ℕ → ℕ × ℕ) (scenario : Scenario) (rows : Rows) (base : Base) → IsBounded scenario → Among base scenario.groups → AreInTime (players words (births as_nodes scenario)) rows

@@ -1,4 +1,4 @@
--- That the chart of some rows counts as the setting does that the last quiet journal before them gives.
+-- The chart of some rows counts as the setting does that the last quiet journal before them gives.
 use Rattle.std.specs.Prelude.{◌≡◌, ℕ, List, ◌∷◌, Some}
 use Rattle.sc_node_table.specs.Values.{Draw, Base, Route, OrderLine, Mail, Row}
 use Rattle.sc_node_table.specs.Definitions.{ReplicaState}
@@ -11,12 +11,12 @@ use Rattle.sc_budget_law.specs.Definitions.{replicas_after, setting_at, AreFrame
 use Rattle.sc_calm_answers_law.specs.RequestsFinding.{CountsAs}
 use Rattle.sc_calm_answers_law.specs.Settings.{AreAtNodes, AreReachable}
 
--- replicas of one group that are gone know the same group that it went into
+-- replicas of one group that are gone know the same route by which it went
 abbrev pub GoneAgree : Replicas → Type 0
 GoneAgree at =
     (group : Draw) (one other : ℕ) (r s : ReplicaState) (into elsewhere : Route) → at group one ≡ Some r → at group other ≡ Some s → r.group.core.gone ≡ Some into → s.group.core.gone ≡ Some elsewhere → into ≡ elsewhere
 
--- Where groups go one after another, the chart after requests behind a quiet journal counts as its setting does.
+-- the chart of rows behind a quiet journal counts as the journal's setting does (`CountsAs`), where groups went one after another
 abbrev pub QuietChartsCount : Type 0
 QuietChartsCount =
     (words : ℕ → ℕ → ℕ × ℕ) (scenario : Scenario) (first : Base) (others : List Base) (rows later : List (Row Mail OrderLine)) (far sent : ℕ) (frames : List Frame) (turn : Draw → ℕ)

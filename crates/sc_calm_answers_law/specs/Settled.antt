@@ -1,4 +1,4 @@
--- That the leader of a coordinator stays settled: nobody is asked to promise in its group since a quiet journal.
+-- The leader of a coordinator stays settled: nobody is asked to promise a ballot in its group since a quiet prefix.
 use Rattle.std.specs.Prelude.{◌≡◌, ℕ, true, false, List, [], ◌∷◌, Option, Some, ◌⊎◌}
 use Rattle.sc_node_table.specs.Values.{Seat, Deliver, Draw, Base, OrderLine, Mail, TxElsewhere}
 use Rattle.sc_actor.specs.declared.rows.Event.TheVariants.{Told}
@@ -19,7 +19,7 @@ use Rattle.sc_calm_answers_law.specs.TrueGoing.{GoesOnSince}
 use Rattle.sc_calm_answers_law.specs.TrueUnder.{AreSeen, IsTrueSince}
 use Rattle.sc_calm_answers_law.specs.Unsettled.{TakesSince}
 
--- neither asks to promise a ballot, nor is such a promise
+-- the mark neither asks to promise a ballot, nor is such a promise
 abbrev pub IsNoRound : Mark → Type 0
 IsNoRound (AsksFor ballot slot) = Unit {0}
 IsNoRound (Votes node ballot slot) = Unit {0}
@@ -28,11 +28,11 @@ IsNoRound (Installs slot) = Unit {0}
 IsNoRound (Prepares ballot) = ⊥
 IsNoRound (Promises node ballot) = ⊥
 
--- no such mail of a group is under way
+-- no mail of the group under way asks to promise a ballot, or is such a promise
 abbrev pub HasNoRounds : (ℕ → ℕ → ℕ × ℕ) → List (Seat Player) → Rows → Draw → Type 0
 HasNoRounds words births rows name = (who : ℕ) → Each IsNoRound (marks_at (players words births) rows name who)
 
--- the group that is told the order, or coordinates its transaction, with the node that leads it
+-- the group that the order is given to, or that coordinates its transaction, with the node that leads it
 abbrev pub coords_of : Stage → List (Draw × ℕ)
 coords_of Still = []
 coords_of (Ordered group chief work) = (group, chief) ∷ []
@@ -44,11 +44,11 @@ coords_of (Recorded deal agreed host) = (deal.coord, deal.chief) ∷ []
 coords_of (Closes tx party) = []
 coords_of (ClosesBoth tx one two) = []
 
--- no such mail of it is under way
+-- no mail of the group that the order is given to, or that coordinates its transaction, asks to promise a ballot, or is such a promise
 abbrev pub AreSettled : (ℕ → ℕ → ℕ × ℕ) → Scenario → Rows → Stage → Type 0
 AreSettled words scenario rows stage = Each (λ coord. HasNoRounds words (births as_nodes scenario) rows coord.0) (coords_of stage)
 
--- So it is from an order on that is told in a quiet front, where no mail of a group is for who is no player ..
+-- `AreSettled` holds once an order is given in a quiet prefix, where no mail of a group is for a number that is no player
 abbrev pub SettledOrdersBegin : Type 0
 SettledOrdersBegin =
     (words : ℕ → ℕ → ℕ × ℕ) (scenario : Scenario) (first : Base) (journal quiet : Rows) (seat : Seat Player) (line : OrderLine) (stage : Stage) → IsCalmJournal words scenario journal → RestsAt words scenario first journal quiet → AreSeen scenario quiet
@@ -57,7 +57,7 @@ SettledOrdersBegin =
     → IsAt stage (scene_at (births as_nodes scenario) (with_event quiet seat (Told line))) → IsTrueSince scenario quiet (with_event quiet seat (Told line)) stage
     → AreSettled words scenario (with_event quiet seat (Told line)) stage
 
--- .. and after each delivery, where leaders have nothing but work in flight and ready.
+-- each delivery keeps `AreSettled`, where leaders have only work of the order in flight and ready
 abbrev pub SettledOrdersGoOn : Type 0
 SettledOrdersGoOn =
     (words : ℕ → ℕ → ℕ × ℕ) (scenario : Scenario) (first : Base) (journal quiet rows : Rows) (seat : Seat Player) (number : ℕ) (stage later : Stage) → GoesOnSince words scenario first journal quiet rows seat number stage
@@ -66,7 +66,7 @@ SettledOrdersGoOn =
     → IsAt later (scene_at (births as_nodes scenario) (with_event rows seat (Deliver number))) → (later ≡ stage) ⊎ GoesBy rows (Deliver number) stage later
     → IsTrueSince scenario quiet (with_event rows seat (Deliver number)) later → AreSettled words scenario rows stage → AreSettled words scenario (with_event rows seat (Deliver number)) later
 
--- Then a coordinator that is to ask elsewhere is settled.
+-- a coordinator's leader that takes a TxElsewhere, which sends it to another node, is settled: it may offer at its next slot
 abbrev pub CoordinatorsAreSettled : Type 0
 CoordinatorsAreSettled =
     (words : ℕ → ℕ → ℕ × ℕ) (scenario : Scenario) (first : Base) (journal quiet rows : Rows) (seat : Seat Player) (number : ℕ) (mail : Mail) (group : Draw) (node : NodeState) (r : ReplicaState) (stage : Stage) (tx coord : Draw) (hint : Option ℕ)

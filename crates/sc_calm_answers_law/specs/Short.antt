@@ -1,4 +1,4 @@
--- That the journals of a calm scenario at its budget have few rows, so that slots and rounds are left in each.
+-- The journals of a calm scenario at its budget have few rows, so that slots and rounds are left in each.
 use Rattle.std.specs.Prelude.{ℕ, ◌+◌, ◌^◌, ◌≤◌, List, length}
 use Rattle.sc_node_table.specs.Values.{OrderLine, Mail, Row}
 use Rattle.sc_orderly_law.specs.Definitions.{deliveries, AreInTime}
@@ -9,7 +9,7 @@ use Rattle.sc_calm_law.specs.Definitions.{players}
 use Rattle.sc_budget_law.specs.Definitions.{orders_of, IsCalmAtBudget}
 use Rattle.sc_calm_answers_law.specs.Lines.{calm_deliveries_of}
 
--- A lawful journal of a valid calm scenario at its budget that gives an order has few rows, where they come in time and deliver no more often than all its lines do, and once more.
+-- a lawful journal of a valid calm scenario at its budget that gives an order has at most 2^28 rows, where they come in time and make at most one delivery more than `calm_deliveries_of`
 abbrev pub CalmJournalsAreShort : Type 0
 CalmJournalsAreShort =
     (words : ℕ → ℕ → ℕ × ℕ) (scenario : Scenario) (journal : List (Row Mail OrderLine)) → IsValid scenario → IsCalmAtBudget scenario → 1 ≤ orders_of scenario → Lawful as_nodes words scenario journal

@@ -1,4 +1,4 @@
--- That no mail of a group goes to who is no actor.
+-- No mail of a group goes to a number that is no player.
 use Rattle.std.specs.Prelude.{◌≡◌, ℕ, true, false, []}
 use Rattle.sc_base.specs.Definitions.{Among, is_member}
 use Rattle.sc_node_table.specs.Values.{Draw, Base}
@@ -9,7 +9,7 @@ use Rattle.sc_calm_law.specs.Definitions.{players, Rows}
 use Rattle.sc_calm_rows_law.specs.Definitions.{marks_at}
 use Rattle.sc_calm_answers_law.specs.Journal.{IsCalmJournal, IsFront, AreSent}
 
--- In a front of a calm journal whose groups are well led no mail of any group is for who is no actor; and first members of groups are actors.
+-- after a prefix of a calm journal whose groups are well led, no mail of any group is for a number that is no player; and first members of groups are players
 pub record NoMailForStrangers : Type 0 where
   pub strangers : (words : ℕ → ℕ → ℕ × ℕ) (scenario : Scenario) (journal front : Rows) → IsCalmJournal words scenario journal → IsFront journal front → AreSent words scenario journal front
       → (name : Draw) (who : ℕ) → is_born (players words (births as_nodes scenario)) who ≡ false → marks_at (players words (births as_nodes scenario)) front name who ≡ []

@@ -1,4 +1,4 @@
--- That no client takes mail while an order is under way.
+-- No client takes mail while an order is under way.
 use Rattle.std.specs.Prelude.{◌≡◌, ℕ}
 use Rattle.sc_node_table.specs.Values.{Base, Client, Seat}
 use Rattle.sc_actor.specs.Definitions.{value}
@@ -9,7 +9,7 @@ use Rattle.sc_calm_law.specs.Definitions.{Rows}
 use Rattle.sc_calm_answers_law.specs.Journal.{IsCalmJournal, GoesOnBy}
 use Rattle.sc_calm_answers_law.specs.Ordered.{IsOrderedSince}
 
--- While an order is under way what is delivered is taken by a node.
+-- while an order is under way each delivery is to a node
 abbrev pub TakersAreNodes : Type 0
 TakersAreNodes =
     (words : ℕ → ℕ → ℕ × ℕ) (scenario : Scenario) (first : Base) (journal quiet rows : Rows) (seat : Seat Player) (number : ℕ) → IsCalmJournal words scenario journal → IsOrderedSince words scenario first journal quiet rows

@@ -1,4 +1,4 @@
--- What stands at groups while an order is under way: which commands, in which states, by what the order is to do.
+-- Which commands may wait at groups while an order is under way, and in which states the groups may be, by what the order is to do.
 use Rattle.std.specs.Prelude.{◌≡◌, Bool, true, false, List, []}
 use Rattle.std.specs.List.{list_any}
 use Rattle.sc_base.specs.Definitions.{Each, same_draw}
@@ -7,7 +7,7 @@ use Rattle.sc_cmd.specs.declared.bodies.Body.TheVariants as At
 use Rattle.sc_cmd.specs.declared.orders.Order.TheVariants as An
 use Rattle.sc_node_table.specs.Definitions.{ReplicaState}
 
--- what an order is to do: the group that is told it, the name that it draws, and whether it splits that group
+-- what an order is to do: the group that it is given to, the name that it draws, and whether it splits that group
 pub record Task : Type 0 where
   pub group : Draw
   pub name : Draw
@@ -22,12 +22,12 @@ is_split (An.Merge group) = false
 is_split (An.Repart group at) = false
 is_split (An.Migrate group node) = false
 
--- it is off
+-- the flag is false
 abbrev pub IsOff : Bool → Type 0
 IsOff true = ⊥
 IsOff false = Unit {0}
 
--- participants are asked, and states are sent, by an order that does not split
+-- the order does not split, so it may ask participants and send states
 abbrev pub HasParts : Task → Type 0
 HasParts task = IsOff task.splits
 
@@ -40,7 +40,7 @@ IsNoSplit (At.Split at child) = ⊥
 
 -- ---- commands
 
--- by an order that splits: its split, at its own group, and what a watcher is asked and says
+-- a command of an order that splits: the split itself at its own group, what a watcher is asked and answers, and the outcome
 abbrev pub DoesSplit : Draw → Draw → Draw → Command → Type 0
 DoesSplit told child name (Split at drawn order) = (name ≡ told) × (drawn ≡ child)
 DoesSplit told child name (Finish tx outcome) = Unit {0}
@@ -55,7 +55,7 @@ DoesSplit told child name (Prepared tx offer) = ⊥
 DoesSplit told child name (RecordVote tx vote by) = ⊥
 DoesSplit told child name (GiveUp tx) = ⊥
 
--- by another: no call, no filler and no split
+-- a command of an order that does not split: no request, no filler and no split
 abbrev pub DoesOther : Command → Type 0
 DoesOther Noop = ⊥
 DoesOther (Call client seq op) = ⊥
@@ -70,58 +70,61 @@ DoesOther (Finish tx outcome) = Unit {0}
 DoesOther (Watched tx watch) = Unit {0}
 DoesOther (RecordWatch tx vote by) = Unit {0}
 
--- a command that stands at the group of this name
+-- a command that may wait at the group `name`, by whether the order splits, its group and the name that it draws
 abbrev pub DoesBy : Bool → Draw → Draw → Draw → Command → Type 0
 DoesBy true told child name command = DoesSplit told child name command
 DoesBy false told child name command = DoesOther command
 
+-- a command that may wait, be in flight or be ready at the group `name` while an order with this task is under way
 abbrev pub Does : Task → Draw → Command → Type 0
 Does task name command = DoesBy task.splits task.group task.name name command
 
 -- ---- states
 
--- a group coordinates its split alone, whose child it did not bear yet
+-- the transaction is the split of the order's own group, whose child it does not list yet
 abbrev pub SplitsInto : Draw → Draw → Draw → List Draw → Body → Type 0
 SplitsInto told child name born (At.Split at drawn) = (name ≡ told) × (drawn ≡ child) × (list_any (λ other. same_draw other child) born ≡ false)
 SplitsInto told child name born At.Merge = ⊥
 SplitsInto told child name born (At.Repart at) = ⊥
 SplitsInto told child name born (At.Migrate node) = ⊥
 
--- by an order that splits, a group is locked in that, or watches
+-- under an order that splits a group is locked in that split, or watches, or is free
 abbrev pub LockSplits : Draw → Draw → Draw → List Draw → Lock → Type 0
 LockSplits told child name born Free = Unit {0}
 LockSplits told child name born (Coordinating tx body order heard) = SplitsInto told child name born body
 LockSplits told child name born (Promised tx offer) = ⊥
 LockSplits told child name born (Watching tx watch) = Unit {0}
 
--- by another none is locked in a split
+-- under an order that does not split no group is locked in a split
 abbrev pub LockOther : Lock → Type 0
 LockOther Free = Unit {0}
 LockOther (Coordinating tx body order heard) = IsNoSplit body
 LockOther (Promised tx offer) = Unit {0}
 LockOther (Watching tx watch) = Unit {0}
 
--- a state in which the group of this name is
+-- a state that the group `name` may have, by whether the order splits, its group and the name that it draws
 abbrev pub IsBy : Bool → Draw → Draw → Draw → Core → Type 0
 IsBy true told child name core = LockSplits told child name core.born core.lock
 IsBy false told child name core = LockOther core.lock
 
+-- a state that the group `name` may have while an order with this task is under way
 abbrev pub Is : Task → Draw → Core → Type 0
 Is task name core = IsBy task.splits task.group task.name name core
 
 -- ---- children
 
--- an order that splits makes the one child that it names, of its own group; another makes none
+-- the child that the group `name` may make: an order that splits makes the one child that it names, of its own group; another makes none
 abbrev pub BearsBy : Bool → Draw → Draw → Draw → Base → Type 0
 BearsBy true told child name base = (name ≡ told) × (base.core.id ≡ child) × (base.core.lock ≡ Free)
 BearsBy false told child name base = ⊥
 
+-- the child that the group `name` may make while an order with this task is under way
 abbrev pub Bears : Task → Draw → Base → Type 0
 Bears task name base = BearsBy task.splits task.group task.name name base
 
 -- ---- replicas and mail
 
--- a replica of the group of this name, where an order is under way: no call and no order waits, what waits, is in flight or is ready stands there, and its state is so
+-- a replica of the group `name` while an order with this task is under way: no request and no order waits, what waits, is in flight or ready is as `Does` says, and its state is as `Is` says
 pub record IsAtWork (task : Task) (name : Draw) (r : ReplicaState) : Type 0 where
   pub calls : r.calls ≡ []
   pub acts : Each (Does task name) r.acts
@@ -129,7 +132,7 @@ pub record IsAtWork (task : Task) (name : Draw) (r : ReplicaState) : Type 0 wher
   pub ready : Each (λ entry. Does task name entry.1) r.ready
   pub state : Is task name r.group.core
 
--- what a mail says then: no client asks or is answered, an entry stands there, and no participant is asked or says anything, and no state is sent, by an order that splits
+-- what a mail may say while an order with this task is under way: no request and no answer; an entry as `Does` says; and under an order that splits no offer or vote of a participant and no state
 abbrev pub SaysWork : Task → MailBody → Type 0
 SaysWork task (Request group client seq op) = ⊥
 SaysWork task (Answer group seq answer) = ⊥

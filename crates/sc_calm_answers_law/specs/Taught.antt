@@ -1,4 +1,4 @@
--- That members of groups learn all entries in journals whose rows come in time.
+-- Members of groups learn all entries in journals whose rows come in time.
 use Rattle.std.specs.Prelude.{◌≡◌, ℕ, [], ◌++◌}
 use Rattle.sc_node_table.specs.Values.{Base}
 use Rattle.sc_orderly_law.specs.Definitions.{AreInTime}
@@ -12,12 +12,12 @@ use Rattle.sc_calm_groups_law.specs.Definitions.{IsTaughtOn, IsSentSo, HasOneLog
 use Rattle.sc_calm_answers_law.specs.Led.{over_at}
 use Rattle.sc_calm_answers_law.specs.Tellers.{tellers_at, AreFew}
 
--- So it is of each group of a lawful journal of a valid scenario at the births, whoever leads later ..
+-- at the births the members of each group of a lawful journal of a valid scenario learn all entries, whoever leads later
 abbrev pub GroupsBeginTaught : Type 0
 GroupsBeginTaught = (words : ℕ → ℕ → ℕ × ℕ) (by : Tellers) (scenario : Scenario) (journal : Rows) (base : Base) → IsGroupOf as_nodes words scenario journal base
     → IsTaughtOn (logged_sets as_nodes base journal) (over_at as_nodes base journal) by words (births as_nodes scenario) [] base
 
--- .. and after first rows of the journal whose rows come in time, in which its log is one, where its mail is sent so
+-- the members of each group of a lawful journal of a valid scenario learn all entries after a prefix of the journal, where its rows come in time and the group's mail is as `IsSentSo` says; and the group has one log there
 abbrev pub GroupsAreTaught : Type 0
 GroupsAreTaught =
     (words : ℕ → ℕ → ℕ × ℕ) (scenario : Scenario) (journal front more : Rows) (base : Base) → IsGroupOf as_nodes words scenario journal base → AreInTime (players words (births as_nodes scenario)) journal → AreFew as_nodes scenario journal base → journal ≡ front ++ more

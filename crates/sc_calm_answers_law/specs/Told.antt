@@ -1,4 +1,4 @@
--- What is allowed in the logs of groups by all that a journal tells, and what of that the lock of a replica's group says.
+-- Which commands the logs of a whole journal allow in a group's log, and what the lock of a replica's group says of that.
 use Rattle.std.specs.Prelude.{◌≡◌, ℕ, ◌≤◌, true, ◌++◌, length, Option, Some}
 use Rattle.sc_base.specs.Definitions.{Among, Each, united}
 use Rattle.sc_node_table.specs.Values.{Draw, Seat, Body, Offer, Watch, Command, Prepared, RecordVote, Watched, Base, Coordinating, Promised, Watching, Frozen, Heard, Flight}
@@ -15,15 +15,15 @@ use Rattle.sc_whole_law.specs.Definitions.{section_op, stories_at}
 use Rattle.sc_calm_law.specs.Definitions.{Rows}
 use Rattle.sc_calm_logs_law.specs.Definitions.{HasReplica, IsGroupOf}
 
--- whose each name of a journal is, and what clients ask
+-- the owner of each name of a journal, and what clients ask by which number
 abbrev pub sources_of : Scenario → Rows → Sources
 sources_of scenario journal = record { owner = owner_in as_nodes scenario journal; request = section_op scenario }
 
--- a command is allowed in the log of a group by what the logs of a journal tell
+-- a command is allowed in the log of the group with this name, by what the logs of the journal record (`IsAllowed`)
 abbrev pub IsAllowedBy : Scenario → Rows → Draw → Command → Type 0
 IsAllowedBy scenario journal name command = IsAllowed (sources_of scenario journal) (stories_at as_nodes scenario.groups journal) name command
 
--- What the lock of a group says: who coordinates may be answered, and has heard what was voted, by a merge alone, and can be split if it is to be; who has promised was asked to, and may be heard; and who watches was asked to.
+-- what the lock of a group says: a coordinator's offer and watch are allowed at the groups that it asks, a vote that it has recorded is a participant's Yes in a merge, and its split can be done; a participant's offer and Yes are allowed; and so is what a watcher was asked
 pub record LockTells (scenario : Scenario) (journal : Rows) (name : Draw) (group : Group) : Type 0 where
   pub offers : (tx : Draw) (body : Body) (order : ℕ) (heard : Option Heard) → group.core.lock ≡ Coordinating tx body order heard
       → (offer : Offer) → offer_for group.core body ≡ Some (unsigned offer) → IsAllowedBy scenario journal offer.part (Prepared tx offer)
@@ -34,7 +34,7 @@ pub record LockTells (scenario : Scenario) (journal : Rows) (name : Draw) (group
   pub promises : (tx : Draw) (offer : Offer) → group.core.lock ≡ Promised tx offer → IsAllowedBy scenario journal name (Prepared tx offer) × IsAllowedBy scenario journal name (RecordVote tx (Vows.Yes (frozen_of group)) 0)
   pub watches : (tx : Draw) (watch : Watch) → group.core.lock ≡ Watching tx watch → IsAllowedBy scenario journal name (Watched tx watch)
 
--- A group of first rows of a lawful journal of a valid scenario is one of the journal. So it is of each replica of a group after first rows of the journal; what it has in flight is allowed there; and of one transaction the participant is not the watcher, and both groups of a merge fit together.
+-- what the whole journal says of each replica in a prefix of it: its lock is as `LockTells` says, what it has in flight is allowed; and of one transaction the participant is not the watcher, and the two groups of a merge have at most nine members together
 pub record ReplicasTell : Type 0 where
   pub groups : (words : ℕ → ℕ → ℕ × ℕ) (scenario : Scenario) (journal rows more : Rows) (base : Base) → IsValid scenario → Lawful as_nodes words scenario journal → journal ≡ rows ++ more
       → Among base (groups_at as_nodes scenario.groups rows) → IsGroupOf as_nodes words scenario journal base

@@ -1,4 +1,4 @@
--- That what is known of an order since a quiet journal is so from when it is told.
+-- What `IsTrueSince` says of an order holds from the row that gives it.
 use Rattle.sc_node_table.specs.Values.{Seat, Base, OrderLine}
 use Rattle.sc_actor.specs.declared.rows.Event.TheVariants.{Told}
 use Rattle.sc_scenario.specs.declared.scenarios.Scenario.{Scenario}
@@ -12,7 +12,7 @@ use Rattle.sc_calm_answers_law.specs.Journal.{IsCalmJournal}
 use Rattle.sc_calm_answers_law.specs.Resting.{RestsAt}
 use Rattle.sc_calm_answers_law.specs.TrueUnder.{AreSeen, IsTrueSince}
 
--- An order that is told in a quiet front of a calm journal is so at each stage that stands then.
+-- `IsTrueSince` holds at each stage that stands once an order is given in a quiet prefix of a calm journal that rests
 abbrev pub TrueOrdersBegin : Type 0
 TrueOrdersBegin =
     (words : ℕ → ℕ → ℕ × ℕ) (scenario : Scenario) (first : Base) (journal quiet : Rows) (seat : Seat Player) (line : OrderLine) (stage : Stage) → IsCalmJournal words scenario journal → RestsAt words scenario first journal quiet → AreSeen scenario quiet

@@ -1,4 +1,4 @@
--- That what leaders have in flight of an order is true, since a quiet journal.
+-- What leaders have in flight of an order is true, since a quiet prefix.
 use Rattle.std.specs.Prelude.{ℕ}
 use Rattle.sc_base.specs.Definitions.{Among}
 use Rattle.sc_node_table.specs.Values.{Draw, Command, Noop, Call, Join, Leave, Split, Begin, Prepared, RecordVote, GiveUp, Finish, Watched, RecordWatch, Base, Flight}
@@ -13,7 +13,7 @@ use Rattle.sc_calm_answers_law.specs.Journal.{AreSent, IsCalmJournal, IsFront}
 use Rattle.sc_calm_answers_law.specs.Resting.{RestsAt}
 use Rattle.sc_calm_answers_law.specs.TrueUnder.{AreSeen, IsTrueSince}
 
--- What is known of a replica that leads alone while an order is at a stage, since a quiet front of a calm journal: only work is in flight or ready there.
+-- what is known of a replica that leads its group alone while an order is at a stage, since a quiet prefix of a calm journal: only work of the order is in flight or ready there
 pub record LeadsSince (words : ℕ → ℕ → ℕ × ℕ) (scenario : Scenario) (first : Base) (journal quiet rows : Rows) (name : Draw) (node : ℕ) (r : ReplicaState) (stage : Stage) : Type 0 where
   pub calm : IsCalmJournal words scenario journal
   pub rests : RestsAt words scenario first journal quiet
@@ -25,7 +25,7 @@ pub record LeadsSince (words : ℕ → ℕ → ℕ × ℕ) (scenario : Scenario)
   pub leads : LeadsAlone (births as_nodes scenario) rows name node r
   pub alone : IsOrdersAlone r
 
--- a command that begins or asks, or a vote that a group casts: neither a vote that is recorded, nor an outcome
+-- the command begins or asks something, or is the group's own vote: it neither records another group's vote nor carries out an outcome
 abbrev pub IsAskedOrCast : Command → Type 0
 IsAskedOrCast (RecordVote tx vote by) = ⊥
 IsAskedOrCast (RecordWatch tx vote by) = ⊥
@@ -40,7 +40,7 @@ IsAskedOrCast (Prepared tx offer) = Unit {0}
 IsAskedOrCast (GiveUp tx) = Unit {0}
 IsAskedOrCast (Watched tx watch) = Unit {0}
 
--- Each of these that it has in flight is true: one that begins a transaction asks another group, and one that votes has not voted, a watcher says Yes, and the leader stays.
+-- each command as `IsAskedOrCast` says that a leader has in flight is true (`IsTrueEntry`): one that begins a transaction asks another group; one that votes has not voted before, a watcher says Yes, and the leader stays
 abbrev pub VotesAreTrue : Type 0
 VotesAreTrue =
     (words : ℕ → ℕ → ℕ × ℕ) (scenario : Scenario) (first : Base) (journal quiet rows : Rows) (name : Draw) (node : ℕ) (r : ReplicaState) (stage : Stage) → LeadsSince words scenario first journal quiet rows name node r stage

@@ -1,4 +1,4 @@
--- That what is known of an order since a quiet journal is so after one more delivery, and whom it asks then.
+-- What `IsTrueSince` says of an order holds after one more delivery, and whom the order asks then.
 use Rattle.std.specs.Prelude.{◌≡◌, ℕ, ◌⊎◌}
 use Rattle.sc_node_table.specs.Values.{Seat, Deliver, Base}
 use Rattle.sc_scenario.specs.declared.scenarios.Scenario.{Scenario}
@@ -12,7 +12,7 @@ use Rattle.sc_calm_answers_law.specs.Journal.{GoesOnBy, IsCalmJournal}
 use Rattle.sc_calm_answers_law.specs.Resting.{RestsAt}
 use Rattle.sc_calm_answers_law.specs.TrueUnder.{AreSeen, IsTrueSince}
 
--- What is known where rows since a quiet front of a calm journal go on by a delivery that finds what an order needs, while this stage stands.
+-- what is known where rows since a quiet prefix of a calm journal go on by a delivery that finds what an order needs, while this stage stands
 pub record GoesOnSince (words : ℕ → ℕ → ℕ × ℕ) (scenario : Scenario) (first : Base) (journal quiet rows : Rows) (seat : Seat Player) (number : ℕ) (stage : Stage) : Type 0 where
   pub calm : IsCalmJournal words scenario journal
   pub rests : RestsAt words scenario first journal quiet
@@ -22,14 +22,14 @@ pub record GoesOnSince (words : ℕ → ℕ → ℕ × ℕ) (scenario : Scenario
   pub goes : GoesOnBy words scenario journal rows seat number
   pub finds : FindsOrder words (births as_nodes scenario) rows seat (Deliver number)
 
--- A group that is asked after it stood in the quiet.
+-- a group that is asked after the delivery stood in the quiet prefix
 abbrev pub AskedGroupsStood : Type 0
 AskedGroupsStood =
     (words : ℕ → ℕ → ℕ × ℕ) (scenario : Scenario) (first : Base) (journal quiet rows : Rows) (seat : Seat Player) (number : ℕ) (stage : Stage) → GoesOnSince words scenario first journal quiet rows seat number stage
     → (deal : Deal) (to : ℕ) → IsAt (Asks deal to) (scene_at (births as_nodes scenario) (with_event rows seat (Deliver number)))
     → StandsQuiet (replicas_after scenario quiet) deal.asked × IsThere (births as_nodes scenario) quiet deal.asked
 
--- So all this is known at the stage after it.
+-- a delivery as `GoesOnSince` says keeps `IsTrueSince`, at the stage after it
 abbrev pub TrueOrdersGoOn : Type 0
 TrueOrdersGoOn =
     (words : ℕ → ℕ → ℕ × ℕ) (scenario : Scenario) (first : Base) (journal quiet rows : Rows) (seat : Seat Player) (number : ℕ) (stage later : Stage) → GoesOnSince words scenario first journal quiet rows seat number stage

@@ -1,4 +1,4 @@
--- That a coordinator that is to ask elsewhere is told whom: each question goes to a node that has a replica of its group, and one that sends it on names such a node.
+-- A coordinator that is sent elsewhere with its question learns where: each question goes to a node that has a replica of its group, and a node that sends it elsewhere names such a node.
 use Rattle.std.specs.Prelude.{◌≡◌, ℕ, true, Option, Some, ◌⊎◌}
 use Rattle.sc_node_table.specs.Values.{Seat, Deliver, Draw, Command, Base, OrderLine, Mail, TxElsewhere, Flight}
 use Rattle.sc_actor.specs.declared.rows.Event.TheVariants.{Told}
@@ -16,11 +16,11 @@ use Rattle.sc_calm_answers_law.specs.TrueGoing.{GoesOnSince}
 use Rattle.sc_calm_answers_law.specs.TrueUnder.{IsTrueSince}
 use Rattle.sc_calm_answers_law.specs.Unsettled.{TakesSince}
 
--- a mail that names whom to ask instead names a node that has a replica of this group
+-- if the mail sends its receiver elsewhere, it names a node that has a replica of the group that is asked
 abbrev pub IsHintedAt : Scenario → Rows → Draw → Mail → Type 0
 IsHintedAt scenario quiet asked mail = (tx coord : Draw) (hint : Option ℕ) → mail.body ≡ TxElsewhere tx coord hint → (to : ℕ) × (hint ≡ Some to) × HasReplica (replicas_after scenario quiet) asked to
 
--- at a stage: a question that is under way goes to such a node, and so does each that is to be asked elsewhere
+-- at this stage a question under way goes to a node that has a replica of the group that is asked, and a mail that sends the coordinator elsewhere names such a node
 abbrev pub IsHinted : Scenario → Rows → Rows → Stage → Type 0
 IsHinted scenario quiet rows Still = Unit {0}
 IsHinted scenario quiet rows (Ordered group chief work) = Unit {0}
@@ -32,13 +32,13 @@ IsHinted scenario quiet rows (Recorded deal agreed host) = Unit {0}
 IsHinted scenario quiet rows (Closes tx party) = Unit {0}
 IsHinted scenario quiet rows (ClosesBoth tx one two) = Unit {0}
 
--- So it is from an order on that is told in a quiet front ..
+-- `IsHinted` holds once an order is given in a quiet prefix
 abbrev pub HintedOrdersBegin : Type 0
 HintedOrdersBegin =
     (words : ℕ → ℕ → ℕ × ℕ) (scenario : Scenario) (quiet : Rows) (seat : Seat Player) (line : OrderLine) (stage : Stage) → IsToldInQuiet words (births as_nodes scenario) quiet seat line
     → IsAt stage (scene_at (births as_nodes scenario) (with_event quiet seat (Told line))) → IsHinted scenario quiet (with_event quiet seat (Told line)) stage
 
--- .. and after each delivery, where what leaders have in flight is true.
+-- each delivery keeps `IsHinted`, where what leaders have in flight is true
 abbrev pub HintedOrdersGoOn : Type 0
 HintedOrdersGoOn =
     (words : ℕ → ℕ → ℕ × ℕ) (scenario : Scenario) (first : Base) (journal quiet rows : Rows) (seat : Seat Player) (number : ℕ) (stage later : Stage) → GoesOnSince words scenario first journal quiet rows seat number stage
@@ -46,7 +46,7 @@ HintedOrdersGoOn =
     → IsAt later (scene_at (births as_nodes scenario) (with_event rows seat (Deliver number))) → (later ≡ stage) ⊎ GoesBy rows (Deliver number) stage later
     → IsTrueSince scenario quiet (with_event rows seat (Deliver number)) later → IsHinted scenario quiet rows stage → IsHinted scenario quiet (with_event rows seat (Deliver number)) later
 
--- Then one that is to ask elsewhere is told whom.
+-- a TxElsewhere that a replica takes names a node
 abbrev pub CoordinatorsAreHinted : Type 0
 CoordinatorsAreHinted =
     (words : ℕ → ℕ → ℕ × ℕ) (scenario : Scenario) (first : Base) (journal quiet rows : Rows) (seat : Seat Player) (number : ℕ) (mail : Mail) (group : Draw) (node : NodeState) (r : ReplicaState) (stage : Stage) (tx coord : Draw) (hint : Option ℕ)

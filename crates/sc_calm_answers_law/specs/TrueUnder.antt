@@ -1,4 +1,4 @@
--- What holds of an order's transaction and of its parties, since the quiet before it.
+-- What holds of an order's transaction and of its parties, since the quiet prefix before the order.
 use Rattle.std.specs.Prelude.{◌≡◌, ℕ, List, [], ◌∷◌}
 use Rattle.sc_base.specs.Definitions.{Each}
 use Rattle.sc_node_table.specs.Values.{Draw}
@@ -15,7 +15,7 @@ use Rattle.sc_calm_answers_law.specs.New.{IsOfNew}
 abbrev pub AreSeen : Scenario → Rows → Type 0
 AreSeen scenario rows = (name : Draw) (node : ℕ) → view_at (births as_nodes scenario) rows name node ≡ replicas_after scenario rows name node
 
--- the group that is asked at a stage
+-- the group that is asked at a stage, if any
 abbrev pub asked_of : Stage → List Draw
 asked_of Still = []
 asked_of (Ordered group chief work) = []
@@ -27,7 +27,7 @@ asked_of (Recorded deal agreed host) = deal.asked ∷ []
 asked_of (Closes tx party) = []
 asked_of (ClosesBoth tx one two) = []
 
--- Of an order at a stage after some rows, since a quiet journal: its transaction has a name that was not in use then; its leaders have executed what the stage says, and no more; and the group that is asked stood then.
+-- of an order at a stage, since a quiet prefix: its transaction has a name that was not in use then, its leaders have executed what the stage says and no more, and the group that is asked stood then
 pub record IsTrueSince (scenario : Scenario) (quiet rows : Rows) (stage : Stage) : Type 0 where
   pub new : IsOfNew scenario quiet stage
   pub done : Each (HasDone (births as_nodes scenario) quiet rows) (doers_of stage)

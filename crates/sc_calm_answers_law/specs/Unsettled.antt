@@ -1,4 +1,4 @@
--- That mail of a transaction which is under way since a quiet journal comes unsettled.
+-- Mail of a transaction which is under way since a quiet prefix finds what `IsUnsettled` says.
 use Rattle.std.specs.Prelude.{◌≡◌, ℕ, Option, Some}
 use Rattle.sc_node_table.specs.Values.{Seat, Draw, Base, Mail, TxElsewhere}
 use Rattle.sc_node_table.specs.Definitions.{NodeState, replica_of, ReplicaState}
@@ -12,7 +12,7 @@ use Rattle.sc_calm_answers_law.specs.Journal.{IsCalmJournal}
 use Rattle.sc_calm_answers_law.specs.Resting.{RestsAt}
 use Rattle.sc_calm_answers_law.specs.TrueUnder.{AreSeen, IsTrueSince}
 
--- What is known where a replica takes a mail while an order is at a stage, since a quiet front of a calm journal.
+-- what is known where a replica takes a mail while an order is at a stage, since a quiet prefix of a calm journal
 pub record TakesSince (words : ℕ → ℕ → ℕ × ℕ) (scenario : Scenario) (first : Base) (journal quiet rows : Rows) (seat : Seat Player) (number : ℕ) (mail : Mail) (group : Draw) (node : NodeState) (r : ReplicaState) (stage : Stage) : Type 0 where
   pub calm : IsCalmJournal words scenario journal
   pub rests : RestsAt words scenario first journal quiet
@@ -22,7 +22,7 @@ pub record TakesSince (words : ℕ → ℕ → ℕ × ℕ) (scenario : Scenario)
   pub taking : IsTaking words (births as_nodes scenario) rows seat number mail group node
   pub here : replica_of group node.replicas ≡ Some r
 
--- A question finds that no vote stands, and a vote that no outcome is noted.
+-- a mail of a transaction that a replica takes as `TakesSince` says finds what `IsUnsettled` says, where it is no TxElsewhere: a question, that the group has cast no vote on it; a vote, that no outcome is noted
 abbrev pub MailComesUnsettled : Type 0
 MailComesUnsettled =
     (words : ℕ → ℕ → ℕ × ℕ) (scenario : Scenario) (first : Base) (journal quiet rows : Rows) (seat : Seat Player) (number : ℕ) (mail : Mail) (group : Draw) (node : NodeState) (r : ReplicaState) (stage : Stage)

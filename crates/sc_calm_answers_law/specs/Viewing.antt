@@ -1,4 +1,4 @@
--- That the replicas of players are those of the nodes.
+-- The replicas of players are those of the nodes.
 use Rattle.std.specs.Prelude.{◌≡◌, ℕ}
 use Rattle.sc_node_table.specs.Values.{Draw}
 use Rattle.sc_scenario.specs.Definitions.{IsBounded}
@@ -10,7 +10,7 @@ use Rattle.sc_calm_charts_law.specs.Definitions.{replica_at as chart_replica}
 use Rattle.sc_calm_answers_law.specs.Settings.{AreAtNodes}
 use Rattle.sc_budget_law.specs.Definitions.{replicas_after}
 
--- After any rows of a scenario the replica of a player is that of the node with its number, where all replicas are at nodes; and so says the chart.
+-- after any rows of a scenario the replica of a group at a player is that of the node with its number, where all replicas are at nodes; and the chart has the same
 pub record ViewsAgree : Type 0 where
   pub nodes : (scenario : Scenario) (rows : Rows) (name : Draw) (who : ℕ) → IsBounded scenario → AreAtNodes scenario rows → view_at (births as_nodes scenario) rows name who ≡ replicas_after scenario rows name who
   pub charts : (scenario : Scenario) (rows : Rows) (name : Draw) (who : ℕ) → chart_replica (births as_nodes scenario) rows name who ≡ view_at (births as_nodes scenario) rows name who

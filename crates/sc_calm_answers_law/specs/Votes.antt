@@ -13,12 +13,12 @@ use Rattle.sc_node_table.specs.Definitions.{NodeState, ReplicaState, before_of}
 use Rattle.sc_sound.specs.Definitions.{Player}
 use Rattle.sc_cmd.specs.declared.votes.Vote.TheVariants as Says
 
--- nothing but work is in flight or ready at a replica: neither calls nor fillers
+-- only work of an order is in flight or ready at a replica: no request of a client and no filler
 pub record IsOrdersAlone (r : ReplicaState) : Type 0 where
   pub flights : Each (λ flight. IsWork flight.value) r.leader.flights
   pub ready : Each (λ entry. IsWork entry.1) r.ready
 
--- what a group waits for whose leader has this work, by its bond: one that is told an order or weighs a question is bound by nothing, one that records a vote is the coordinator, and one that ends is bound
+-- what a group is bound by whose leader has this work: nothing, where it was given an order or weighs a question; as coordinator, where it records a vote; and by its own Yes, where it carries out an outcome
 abbrev pub WorkExpects : Work → Bond → Type 0
 WorkExpects Changes bond = bond ≡ Unbound
 WorkExpects (Opens tx) bond = bond ≡ Unbound
@@ -27,15 +27,15 @@ WorkExpects (Records tx watch agreed by) bond = (asked : Draw) × (turn : Turn) 
 WorkExpects (GivesUp tx) bond = ⊥
 WorkExpects (Ends tx) bond = bond ≡ Bound tx
 
--- So it does in each stage.
+-- at each stage each group's bond and work are as `WorkExpects` says
 abbrev pub StagesExpectWork : Type 0
 StagesExpectWork = (now : Scene) (group : Draw) (work : Work) → IsUnderWay now → (now.at group).work ≡ work ∷ [] → WorkExpects work (now.at group).bond
 
--- an order that is begun asks another group, and the leader of its own stays
+-- by this entry the group asks another group, and its leader stays a member
 abbrev pub AsksAnother : Command → ℕ → Group → Draw → Type 0
 AsksAnother command me group asked = StaysIn command me group × (asked ≡ group.core.id → ⊥)
 
--- What an entry of an order has to be: one that begins a transaction asks another group; a vote is true, a watcher's Yes, and the leader stays by it; a Yes decides, or asks another watcher; and an outcome can be taken.
+-- what an entry of an order has to be: one that begins a transaction asks another group; one that votes has not voted before, a watcher says Yes, and the leader stays; a Yes that is recorded decides, or asks another watcher; a watcher's vote decides; and an outcome can be carried out
 abbrev pub IsTrueEntry : ℕ → Group → Command → Type 0
 IsTrueEntry me group (Split at child order) = is_alone group.core ≡ false → is_changed (applied group (Split at child order)).1 ≡ true → AsksAnother (Split at child order) me group group.core.succ.group
 IsTrueEntry me group (Begin tx body order) = is_changed (applied group (Begin tx body order)).1 ≡ true → IsBegun body × AsksAnother (Begin tx body order) me group group.core.succ.group
@@ -56,7 +56,7 @@ IsTrueEntry me group (GiveUp tx) = Unit {0}
 IsTrueEntry me group Noop = Unit {0}
 IsTrueEntry me group (Call client seq op) = Unit {0}
 
--- A vote finds at the leader nothing in flight at its slot, or the one command that is there alone, of one of the kinds of entries, while an order is under way, where only work is in flight, and the commands in flight are true.
+-- while an order is under way a vote finds at the leader no command in flight at its slot, or the one command of a kind of entry that is in flight alone, where only work is in flight and all of it is true
 abbrev pub VotesAreFound : Type 0
 VotesAreFound =
     (words : ℕ → ℕ → ℕ × ℕ) (births : List (Seat Player)) (rows : Rows) (seat : Seat Player) (number : ℕ) (mail : Mail) (base : Base) (node : NodeState) (r : ReplicaState) (named : Draw) (ballot : Ballot) (slot : ℕ)

@@ -1,4 +1,4 @@
--- What stands at groups in each front while an order is under way, from the order on.
+-- What waits at groups in each prefix while an order is under way, from the order on.
 use Rattle.std.specs.Prelude.{◌≡◌, ℕ, ◌≤◌, true, false, List, [], Some}
 use Rattle.std.specs.List.{list_any}
 use Rattle.sc_base.specs.Definitions.{same_draw, Each}
@@ -18,19 +18,19 @@ use Rattle.sc_calm_answers_law.specs.FoundRows.{MeetsOrder}
 use Rattle.sc_calm_answers_law.specs.Votes.{IsOrdersAlone}
 use Rattle.sc_calm_answers_law.specs.Tasks.{Task, IsAtWork, SaysWork, Bears}
 
--- after some rows each replica is at work so, and all mail under way says so
+-- after some rows each replica is as `IsAtWork` says, and all mail under way is as `SaysWork` says
 pub record AreAtWork (task : Task) (words : ℕ → ℕ → ℕ × ℕ) (births : List (Seat Player)) (rows : Rows) : Type 0 where
   pub replicas : (name : Draw) (who : ℕ) (r : ReplicaState) → view_at births rows name who ≡ Some r → IsAtWork task name r
   pub mail : (who : ℕ) → is_born (players words births) who ≡ true → Each (λ mail. SaysWork task mail.body) (rest (players words births) rows who)
 
--- what an order that is told after these rows is to do: at its own group; and where it splits that, the group is there, and no group had the name that it draws, or knew it for a child's
+-- the task of an order that is given after these rows: it is at the order's own group; and where it splits that group, the group has a replica, and no group had the name that the order draws, or lists it as a child's
 pub record IsTaskOf (births : List (Seat Player)) (quiet : Rows) (line : OrderLine) (task : Task) : Type 0 where
   pub group : task.group ≡ group_of_order line.order
   pub there : task.splits ≡ true → IsThere births quiet task.group
   pub new : task.splits ≡ true → IsNowhere births quiet task.name
   pub unknown : task.splits ≡ true → (name : Draw) (who : ℕ) (r : ReplicaState) → view_at births quiet name who ≡ Some r → list_any (λ other. same_draw other task.name) r.group.core.born ≡ false
 
--- An order is told in a quiet journal, in which each replica rests, and one that runs has counted no reports and has slots left: so it stands at its group, or is refused.
+-- an order given in a quiet journal in which each replica rests has a task, and `AreAtWork` holds after its row
 abbrev pub OrdersBeginWork : Type 0
 OrdersBeginWork =
     (words : ℕ → ℕ → ℕ × ℕ) (scenario : Scenario) (quiet : Rows) (seat : Seat Player) (line : OrderLine) → IsValid scenario → Lawful as_nodes words scenario quiet → IsSeat (births as_nodes scenario) seat
@@ -38,14 +38,14 @@ OrdersBeginWork =
     → ((name : Draw) (who : ℕ) (r : ReplicaState) → view_at (births as_nodes scenario) quiet name who ≡ Some r → IsAtRest r × (r.running ≡ true → r.leader.reports ≡ []) × (next r ≤ last_slot))
     → (task : Task) × IsTaskOf (births as_nodes scenario) quiet line task × AreAtWork task words (births as_nodes scenario) (with_event quiet seat (Told line))
 
--- a delivery in time that meets what an order needs, at which each group that has a replica is guided
+-- a delivery in time that finds what an order needs, at which each group that has a replica is guided
 pub record IsGuidedRow (words : ℕ → ℕ → ℕ × ℕ) (scenario : Scenario) (rows : Rows) (seat : Seat Player) (number : ℕ) : Type 0 where
   pub seated : IsSeat (births as_nodes scenario) seat
   pub timely : AreInTime (players words (births as_nodes scenario)) (with_event rows seat (Deliver number))
   pub meets : MeetsOrder words (births as_nodes scenario) rows seat number
   pub groups : (name : Draw) (node : ℕ) (r : ReplicaState) → view_at (births as_nodes scenario) rows name node ≡ Some r → IsNamedGuide words (births as_nodes scenario) rows seat (Deliver number) name
 
--- So it does after each delivery; children that are made are those that the order may make, which their group did not know; and no request and no answer is delivered.
+-- a delivery as `IsGuidedRow` says keeps `AreAtWork`; the children that it makes are those that the order may make, which their group did not list before; and no request and no answer is delivered
 pub record DeliveriesKeepWork : Type 0 where
   pub keeps : (words : ℕ → ℕ → ℕ × ℕ) (scenario : Scenario) (rows : Rows) (seat : Seat Player) (number : ℕ) (task : Task) → IsGuidedRow words scenario rows seat number → AreAtWork task words (births as_nodes scenario) rows
       → AreAtWork task words (births as_nodes scenario) (with_event rows seat (Deliver number))
@@ -57,7 +57,7 @@ pub record DeliveriesKeepWork : Type 0 where
   pub unanswered : (words : ℕ → ℕ → ℕ × ℕ) (births : List (Seat Player)) (rows : Rows) (seat : Seat Player) (number : ℕ) (task : Task) → IsSeat births seat → AreInTime (players words births) (with_event rows seat (Deliver number)) → AreAtWork task words births rows
       → (mail : Mail) (group : Draw) (seq : ℕ) (answer : AnswerBody) → numbered (mails rows) number ≡ Some mail → mail.body ≡ Answer group seq answer → ⊥
 
--- Nothing but work is in flight or ready at a replica at work, neither calls nor fillers; and at one that rests nothing waits.
+-- at a replica as `IsAtWork` says only work is in flight or ready, no request and no filler; and at one that rests nothing waits
 pub record WorkStandsAlone : Type 0 where
   pub alone : (task : Task) (name : Draw) (r : ReplicaState) → IsAtWork task name r → IsOrdersAlone r
   pub rests : (r : ReplicaState) → IsAtRest r → WaitsForFlights r

@@ -1,4 +1,4 @@
--- That groups which were nowhere in a quiet journal stay as they begin while an order is under way.
+-- Groups which had no replica in a quiet journal stay as they begin while an order is under way.
 use Rattle.std.specs.Prelude.{◌≡◌, ℕ, true, Some}
 use Rattle.sc_base.specs.Definitions.{Among}
 use Rattle.sc_node_table.specs.Values.{Draw, Base, OrderLine, AnswerBody, Mail, Answer, Seat, Deliver}
@@ -14,11 +14,11 @@ use Rattle.sc_calm_scenes_law.specs.Definitions.{IsNowhere, AreUntouched}
 use Rattle.sc_calm_answers_law.specs.Journal.{IsCalmJournal, GoesOnBy}
 use Rattle.sc_calm_answers_law.specs.JournalUnder.{IsYoungAt}
 
--- no answer is delivered
+-- the mail that is delivered is no answer to a client
 abbrev pub IsUnanswered : Rows → ℕ → Type 0
 IsUnanswered rows number = (mail : Mail) (group : Draw) (seq : ℕ) (answer : AnswerBody) → numbered (mails rows) number ≡ Some mail → mail.body ≡ Answer group seq answer → ⊥
 
--- A group that was nowhere in a quiet journal is as it begins once an order is told, which makes no child and sends none of its mail; and so it stays by each delivery: none is of it, no client is answered, the node may make its replica at its birth, and what is sent of other groups is an errand for a group of a stage, which was there in the quiet.
+-- a group that had no replica in a quiet journal is young (`IsYoungAt`) once an order is given, and after each delivery that is no answer to a client
 pub record YoungGroupsStay : Type 0 where
   pub begins : (words : ℕ → ℕ → ℕ × ℕ) (scenario : Scenario) (quiet : Rows) (seat : Seat Player) (line : OrderLine) (stage : Stage) → IsSeat (births as_nodes scenario) seat
       → AreInTime (players words (births as_nodes scenario)) (with_event quiet seat (Told line)) → is_quiet (players words (births as_nodes scenario)) quiet ≡ true → AreUntouched words (births as_nodes scenario) quiet (with_event quiet seat (Told line)) stage

@@ -1,22 +1,23 @@
-//! That calm scenarios at their budget are answered. Definitions and laws, no logic.
+//! Calm scenarios at their budget are answered. Definitions and laws, no logic.
 ghost use Rattle.sc_calm_answers_law.specs.Answered.{CalmJournalsGoOn, CalmLinesSettle, CalmRequestsAreAnswered};
 
 use sc_budget_law::{plain_journals_are_answered, plain_lines_end_quiet};
 use sc_scenario::valid_scenarios_are_bounded;
 use sc_whole_law::valid_journals_are_sound;
 
-/// A lawful journal of a valid calm scenario at its budget that gives an order falls into segments:
-/// quiet fronts that rest, requests behind them, and orders. So each of its rows finds what keeps
-/// it calm, by the charts of the scenario, and where no mail is pending it rests.
+/// Proves that a valid calm scenario at its budget that gives an order has charts as `AreCharted`
+/// asks, by which the rows of its lawful journals find what the potential needs, and that each
+/// lawful journal of it with no mail pending is a quiet journal (`IsQuietJournal`). The proof cuts
+/// a journal into segments, requests or one order, each from a quiet prefix on.
 pub fn calm_journals_go_on()
     ensures { CalmJournalsGoOn }
 {
     valid_scenarios_are_bounded();
 }
 
-/// In each lawful journal of a valid calm scenario at its budget no line of deliveries is cut off:
-/// each ends with no mail pending, whatever the order in which threads deliver, as long as each
-/// actor takes its mail in ascending order of number, which lawful journals of such schedules do.
+/// Proves that in each lawful journal of a valid calm scenario at its budget no line of deliveries
+/// is cut off: each ends with no mail pending, in whichever order threads deliver. In such a
+/// journal each actor takes its mail in ascending order of number.
 pub fn calm_lines_settle()
     ensures { CalmLinesSettle }
 {
@@ -24,8 +25,9 @@ pub fn calm_lines_settle()
     plain_lines_end_quiet();
 }
 
-/// In each whole journal of a valid calm scenario at its budget every request of a client whose go
-/// line has a line of deliveries after it is answered: the client kept a reply to each.
+/// Proves that in each whole lawful journal of a valid calm scenario at its budget every request
+/// is answered of a client whose `go` line is followed by a line of deliveries: the client kept a
+/// reply to each of its requests.
 pub fn calm_requests_are_answered()
     ensures { CalmRequestsAreAnswered }
 {

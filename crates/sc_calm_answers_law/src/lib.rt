@@ -1,6 +1,6 @@
-//! That calm scenarios are answered within their budget: no line of deliveries is cut off, and
-//! every request of a client that is served is answered, while orders reshape the ring. Definitions
-//! and laws, no logic.
+//! Calm scenarios are answered within their budget: no line of deliveries is cut off, and every
+//! request is answered of a client whose `go` line is followed by a line of deliveries, while
+//! orders reshape the ring. Definitions and laws, no logic.
 #![tactic(auto)]
 
 mod answered_laws;
