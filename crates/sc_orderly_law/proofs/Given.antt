@@ -132,7 +132,7 @@ module _ {A M O : Type 0} (s : System A M O) where
     row_taught allowed so rows row lawful =
         taught allowed rows row (place_after s lines rows).tasks (tasks_after (IsCalmSo allowed) (λ line p. p.0) s lines rows (calm_so allowed lines calm so)) (lawful-last s lines rows row lawful)
 
-    -- each order is told as orders may be, where lines give only such ones
+    -- each order of a row is one that may be given to its actor, where lines give only such ones
     pub told_so : (allowed : ℕ → O → Bool) → AreGivenSo allowed lines → (journal : List (Row M O)) → IsLawful s lines journal → AreToldSo allowed journal
     told_so allowed so journal lawful =
         by_rows s lines (AreToldSo allowed) tt (λ rows row l such. Each-append (λ (r : Row M O). IsToldSo allowed r.who r.event) rows (row ∷ []) such ((row_taught allowed so rows row l).so, tt)) journal lawful
@@ -150,7 +150,7 @@ module _ {A M O : Type 0} (s : System A M O) where
     all_so (CrashLine who ∷ others) p = absurd p.0
     all_so (Storm number most ∷ others) p = absurd p.0
 
-    -- what is told, and what tasks tell still, is no more than lines give
+    -- the orders that rows give, and that tasks still give, are no more than lines give
     left_row : (rows : List (Row M O)) (row : Row M O) → IsLawful s lines (rows ++ row ∷ []) → orders rows + tasks_told (place_after s lines rows).tasks ≤ orders_given lines → orders (rows ++ row ∷ []) + tasks_told (place_after s lines (rows ++ row ∷ [])).tasks ≤ orders_given lines
     left_row rows row lawful now =
         let place = place_after s lines rows in
@@ -161,7 +161,7 @@ module _ {A M O : Type 0} (s : System A M O) where
         let count = count_push (λ (r : Row M O). is_told r.event) rows row (is_told row.event) refl in
         omega (arith, left, passed, fewer, count, now)
 
-    -- no more orders are told than lines give
+    -- rows give no more orders than lines do
     pub few_told : (journal : List (Row M O)) → IsLawful s lines journal → orders journal ≤ orders_given lines
     few_told journal lawful =
         let passed = onward_told [] (flat_map (tasks_of s.words) lines) 0 false in
