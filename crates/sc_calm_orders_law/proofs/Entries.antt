@@ -30,7 +30,7 @@ module _ (P : Group × Effect → Type 0) (group after : Group) where
   ordered_either None (Some why) g a = g _
   ordered_either None None g a = a
 
-  -- .. by whether it has begun
+  -- a property of the group after a begin, by whether its name is used before
   changed_only : (draw : Draw) (b : Bool) (gone : Option Route) (why : Option OrderRefusal) → is_changed (cond {A = Group × Effect} b (group, Was.NoEffect draw) (ordered gone why after group)).1 ≡ true → P (after, Was.Changed)
       → P (cond b (group, Was.NoEffect draw) (ordered gone why after group))
   changed_only draw true went why e p = absurd cc
