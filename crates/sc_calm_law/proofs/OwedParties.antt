@@ -77,7 +77,7 @@ with_most true here = omega arith
 with_most false None = omega arith
 with_most false (Some r) = idle_most r.running r.group.core.gone
 
--- .. and no more while its replica stays
+-- a group owes no more while the node's replica of it stays
 pub stays_owes : (b : Bool) (old new : Option ReplicaState) → ((r : ReplicaState) → old ≡ Some r → new ≡ Some r) → idle_with b new ≤ idle_with b old
 stays_owes b None new stays = with_most b new
 stays_owes b (Some r) new stays = let same = ap (idle_with b) (stays r refl) in omega (arith, same)
