@@ -10,7 +10,7 @@ use Rattle.sc_calm_law.specs.Owed.{Ways, mail_owes}
 use Rattle.sc_calm_law.specs.Reach.{Reach, client_owes}
 use Rattle.sc_calm_law.specs.Totals.{Rows, is_led, players_owe}
 
--- The system of the players (nodes and clients) with these births; `words` are the words that storms draw.
+-- The system of the players (nodes and clients) with these births; `words` gives what storms draw from their generator.
 abbrev pub players : (ℕ → ℕ → ℕ × ℕ) → List (Seat Player) → System Player Mail OrderLine
 players words births = system player_table receiver_of words births
 
