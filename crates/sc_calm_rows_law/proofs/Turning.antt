@@ -38,7 +38,7 @@ module _ (births : List (Seat Player)) (rows : Rows) (seat : Seat Player) (event
         sends = λ who. ap (marks_for base.core.id who) (sent_is births rows seat event base.core.id born player is o e) ∙ silent who;
       })
 
-  -- .. where the replica stays
+  -- a row that does nothing in a group, where the replica stays
   alone_by : (base : Base) → taken_mark base.core.id (mails rows) event ≡ None → replica_of base.core.id (replicas_of (acted player_table player o).0) ≡ replica_of base.core.id (replicas_of player)
       → ((who : ℕ) → marks_for base.core.id who (acted player_table player o).1 ≡ []) → LeavesAlone births rows seat event base
   alone_by base takes same silent = record {
@@ -46,7 +46,7 @@ module _ (births : List (Seat Player)) (rows : Rows) (seat : Seat Player) (event
     view = view_is births rows seat event base.core.id born player is o e ∙ (same ∙ sym (view_was births rows seat event base.core.id born player is));
   }
 
-  -- .. or is born
+  -- a row that does nothing in a group, where the replica is created
   born_by : (base : Base) → taken_mark base.core.id (mails rows) event ≡ None → Same base seat.who (replica_of base.core.id (replicas_of (acted player_table player o).0)) (replica_of base.core.id (replicas_of player))
       → ((who : ℕ) → marks_for base.core.id who (acted player_table player o).1 ≡ []) → IsBornOr base seat.who (replica_of base.core.id (replicas_of (acted player_table player o).0)) (replica_of base.core.id (replicas_of player))
       → LeavesOrBears births rows seat event base
