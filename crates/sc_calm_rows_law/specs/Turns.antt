@@ -96,7 +96,7 @@ pub record OthersRowsAreIdle : Type 0 where
       → (group_of_order line.order ≡ base.core.id → ⊥) → LeavesAlone births rows seat (Told line) base
   pub refused : (births : List (Seat Player)) (rows : Rows) (seat : Seat Player) (line : OrderLine) (base : Base) (node : NodeState) → IsSeat births seat → value player_table seat rows ≡ Node node
       → replica_of (group_of_order line.order) node.replicas ≡ None → LeavesAlone births rows seat (Told line) base
-  -- a node that is told to go
+  -- a `Go` at a node
   pub go : (births : List (Seat Player)) (rows : Rows) (seat : Seat Player) (base : Base) (node : NodeState) → IsSeat births seat → value player_table seat rows ≡ Node node → LeavesAlone births rows seat Go base
 
 -- In this row the acting player's replica of the group changes as its own table says, and the row sends what that table sends.
