@@ -67,7 +67,7 @@ module _ (sources : Sources) (ahead : Ahead) (words : ℕ → ℕ → ℕ × ℕ
   abbrev TellsNodes : Row Mail OrderLine → Type 0
   TellsNodes row = IsToldSo (OrdersNodes scenario) row.who row.event
 
-  -- each order that is told is of nodes
+  -- each order of the journal is of nodes
   told_nodes : Each TellsNodes journal
   told_nodes =
       told_induction (OrdersNodes scenario) (system_of ahead words scenario) (Each TellsNodes) (λ before row p told step. Each-append TellsNodes before (row ∷ []) p (told, tt)) (schedule scenario) journal
@@ -165,7 +165,7 @@ module _ (sources : Sources) (ahead : Ahead) (words : ℕ → ℕ → ℕ × ℕ
 
   -- ---- all rows
 
-  -- what holds of each first part of the journal
+  -- what holds of each prefix of the journal
   abbrev P : Rows → Type 0
   P rows = (more : Rows) → journal ≡ rows ++ more → NodesHold rows
 
