@@ -1,4 +1,4 @@
--- A row that finds what it needs lowers what is owed, where it delivers, and raises it little, where it tells an order.
+-- A row that finds what it needs lowers what is owed, where it delivers, and raises it little, where it gives an order.
 use Rattle.std.proofs.Common.{◌≡◌, ℕ, ◌+◌, ◌*◌, ◌≤◌, eqb, true, false, true≢false, cond, List, [], ◌∷◌, ◌++◌, sum_by, find, Some, None, inl, inr, refl, sym, ◌∙◌, ap, subst, arith}
 use Rattle.std.specs.List.{filter}
 use Rattle.std.specs.Option.{option_map}

@@ -59,7 +59,7 @@ abbrev pub LeavesFew : Command → ReplicaState → Type 0
 LeavesFew command r = length (members (entered command r)) ≤ 9
 
 -- The vote of a watcher is a Yes, and the leader leads on after the entry; or it is no member after it,
--- and then no participant was heard and nobody joins by the entry.
+-- and then no participant was heard and nobody joins by the entry. At most nine are members after it.
 abbrev pub IsWatchPaid : Draw → Past → ℕ → ReplicaState → Type 0
 IsWatchPaid tx Cast.Yes by r =
     LeavesFew (RecordWatch tx Cast.Yes by) r

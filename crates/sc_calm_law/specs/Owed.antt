@@ -4,7 +4,7 @@ use Rattle.sc_node_table.specs.Values.{Draw, Command, Noop, Call, Join, Leave, S
 use Rattle.sc_mail.specs.declared.bodies.AnswerBody.TheVariants as Says
 use Rattle.sc_node_table.specs.Definitions.{ReplicaState, Place}
 
--- For each group and node, at most how many hints lead from the group's replica there to its leader; a bound of these numbers;
+-- For each group and node, at most how many hints (each names whom a replica takes for the leader) lead from the group's replica there to its leader; a bound of these numbers;
 -- and for each transaction the group that its coordinator asks, and whether it asks that as the watcher.
 pub record Ways : Type 0 where
   pub far : Draw → ℕ → ℕ

@@ -63,7 +63,7 @@ module _ (sources : Sources) (ahead : Ahead) (words : ℕ → ℕ → ℕ × ℕ
 
   -- ---- the orders of the schedule
 
-  -- a row that tells no order but of nodes
+  -- a row that gives no order but of nodes
   abbrev TellsNodes : Row Mail OrderLine → Type 0
   TellsNodes row = IsToldSo (OrdersNodes scenario) row.who row.event
 
@@ -105,7 +105,7 @@ module _ (sources : Sources) (ahead : Ahead) (words : ℕ → ℕ → ℕ × ℕ
       some = λ older base a log all. (let roster = members_stay_rosters (group_of base) log (before.fresh base a).roster in first_of (state_after (group_of base) log).core.members roster.some);
     }
 
-    -- a child that is born is one of the groups, under a name of its own
+    -- a child that is created is one of the groups, under a name of its own
     offspring : KnowsOffspring ahead words scenario scenario.groups (bases rows) route made heard players rows
     offspring n base a child is =
         let log = is.front ++ is.command ∷ [] in

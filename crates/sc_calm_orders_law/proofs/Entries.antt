@@ -161,7 +161,7 @@ before_succ Free core = refl
 before_succ _ core = refl
 
 module _ (me : ℕ) (before : Before) (tx : Draw) (by : ℕ) where
-  -- a decision tells the party that brought the vote
+  -- a decision is sent to the party that brought the vote
   decided_leaves : (frozen : Frozen) (asked : Draw) (made : Group) (outcome : Outcome) → before.succ.group ≡ asked → Leaves Unbound (results tx asked First by) (RecordVote tx (Says.Yes frozen) by) me before (decided made tx outcome)
   unfolding went_on
   decided_leaves frozen asked made outcome e = record {

@@ -192,7 +192,7 @@ client_idle births rows seat event base client born is takes None e = alone_by b
 client_idle births rows seat event base client born is takes (Some input) e =
     alone_by births rows seat event born (Client client) is (Some input) e base takes refl (λ who. others_hear_nothing.client base.core.id who client input)
 
--- A row does nothing in any group but that of its mail or order, and in those whose child is born in it; a client's row does nothing in any.
+-- A row does nothing in any group but that of its mail or order, and in those whose child is created in it; a client's row does nothing in any.
 pub others_idle : OthersRowsAreIdle
 others_idle = record {
   client = λ births rows seat event base client born is takes. client_idle births rows seat event base client born is takes (input_of (mails rows) event) refl;

@@ -140,7 +140,7 @@ module _ (at : Sets) (course : Course) (command : Command) (r : ReplicaState) (m
         subst (λ (p : Place). LeadsPast at course command (r, mails) (looked (left p))) (sym landed_there)
         (ends (LeadsPast at course command (r, mails)) over told.1 ((entered_keeps command r).0 ∙ led.running) is_next.roster goes_on ends_off)
 
-  -- what follows once clients and the desk are told
+  -- what follows once clients and the desk have their answers
   abbrev pub then_on : Place → Place
   then_on place1 = looked (left (landed true (next r) command (welcomed true (members r) (learnt_to true (members r) (next r) command (spoken true (before_of r.group.core) (applied r.group command).1 command place1)))))
 

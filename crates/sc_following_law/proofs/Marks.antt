@@ -251,7 +251,7 @@ offers-each P at course from who f (Promises node ballot ∷ marks) e = absurd e
 -- ---- what is sent where entries are executed
 
 module _ (at : Sets) (course : Course) (who : ℕ) where
-  -- it tells, has a state, or asks to promise the ballot
+  -- it is an entry to be learnt, a state, or a request to promise the ballot
   pub told-each : (P : Mark → Type 0) → ((slot : ℕ) → P (Tells slot)) → ((slot : ℕ) → P (Installs slot)) → P (Prepares course.ballot) → (more slot : ℕ) → Each P (told_from at course slot more who)
   told-each P tells installs prepares zero slot = tt
   told-each P tells installs prepares (suc more) slot = Each-append P (told_of at course slot who) (told_from at course (slot + 1) more who) one (told-each P tells installs prepares more (slot + 1))

@@ -83,7 +83,7 @@ LeadsSo at by now after node taken hint hint_after = LeavesLast at by now after
 abbrev pub ElectsSo : HintKind
 ElectsSo at by now after node taken hint hint_after = Unit {0}
 
--- Each row of this kind, with these hints before and after it, keeps `IsHeeding`.
+-- Each row of this kind, with `hints` and `hints_after` as whom each node takes for the leader before and after it, keeps `IsHeeding`.
 abbrev pub KeepsHints : (Sets → Progress → Progress → ℕ → Option Mark → (ℕ → List Mark) → Type 0) → HintKind → Type 0
 KeepsHints Kind Hint =
     (at : Sets) (by : Tellers) (now after : Progress) (node : ℕ) (taken : Option Mark) (sent marks marks_after : ℕ → List Mark) (hints hints_after : ℕ → Option ℕ)

@@ -1,4 +1,4 @@
--- A lawful journal of calm lines tells no more orders than these give, and only such ones.
+-- A lawful journal of calm lines gives no more orders than these, and only such ones.
 use Rattle.std.proofs.Common.{◌≡◌, ℕ, ◌+◌, ◌≤◌, List, [], ◌∷◌, ◌++◌, Bool, true, false, true≢false, cond, ◌||◌, refl, sym, ap, subst, arith, Option, None, Some}
 use Rattle.std.specs.List.{flat_map}
 use Rattle.std.proofs.lemmas.Bool.{cond_both}
@@ -67,7 +67,7 @@ unless-some true o y e = cc
 unless-some false o y e = e
 
 module _ {A M O : Type 0} (s : System A M O) where
-  -- the tasks that are passed over tell no more
+  -- the tasks that are passed over give no more orders
   onward_told : (rows : List (Row M O)) (tasks : List (Task O)) (skipped : ℕ) (cut : Bool) → tasks_told (onward s rows tasks skipped cut).tasks ≤ tasks_told tasks
   onward_told rows [] skipped cut = omega arith
   onward_told rows (task ∷ tasks) skipped cut =
@@ -76,7 +76,7 @@ module _ {A M O : Type 0} (s : System A M O) where
       (λ _. omega (arith, more))
       (λ _. omega arith)
 
-  -- a delivery tells no order
+  -- a delivery gives no order
   delivered_so : (allowed : ℕ → O → Bool) (who : ℕ) (event : Event O) → is_delivery event ≡ true → IsToldSo allowed who event
   delivered_so allowed who (Told order) d = absurd (true≢false (sym d))
   delivered_so allowed who _ d = tt
@@ -89,7 +89,7 @@ module _ {A M O : Type 0} (s : System A M O) where
   calm_so allowed [] calm so = tt
   calm_so allowed (line ∷ lines) calm so = ((calm.0, so.0), calm_so allowed lines calm.1 so.1)
 
-  -- what a row tells: an order as it may be, and its task tells one less
+  -- what a row gives: an order as it may be, and its task gives one less
   record IsTaught (allowed : ℕ → O → Bool) (row : Row M O) (tasks : List (Task O)) : Type 0 where
     so : IsToldSo allowed row.who row.event
     fewer : one_if (is_told row.event) + tasks_told (rest_of_all tasks) ≤ tasks_told tasks
