@@ -76,16 +76,16 @@ MayMiss (TxWatched tx coord part vote) = Unit {0}
 
 -- A mail lowers what a node owes by at least one, with what its replica's group owes if no other replica of that leads or is gone.
 pub record NodesLower : Type 0 where
-  -- where the node's replica of the mail's group lowers it
+  -- a mail that lowers what is owed at the node's replica of the mail's group
   pub taken : (ways : Ways) (from : ℕ) (group : Draw) (body : MailBody) (r : ReplicaState) (node : NodeState) → IsTaken from group body r node → r.me ≡ node.me → Lowers ways from body (r, [])
       → turn_owes ways (on_mail from body node) + group_owes (after_mail from body r).0 + 1 ≤ node_owes ways.most node + group_owes r + body_owes ways node.me body
-  -- where the mail is for no group, or comes from one that may not send it
+  -- a mail that is for no group, or comes from one that may not send it
   pub stray : (ways : Ways) (from : ℕ) (body : MailBody) (node : NodeState) → IsDelivered body → group_of_mail body ≡ None → turn_owes ways (on_mail from body node) + 1 ≤ node_owes ways.most node + body_owes ways node.me body
   pub barred : (ways : Ways) (from : ℕ) (body : MailBody) (node : NodeState) → IsDelivered body → may_come from body ≡ false → turn_owes ways (on_mail from body node) + 1 ≤ node_owes ways.most node + body_owes ways node.me body
-  -- where the node has no replica of the mail's group
+  -- a mail at a node without a replica of the mail's group
   pub missed : (ways : Ways) (from : ℕ) (group : Draw) (body : MailBody) (node : NodeState) → MayMiss body → group_of_mail body ≡ Some group → replica_of group node.replicas ≡ None
       → turn_owes ways (on_mail from body node) + 1 ≤ node_owes ways.most node + body_owes ways node.me body
-  -- where the node has no replica of the group and creates one from a state
+  -- a state at a node without a replica of the group, which creates one from it
   pub made : (ways : Ways) (from : ℕ) (group : Draw) (slot : ℕ) (base : Base) (sets : List (List ℕ)) (node : NodeState) → replica_of group node.replicas ≡ None
       → turn_owes ways (on_mail from (Install group slot base sets) node) + group_owes (made_by node.me from group slot base sets).0 + 1
       ≤ node_owes ways.most node + idle_owes false base.core.gone + body_owes ways node.me (Install group slot base sets)

@@ -16,12 +16,12 @@ IsMadeBehind elsewhere from group slot base sets node = elsewhere group ≡ true
 
 -- Mail that no replica of the node takes lowers what is owed by the node and these groups.
 pub record StrangersLower : Type 0 where
-  -- where the mail is for no group, or comes from one that may not send it
+  -- a mail that is for no group, or comes from one that may not send it
   pub stray : (ways : Ways) (groups : List Draw) (elsewhere : Elsewhere) (from : ℕ) (body : MailBody) (node : NodeState) → IsDelivered body → group_of_mail body ≡ None → PartyLowers ways groups elsewhere from body node
   pub barred : (ways : Ways) (groups : List Draw) (elsewhere : Elsewhere) (from : ℕ) (body : MailBody) (node : NodeState) → IsDelivered body → may_come from body ≡ false → PartyLowers ways groups elsewhere from body node
-  -- where the node has no replica of the mail's group
+  -- a mail at a node without a replica of the mail's group
   pub missed : (ways : Ways) (groups : List Draw) (elsewhere : Elsewhere) (from : ℕ) (group : Draw) (body : MailBody) (node : NodeState) → MayMiss body → group_of_mail body ≡ Some group → replica_of group node.replicas ≡ None
       → PartyLowers ways groups elsewhere from body node
-  -- where the node has no replica of the group and creates one from a state
+  -- a state at a node without a replica of the group, which creates one from it
   pub made : (ways : Ways) (groups : List Draw) (elsewhere : Elsewhere) (from : ℕ) (group : Draw) (slot : ℕ) (base : Base) (sets : List (List ℕ)) (node : NodeState) → StandsOnce group groups → replica_of group node.replicas ≡ None
       → IsMadeBehind elsewhere from group slot base sets node → PartyLowers ways groups elsewhere from (Install group slot base sets) node

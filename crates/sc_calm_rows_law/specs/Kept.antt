@@ -18,22 +18,22 @@ pub record LeavesLead (at : Sets) (births : List (Seat Player)) (rows : Rows) (s
   pub own : (r : ReplicaState) → view_at births (with_event rows seat event) base.core.id seat.who ≡ Some r → r.running ≡ true → IsLeadOf at (progress_at births (with_event rows seat event) base course) r × (seat.who ≡ course.ballot.node)
   pub runs : course.runs ≡ true → seat.who ≡ course.ballot.node → IsLedBy base course (view_at births (with_event rows seat event) base.core.id seat.who)
 
--- When `LeavesLead` holds of a row.
+-- Rows of which `LeavesLead` holds.
 pub record LeadsStay : Type 0 where
-  -- where the node's replica of the group stays as it is
+  -- a row that leaves the node's replica of the group as it is
   pub same : (at : Sets) (words : ℕ → ℕ → ℕ × ℕ) (births : List (Seat Player)) (rows : Rows) (seat : Seat Player) (event : Event OrderLine) (base : Base) (course : Course) → IsFollowedAt at words births rows base course
       → view_at births (with_event rows seat event) base.core.id seat.who ≡ view_at births rows base.core.id seat.who → LeavesLead at births rows seat event base course
-  -- where the node's replica does not lead, and the course does not say that it does
+  -- a row after which the node's replica does not lead, where the course does not say that it does
   pub quiet : (at : Sets) (births : List (Seat Player)) (rows : Rows) (seat : Seat Player) (event : Event OrderLine) (base : Base) (course : Course) (r : ReplicaState)
       → view_at births (with_event rows seat event) base.core.id seat.who ≡ Some r → r.running ≡ false → (course.runs ≡ true → seat.who ≡ course.ballot.node → ⊥) → LeavesLead at births rows seat event base course
-  -- where the node creates its replica at the group's birth
+  -- a row in which the node creates its replica at the group's birth
   pub born : (at : Sets) (births : List (Seat Player)) (rows : Rows) (seat : Seat Player) (event : Event OrderLine) (base : Base) (course : Course) → ((slot : ℕ) → slot < 1 + slots_ahead → at slot ≡ base.core.members)
       → IsRoster base.core.members → is_member base.core.members base.core.first ≡ true → base.core.gone ≡ None → (seat.who ≡ base.core.first → course ≡ begun_course base) → (course.runs ≡ true → seat.who ≡ course.ballot.node → seat.who ≡ base.core.first)
       → view_at births (with_event rows seat event) base.core.id seat.who ≡ Some (born_replica slots_ahead seat.who base) → LeavesLead at births rows seat event base course
-  -- where the node's replica leads, and takes its own accept request
+  -- a row in which the node's replica takes its own accept request
   pub accepts : (at : Sets) (words : ℕ → ℕ → ℕ × ℕ) (births : List (Seat Player)) (rows : Rows) (seat : Seat Player) (event : Event OrderLine) (base : Base) (course : Course) (from slot : ℕ) (ballot : Ballot) (command : Command) (r : ReplicaState)
       → IsFollowedAt at words births rows base course → r.me ≡ seat.who → GoesOn ballot r → IsReplicasRow births rows seat event base.core.id (Some r) (mailed from (Accept (name_of r) ballot slot command) (r, [])).0 → LeavesLead at births rows seat event base course
-  -- where the node's replica leads, and takes its own Prepare
+  -- a row in which the node's replica takes its own Prepare
   pub promises : (at : Sets) (words : ℕ → ℕ → ℕ × ℕ) (births : List (Seat Player)) (rows : Rows) (seat : Seat Player) (event : Event OrderLine) (base : Base) (course : Course) (from from_slot : ℕ) (ballot : Ballot) (r : ReplicaState)
       → IsFollowedAt at words births rows base course → r.me ≡ seat.who → GoesOn ballot r → IsReplicasRow births rows seat event base.core.id (Some r) (mailed from (Prepare (name_of r) ballot from_slot) (r, [])).0 → LeavesLead at births rows seat event base course
 

@@ -111,16 +111,16 @@ pub record IsWholeState (slot : ℕ) (sets : List (List ℕ)) : Type 0 where
   pub open_ : length sets ≡ slots_ahead
   pub low : slot ≤ last_slot
 
--- When a row of a node is its replica's row (`IsReplicasRow`).
+-- Rows of a node that are its replica's rows (`IsReplicasRow`).
 pub record RowsAreReplicas : Type 0 where
-  -- for a mail, where the node has a replica of the mail's group
+  -- a mail at a node with a replica of the mail's group
   pub taken : (births : List (Seat Player)) (rows : Rows) (seat : Seat Player) (number : ℕ) (mail : Mail) (group : Draw) (node : NodeState) (r : ReplicaState) → IsSeat births seat → value player_table seat rows ≡ Node node
       → numbered (mails rows) number ≡ Some mail → may_come mail.from mail.body ≡ true → group_of_mail mail.body ≡ Some group → replica_of group node.replicas ≡ Some r
       → IsReplicasRow births rows seat (Deliver number) group (Some r) (mailed mail.from mail.body (r, [])).0
-  -- for a state, from which the node creates a replica
+  -- a state at a node that creates a replica from it
   pub made : (births : List (Seat Player)) (rows : Rows) (seat : Seat Player) (number : ℕ) (mail : Mail) (group : Draw) (slot : ℕ) (base : Base) (sets : List (List ℕ)) (node : NodeState) → IsSeat births seat → value player_table seat rows ≡ Node node
       → numbered (mails rows) number ≡ Some mail → may_come mail.from mail.body ≡ true → mail.body ≡ Install group slot base sets → IsWholeState slot sets → replica_of group node.replicas ≡ None
       → IsReplicasRow births rows seat (Deliver number) group None (made_by node.me mail.from group slot base sets)
-  -- for an order, where the node has a replica of the order's group
+  -- an order at a node with a replica of the order's group
   pub ordered : (births : List (Seat Player)) (rows : Rows) (seat : Seat Player) (line : OrderLine) (node : NodeState) (r : ReplicaState) → IsSeat births seat → value player_table seat rows ≡ Node node
       → replica_of (group_of_order line.order) node.replicas ≡ Some r → IsReplicasRow births rows seat (Told line) (group_of_order line.order) (Some r) (ordered_row node.draws line (r, []))
