@@ -17,12 +17,12 @@ WaitsForNone (Client client) = client.waiting ≡ None
 abbrev pub AreAllLed : List (Seat Player) → Rows → Type 0
 AreAllLed births rows = Each (λ name. is_led births rows name ≡ true) (names_at births rows)
 
--- If the body is an `Elsewhere` of a transaction, what its coordinator asks is the same after the row as before it.
+-- If the body is a `TxElsewhere`, what its coordinator asks is the same after the row as before it.
 abbrev pub AsksSame : List (Seat Player) → Rows → Rows → MailBody → Type 0
 AsksSame births rows after body = (tx coord : Draw) (hint : Option ℕ) → body ≡ TxElsewhere tx coord hint → asked_in tx (all_replicas births after) ≡ asked_in tx (all_replicas births rows)
 
 -- The chart after a row in time may follow that of the rows before it.
--- Premises: for each `Elsewhere` under way, what its coordinator asks stays the same; and if the journal is quiet after the row, no client waits.
+-- Premises: for each `TxElsewhere` under way, what its coordinator asks stays the same; and if the journal is quiet after the row, no client waits.
 abbrev pub ChartsFollow : Type 0
 ChartsFollow =
     (words : ℕ → ℕ → ℕ × ℕ) (births : List (Seat Player)) (far sent : ℕ) (rows : Rows) (row : Row Mail OrderLine) → AreInTime (players words births) (rows ++ row ∷ [])
