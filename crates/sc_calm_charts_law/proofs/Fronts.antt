@@ -8,7 +8,7 @@ use Rattle.sc_sound.specs.Definitions.{Player}
 use Rattle.sc_calm_law.specs.Definitions.{Rows}
 use Rattle.sc_calm_charts_law.specs.Definitions.{quiet_upto, quiet_front}
 
--- ---- fronts
+-- ---- quiet prefixes
 
 module _ (s : System Player Mail OrderLine) (rows : Rows) (row : Row Mail OrderLine) where
   upto_same : (n : ℕ) → n ≤ length rows → quiet_upto s (rows ++ row ∷ []) n ≡ quiet_upto s rows n

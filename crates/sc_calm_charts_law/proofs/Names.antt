@@ -56,7 +56,7 @@ module _ (births : List (Seat Player)) (rows : Rows) (row : Row Mail OrderLine) 
       let same = names_same (length rows) (omega arith) in
       ap (names_upto births (rows ++ row ∷ [])) long ∙ (ap (λ names. with_names names (led_names births (take (suc (length rows)) (rows ++ row ∷ [])))) same ∙ ap (λ (front : Rows). with_names (names_at births rows) (led_names births front)) whole)
 
-  -- .. so they go on, by groups that are led
+  -- the names grow by groups that are led
   pub names_grow : Extends (λ group. is_led births (rows ++ row ∷ []) group ≡ true) (names_at births rows) (names_at births (rows ++ row ∷ []))
   names_grow =
       let more = more_names (λ group. is_led births (rows ++ row ∷ []) group ≡ true) (names_at births rows) (led_names births (rows ++ row ∷ [])) (Each-passes (λ name. is_led births (rows ++ row ∷ []) name) (map name_of (all_replicas births (rows ++ row ∷ [])))) in

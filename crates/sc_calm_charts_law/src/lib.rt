@@ -1,3 +1,4 @@
-//! By what it is counted, in the journals of a calm scenario, what is owed: one chart for each
-//! journal, by its last quiet part, its replicas and their groups. Definitions and laws, no logic.
+//! The chart by which what is owed in the journals of a calm scenario is reckoned: one for each
+//! journal, by its last quiet prefix, its replicas and their groups. Definitions and laws; no
+//! function.
 #![tactic(auto)]

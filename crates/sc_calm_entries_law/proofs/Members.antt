@@ -17,7 +17,7 @@ module _ (group : Group) where
   abbrev pub StandsAs : Group × Effect → Type 0
   StandsAs made = made.0.core.gone ≡ group.core.gone
 
-  -- .. and has the same members where it has only begun to wait
+  -- the group has the same members after a command by which it only begins to wait
   abbrev pub WaitsAs : Group × Effect → Type 0
   WaitsAs made = (made.0.core.gone ≡ group.core.gone) × (is_changed made.1 ≡ true → made.0.core.members ≡ group.core.members)
 

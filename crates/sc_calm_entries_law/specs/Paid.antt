@@ -8,12 +8,12 @@ use Rattle.sc_node_table.specs.Definitions.{ReplicaState, members, before_of}
 use Rattle.sc_calm_law.specs.Definitions.{MayCount, newcomers, MayPump, AsksAs, Ways}
 use Rattle.sc_calm_orders_law.specs.Definitions.{Turn, is_watch, Asking, bond_of, FliesLone}
 
--- a coordinator asks what its bond says, by ways that say so too
+-- A coordinator asks what its bond says; so, where the ways of a chart name the same group and turn, what it asks owes no more than they say.
 abbrev pub BondsAsk : Type 0
 BondsAsk =
     (ways : Ways) (tx asked : Draw) (turn : Turn) (node : ℕ) (r : ReplicaState) → bond_of r.group.core ≡ Asking tx asked turn → ways.asks tx ≡ Some (asked, is_watch turn) → AsksAs ways tx node r
 
--- an entry by which no member comes or goes: a transaction is begun, or a vote is cast
+-- By this entry no member comes or goes: a transaction begins, or a group votes in one.
 abbrev pub KeepsMembers : Command → Type 0
 KeepsMembers (Begin tx body order) = Unit {0}
 KeepsMembers (Prepared tx offer) = Unit {0}
@@ -28,13 +28,14 @@ KeepsMembers (GiveUp tx) = ⊥
 KeepsMembers (Finish tx outcome) = ⊥
 KeepsMembers (RecordWatch tx vote by) = ⊥
 
--- a leader at which such an entry is in flight, alone, may count a vote
+-- A leader where one such entry alone is in flight may count a vote (`MayCount`).
 abbrev pub LoneEntriesCount : Type 0
 LoneEntriesCount =
     (slot : ℕ) (flight : Flight Command) (r : ReplicaState) → FliesLone flight r → MayPump r → length (members r) ≤ 9 → is_member (members r) r.me ≡ true → r.group.core.gone ≡ None
     → KeepsMembers flight.value → MayCount slot r
 
--- an entry of an order, by its kind: of a split the group is free; a watcher says Yes, and by its vote the leader stays, or no participant was heard and nobody is added; nothing is given up
+-- What the law below needs of an entry of an order, by its kind: for a split, that the group is free; for a watcher's vote, that it is a Yes,
+-- and that the leader stays a member by it, or no participant was heard and nobody joins by it. No transaction is given up.
 abbrev pub IsEntry : Command → ReplicaState → Type 0
 IsEntry (Join node order) r = Unit {0}
 IsEntry (Leave node order) r = Unit {0}
@@ -50,7 +51,7 @@ IsEntry Noop r = ⊥
 IsEntry (Call client seq op) r = ⊥
 IsEntry (GiveUp tx) r = ⊥
 
--- a leader of a group that stands at which such an entry is in flight, alone, and no call waits, may count a vote, where at most nine are members before the entry and after it
+-- A leader of a group that stands, where one such entry alone is in flight and no call waits, may count a vote, if at most nine are members before the entry and after it.
 abbrev pub OrderEntriesCount : Type 0
 OrderEntriesCount =
     (slot : ℕ) (flight : Flight Command) (r : ReplicaState) → FliesLone flight r → r.calls ≡ [] → MayPump r → length (members r) ≤ 9 → length (applied r.group flight.value).0.core.members ≤ 9

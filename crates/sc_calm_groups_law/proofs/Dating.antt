@@ -20,7 +20,7 @@ abbrev pub dated_in : Draw → Option Mail → Option Dated
 dated_in name None = None
 dated_in name (Some mail) = option_map (λ mark. (mark, from_slot_of mail.body)) (mark_of name mail.from mail.body)
 
--- .. of the mail that an event delivers
+-- the mark with its slot of the mail that an event delivers
 abbrev pub taken_dated : Draw → List Mail → Event OrderLine → Option Dated
 taken_dated name sent (Deliver number) = dated_in name (numbered sent number)
 taken_dated name sent _ = None

@@ -1,4 +1,4 @@
--- A replica that is told an entry leaves the group well led: it elects itself where it is to lead next, and else does not.
+-- A replica that learns an entry leaves the group well led: it elects itself where it is to lead next, and else does not.
 use Rattle.std.proofs.Common.{◌≡◌, ℕ, suc, ◌+◌, ◌≤◌, nat_le, true, false, true≢false, List, [], ◌∷◌, Option, Some, None, ◌⊎◌, inl, inr, refl, sym, ◌∙◌, ap, subst, arith}
 use Rattle.std.specs.Prelude.{is_some}
 use Rattle.std.proofs.lemmas.Bool.{cases_lt, and_parts, leb-true}

@@ -94,7 +94,7 @@ module _ (at : Sets) (over : Ends) (by : Tellers) (words : ℕ → ℕ → ℕ �
 
   -- a row in which the node's replica becomes another
   module _ (event : Event OrderLine) (before : Option ReplicaState) (after : Place) (row : IsReplicasRow births rows seat event base.core.id before after) where
-    -- .. which does not run
+    -- a row after which the replica does not lead leaves all well
     pub leaves_off : LeavesLead at births rows seat event base course → after.0.running ≡ false → LeavesWell at births rows seat event base course
     leaves_off lead off = record {
       lead = lead;
@@ -102,7 +102,7 @@ module _ (at : Sets) (over : Ends) (by : Tellers) (words : ℕ → ℕ → ℕ �
       there = λ none. (let bad : Some after.0 ≡ None = sym row.is ∙ none in cc);
     }
 
-    -- .. or leads on as it was
+    -- a row after which the replica leads on as it was leaves all well
     pub leaves_same : (r : ReplicaState) → before ≡ Some r → LeavesLead at births rows seat event base course → next after.0 ≡ next r → after.0.running ≡ r.running → (r.running ≡ true → (after.0.leader ≡ r.leader) × (after.0.ready ≡ r.ready)) → LeavesWell at births rows seat event base course
     leaves_same r is lead place runs_same leads_same = record {
       lead = lead;
@@ -161,7 +161,7 @@ module _ (at : Sets) (over : Ends) (by : Tellers) (words : ℕ → ℕ → ℕ �
             row = RowTakes refl r after mark row takes_it steps kind;
           }
 
-      -- .. that takes the node further, where it does not lead
+      -- a mail that takes the node further, where it does not lead
       pub takes_further : r.running ≡ false → StepsBy mark r after → (IsCount mark → ⊥) → (course.runs ≡ true → seat.who ≡ course.ballot.node → ⊥) → WaitsStill at course seat.who (next after.0)
           → (after.0.hint ≡ hint_by at by r.acceptor.promised r.hint mark) ⊎ ((course.gone ≡ true) × (next after.0 ≡ course.newest)) → IsLedStep at over by words births rows seat (Deliver number) base course
       takes_further off steps none apart waits hint =

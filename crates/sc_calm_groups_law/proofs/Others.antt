@@ -1,4 +1,4 @@
--- An event that does nothing in a group leaves it well led, also where a replica is born; and so does all mail of agreement.
+-- An event that does nothing in a group leaves it well led, also where a replica is created; and so does all mail of agreement.
 use Rattle.std.proofs.Common.{◌≡◌, ℕ, ◌+◌, ◌<◌, true, List, None, Some, inl, inr, refl, sym, ◌∙◌, ap, subst, arith}
 use Rattle.std.proofs.lemmas.Bool.{eqb-true}
 use Rattle.sc_node_table.specs.Values.{Base, OrderLine, Seat, Event}

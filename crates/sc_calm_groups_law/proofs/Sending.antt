@@ -47,7 +47,7 @@ module _ (name : Draw) (own : ℕ) where
   own_one : (me to : ℕ) (body : MailBody) (mails : List Mail) → IsNoState body → Own mails → Own (sent me to body mails)
   own_one me to body mails none f = Each-append (IsStateFrom name own) mails (record { from = me; to = to; body = body } ∷ []) f ((λ slot state sets is. absurd (none slot state sets is)), tt)
 
-  -- .. and its own states
+  -- a node that sends a state sends it as its own
   own_sent : (me to : ℕ) (body : MailBody) (mails : List Mail) → me ≡ own → Own mails → Own (sent me to body mails)
   own_sent me to body mails mine f = Each-append (IsStateFrom name own) mails (record { from = me; to = to; body = body } ∷ []) f ((λ slot state sets is. mine), tt)
 

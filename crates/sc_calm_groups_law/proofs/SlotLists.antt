@@ -43,7 +43,7 @@ each_polled : (n slot : ℕ) (voters : Option (List ℕ)) (fs : List (Flight Com
 each_polled n slot voters [] k = tt
 each_polled n slot voters (f ∷ fs) k = either_way (Each (λ (f : Flight Command). n ≤ f.slot)) (eqb f.slot slot) ((record f { voters = voters }) ∷ fs) (f ∷ with_voters slot voters fs) k (k.0, each_polled n slot voters fs k.1)
 
--- .. has other voters
+-- flights from a slot on stay such where one has other voters
 pub fly_polled : (n slot : ℕ) (voters : Option (List ℕ)) (fs : List (Flight Command)) → FlyFrom n fs → FlyFrom n (with_voters slot voters fs)
 fly_polled n slot voters fs k = (each_polled n slot voters fs k.0, apart_polled slot voters fs k.1)
 
@@ -108,7 +108,7 @@ rising_in slot command (e ∷ es) k = by (eqb e.0 slot) (nat_lt slot e.0) refl r
 pub wait_in : (n slot : ℕ) (command : Command) (es : List (ℕ × Command)) → n ≤ slot → WaitFrom n es → WaitFrom n (with_slot es slot command)
 wait_in n slot command es from k = (each_in (λ e. n ≤ e.0) slot command es from k.0, rising_in slot command es k.1)
 
--- .. elsewhere
+-- what is ready at other slots stays as it was
 pub in_other : (slot other : ℕ) (command : Command) (es : List (ℕ × Command)) → (slot ≡ other → ⊥) → at_slot (with_slot es slot command) other ≡ at_slot es other
 in_other slot other command [] ne = ap (λ b. cond b (Some command) None) (ne_eqb slot other ne)
 in_other slot other command (e ∷ es) ne = by (eqb e.0 slot) (nat_lt slot e.0) refl (in_other slot other command es ne)

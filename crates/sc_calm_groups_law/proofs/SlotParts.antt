@@ -71,7 +71,7 @@ module _ (n m : ℕ) (d : Bool) where
   welcomed_well [] place k = k
   welcomed_well (node ∷ nodes) place k = welcomed_well nodes (asked_to_promise node (install_to node place)) (asked_well node (install_to node place) (sent_well node place k))
 
-  -- ---- what is told of an entry
+  -- ---- what is reported of an entry
 
   told_well : (answer : Option AnswerBody) (command : Command) (place : Place) → W place → W (told_call answer command place)
   unfolding told_call put_back
@@ -124,7 +124,7 @@ module _ (n : ℕ) (d : Bool) where
   Runs place = W n n d place × (place.0.running ≡ true)
 
   module _ (slot : ℕ) where
-    -- .. with nothing at a slot
+    -- a replica that runs, with nothing in flight or ready at a slot
     abbrev Open_ : Place → Type 0
     Open_ place = Runs place × (taken_at place.0 slot ≡ None)
 
@@ -223,11 +223,11 @@ one_well counted command (r, mails) k =
     let k6 : W m m false (looked (left place5)) = looked_well m m false (left place5) (left_well m m false place5 k5) in
     subst (λ x. HasFrom x (looked (left place5)).0) (sym k6.1) k6.0
 
--- .. and nothing that is ready is to be executed now
+-- a place whose replica keeps its slots
 abbrev pub K : Place → Type 0
 K place = IsSlotKept place.0
 
--- .. with the children that a row made
+-- what a row leaves, with the children that it made, keeps its slots
 abbrev pub KAfter : Executed → Type 0
 KAfter step = K step.0
 

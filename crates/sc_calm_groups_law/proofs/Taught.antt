@@ -55,7 +55,7 @@ module _ (at : Sets) (over : Ends) (by : Tellers) (words : ℕ → ℕ → ℕ �
   row_keeps later (RowElects r after ballot row off e same) =
       subst Then (sym same) (taught_is_kept.elects at by now (after_ _) seat.who taken sent marks marks_then stage.rosters (row_in _) e.elects stage.was.followed.follows tt was)
 
--- Each row of a known kind keeps it that the members of a group's states learn the entries after them, and that nobody else is told one.
+-- Each row of a known kind keeps it that the members of a group's states learn the entries after them, and that nobody else is sent one.
 pub rows_keep_taught : RowsKeepTaught
 rows_keep_taught at over by words births rows seat event base course later stage row was = row_keeps at over by words births rows seat event base course stage was later row
 
@@ -136,7 +136,7 @@ module _ (at : Sets) (over : Ends) (by : Tellers) (words : ℕ → ℕ → ℕ �
   before_in_time : AreInTime (players words births) journal → (rows more : Rows) → journal ≡ rows ++ more → AreInTime (players words births) rows
   before_in_time timely rows more is = λ before row after e. timely before row (after ++ more) (is ∙ (ap (λ rs. rs ++ more) e ∙ append_assoc before (row ∷ after) more))
 
--- And so it is after each row of a journal whose rows come in time, and in which the group's log is one, if it is at first.
+-- It is so after each row of a journal whose rows come in time, and in which the group's log is one, if it is at first.
 pub groups_taught_through : GroupsAreTaughtThrough
 groups_taught_through at over by words births journal base wb one so timely first rows more is =
     by_time (players words births) (Begin at over by words births journal base wb one so) (λ all e. first) (after_row at over by words births journal base wb one so) rows (before_in_time at over by words births journal base wb one so timely rows more is) more is

@@ -67,7 +67,7 @@ scenarios_led_through at over by words scenario journal base bounded a one so ti
     groups_led_through at over by words (births as_nodes scenario) journal base (scenarios_well_born scenario) one so timely
     (begun_course base, scenarios_begin_led at over by words scenario base bounded a (begins_so at over by words scenario journal base bounded a one))
 
--- And so is each child of a split, of which no node has a replica at the births.
+-- Each child of a split, of which no node has a replica at the births, is well led through a journal.
 pub children_led_through : ChildrenAreLedThrough
 children_led_through at over by words births journal base wb unborn stands early one so timely =
     groups_led_through at over by words births journal base wb one so timely

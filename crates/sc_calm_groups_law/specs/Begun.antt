@@ -1,4 +1,4 @@
--- That groups begin well led.
+-- Groups begin well led (`IsWellLed`).
 use Rattle.std.specs.Prelude.{◌≡◌, ℕ, ◌+◌, ◌<◌, true, false, List, [], None}
 use Rattle.sc_base.specs.Definitions.{Among, IsRoster, is_member}
 use Rattle.sc_node_table.specs.Values.{Base, Seat}
@@ -11,20 +11,20 @@ use Rattle.sc_following_law.specs.Definitions.{Sets, Tellers}
 use Rattle.sc_calm_rows_law.specs.Definitions.{view_at, marks_at, begun_course}
 use Rattle.sc_calm_groups_law.specs.Led.{Ends, IsWellLed}
 
--- the log of a group begins with its first members, and with the group standing; the members of each slot are a roster
+-- The log of a group begins with its first members and with the group standing; the members of each slot are one to nine numbers, ascending.
 pub record BeginsSo (at : Sets) (over : Ends) (base : Base) : Type 0 where
   pub sets : (slot : ℕ) → slot < 1 + slots_ahead → at slot ≡ base.core.members
   pub stands : over 1 ≡ false
   pub early : over 0 ≡ false
   pub rosters : (slot : ℕ) → IsRoster (at slot)
 
--- Each group of a bounded scenario is well led at its birth ..
+-- Each group of a bounded scenario is well led at its birth.
 abbrev pub ScenariosBeginLed : Type 0
 ScenariosBeginLed =
     (at : Sets) (over : Ends) (by : Tellers) (words : ℕ → ℕ → ℕ × ℕ) (scenario : Scenario) (base : Base) → IsBounded scenario → Among base scenario.groups → BeginsSo at over base
     → IsWellLed at over by words (births as_nodes scenario) [] base (begun_course base)
 
--- .. and so is one that is still to be born, the first of whose members is one, where no node has a replica of it and no mail of it is under way
+-- A group that is still to be created is well led, if its first leader is one of its members, no node has a replica of it, and no Paxos mail of it is under way.
 abbrev pub ChildrenBeginLed : Type 0
 ChildrenBeginLed =
     (at : Sets) (over : Ends) (by : Tellers) (words : ℕ → ℕ → ℕ × ℕ) (seats : List (Seat Player)) (rows : Rows) (base : Base) → BeginsSo at over base → is_member base.core.members base.core.first ≡ true

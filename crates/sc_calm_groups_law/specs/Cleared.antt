@@ -1,4 +1,4 @@
--- What a leader has in flight and ready, and that it has nothing in a quiet journal.
+-- What a leader has in flight and ready, and that it has nothing in a quiet journal (no mail pending).
 use Rattle.std.specs.Prelude.{◌≡◌, ℕ, ◌≤◌, true, false, List, [], None, Some}
 use Rattle.sc_base.specs.Definitions.{Each, IsRoster}
 use Rattle.sc_node_table.specs.Values.{Base, Seat}
@@ -12,19 +12,20 @@ use Rattle.sc_calm_rows_law.specs.Definitions.{view_at, marks_at}
 use Rattle.sc_calm_groups_law.specs.Led.{Ends, IsWellLed}
 use Rattle.sc_calm_groups_law.specs.Tops.{IsTopKept}
 
--- what is in flight and ready is at slots that are not executed, and nothing that is ready is to be executed now
+-- What is in flight and ready is at slots that are not executed, and nothing is ready at the replica's next slot.
 pub record IsCleared (r : ReplicaState) : Type 0 where
   pub flights : Each (λ flight. next r ≤ flight.slot) r.leader.flights
   pub ready : Each (λ entry. next r ≤ entry.0) r.ready
   pub done : next_ready r ≡ None
 
--- a leader has nothing in flight or ready, and leads at rest
+-- The leader has nothing in flight or ready, and leads at rest (`LeadsAtRest`).
 pub record RestsCleared (lead : ReplicaState) : Type 0 where
   pub flights : lead.leader.flights ≡ []
   pub ready : lead.ready ≡ []
   pub leads : LeadsAtRest lead
 
--- So it is in a quiet journal at the one that leads a group that is well led and stands, where its slots are not used up, it is cleared, and the greatest ballot that it saw is kept.
+-- In a quiet journal the leader of a group that is well led and stands has nothing in flight or ready, and leads at rest.
+-- Premises: its next slot is not behind the last one, `IsCleared` and `IsTopKept` hold of it, and no Paxos mail of the group is under way to a number that no player has.
 abbrev pub QuietLeadersRest : Type 0
 QuietLeadersRest =
     (at : Sets) (over : Ends) (by : Tellers) (words : ℕ → ℕ → ℕ × ℕ) (births : List (Seat Player)) (rows : Rows) (base : Base) (course : Course) (lead : ReplicaState) → ((slot : ℕ) → IsRoster (at slot)) → AreInTime (players words births) rows

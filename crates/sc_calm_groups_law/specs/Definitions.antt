@@ -1,4 +1,4 @@
--- The definitions of this crate that others cite, under one name.
+-- The definitions of this crate that other crates cite, in one module.
 pub use Rattle.sc_calm_groups_law.specs.Begun.{BeginsSo, ScenariosBeginLed, ChildrenBeginLed}
 pub use Rattle.sc_calm_groups_law.specs.Cleared.{RestsCleared, IsCleared, QuietLeadersRest}
 pub use Rattle.sc_calm_groups_law.specs.Kept.{ScenariosAreKeptBorn, ReplicasAreKept, IsKeptPlayer, AreKeptBorn, KeptLeadersRest}

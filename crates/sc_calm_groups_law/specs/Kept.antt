@@ -1,4 +1,4 @@
--- Each replica in any journal of a scenario keeps its greatest ballot and its slots, and so a leader rests in a quiet one.
+-- Each replica in any journal of a scenario keeps what is said of its greatest ballot and its slots, and so a leader rests in a quiet journal.
 use Rattle.std.specs.Prelude.{◌≡◌, ℕ, ◌≤◌, true, false, List, [], Some}
 use Rattle.sc_base.specs.Definitions.{Each, IsRoster}
 use Rattle.sc_node_table.specs.Values.{Draw, Base, Node, Client, Seat}
@@ -15,24 +15,24 @@ use Rattle.sc_calm_groups_law.specs.Led.{Ends, IsWellLed}
 use Rattle.sc_calm_groups_law.specs.Tops.{IsTopKept}
 use Rattle.sc_calm_groups_law.specs.Slots.{IsSlotKept, IsSlotKeptNode}
 
--- a player with its number, each of whose replicas keeps its greatest ballot and its slots
+-- The player has this number, and `IsTopKept` and `IsSlotKept` hold of each of its replicas.
 abbrev pub IsKeptPlayer : ℕ → Player → Type 0
 IsKeptPlayer who (Node node) = (node.me ≡ who) × Each (IsTopKept who) node.replicas × IsSlotKeptNode node
 IsKeptPlayer who (Client client) = Unit {0}
 
--- players are born so
+-- `IsKeptPlayer` holds of each of these players at its birth.
 abbrev pub AreKeptBorn : List (Seat Player) → Type 0
 AreKeptBorn births = (seat : Seat Player) → IsSeat births seat → IsKeptPlayer seat.who seat.actor
 
--- the players of a scenario are
+-- `IsKeptPlayer` holds of each player of a scenario at its birth.
 abbrev pub ScenariosAreKeptBorn : Type 0
 ScenariosAreKeptBorn = (scenario : Scenario) → AreKeptBorn (births as_nodes scenario)
 
--- then each replica after any rows is
+-- If players are kept at their births, `IsTopKept` and `IsSlotKept` hold of each replica after any rows.
 abbrev pub ReplicasAreKept : Type 0
 ReplicasAreKept = (births : List (Seat Player)) (rows : Rows) (name : Draw) (who : ℕ) (r : ReplicaState) → AreKeptBorn births → view_at births rows name who ≡ Some r → IsTopKept who r × IsSlotKept r
 
--- So in a quiet journal the one that leads a group that is well led and stands rests, where its slots are not used up.
+-- In a quiet journal the leader of a group that is well led and stands rests (`RestsCleared`), if its next slot is not behind the last one and players are kept at their births.
 abbrev pub KeptLeadersRest : Type 0
 KeptLeadersRest =
     (at : Sets) (over : Ends) (by : Tellers) (words : ℕ → ℕ → ℕ × ℕ) (births : List (Seat Player)) (rows : Rows) (base : Base) (course : Course) (lead : ReplicaState) → AreKeptBorn births → ((slot : ℕ) → IsRoster (at slot)) → AreInTime (players words births) rows

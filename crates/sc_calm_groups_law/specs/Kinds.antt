@@ -11,7 +11,9 @@ use Rattle.sc_calm_groups_law.specs.Led.{Ends, IsWellLed}
 use Rattle.sc_calm_groups_law.specs.Logged.{IsLogsState, CountsTo}
 use Rattle.sc_calm_groups_law.specs.Rows.{LeadsWell, ElectsWell}
 
--- What one row is to a group that is well led, and the group's course after it: it does nothing in it, but that the node may make its replica at the group's birth; a replica that does not run stays where it is; one takes a mail, or a node makes one of a state; its leader acts; or one elects itself.
+-- What one row is to a group that is well led, with the group's course after it. `RowPasses`: it does nothing in the group, but may create the node's replica at the group's birth.
+-- `RowRests`: a replica that does not lead stays where it is. `RowTakes`, `RowMakes`: a replica takes a mail, or a node creates one from a state.
+-- `RowLeads`: its leader acts. `RowElects`: a node elects itself.
 pub data IsGroupRow (at : Sets) (over : Ends) (by : Tellers) (births : List (Seat Player)) (rows : Rows) (seat : Seat Player) (event : Event OrderLine) (base : Base) (course later : Course) : Type 0 where
   RowPasses : later ≡ course → LeavesOrBears births rows seat event base → IsGroupRow at over by births rows seat event base course later
   RowRests : later ≡ course → (r : ReplicaState) (after : Place) → IsReplicasRow births rows seat event base.core.id (Some r) after → r.running ≡ false → IsUnmoved base.core.id r after → IsKind IsIdle births rows seat event base course course
@@ -25,7 +27,7 @@ pub data IsGroupRow (at : Sets) (over : Ends) (by : Tellers) (births : List (Sea
   RowElects : (r : ReplicaState) (after : Place) (ballot : Ballot) → IsReplicasRow births rows seat event base.core.id (Some r) after → r.running ≡ false → ElectsWell at births rows seat event base course ballot after → later ≡ elected_course course ballot
       → IsGroupRow at over by births rows seat event base course later
 
--- the group is well led after the event, in a course that comes of its row
+-- The group is well led after the event, in a course that its row gives.
 pub record IsLedStep (at : Sets) (over : Ends) (by : Tellers) (words : ℕ → ℕ → ℕ × ℕ) (births : List (Seat Player)) (rows : Rows) (seat : Seat Player) (event : Event OrderLine) (base : Base) (course : Course) : Type 0 where
   pub later : Course
   pub led : IsWellLed at over by words births (with_event rows seat event) base later

@@ -1,4 +1,4 @@
--- A group after some rows of players that is well led: it follows its leader, each node takes the one for the leader that it is to, and what the leader has in flight is in order.
+-- A group that is well led after some rows of players: it follows its leader, its nodes take that one for the leader, and what the leader has in flight is in order.
 use Rattle.std.specs.Prelude.{◌≡◌, ℕ, ◌≤◌, Bool, true, List, Option, Some, None}
 use Rattle.sc_node_table.specs.Values.{Draw, Base, OrderLine, Mail, Seat}
 use Rattle.sc_actor.specs.Definitions.{System}
@@ -9,24 +9,26 @@ use Rattle.sc_calm_law.specs.Definitions.{players, Rows}
 use Rattle.sc_following_law.specs.Definitions.{Dated, dated_of, IsAskedLow, Course, Sets, Tellers, IsHeeding, IsOrderly, IsOwnFirst}
 use Rattle.sc_calm_rows_law.specs.Definitions.{view_at, progress_at, marks_at, begun_course, IsFollowedAt}
 
--- whom a replica takes for the leader; where there is none yet, it will be the group's first member
+-- Whom a replica takes for the leader; where there is no replica yet, the group's first leader.
 abbrev pub hint_in : Base → Option ReplicaState → Option ℕ
 hint_in base None = Some base.core.first
 hint_in base (Some r) = r.hint
 
--- .. that of each node after some rows
+-- Whom each node takes for the leader of the group after these rows.
 abbrev pub hints_at : List (Seat Player) → Rows → Base → ℕ → Option ℕ
 hints_at births rows base who = hint_in base (view_at births rows base.core.id who)
 
--- the marks, for a group, of the mail that an actor has not taken, with the slots from which it is asked to promise
+-- The marks, for a group, of the mail that an actor has not taken, each with the slot from which it asks to promise.
 abbrev pub dated_at : System Player Mail OrderLine → Rows → Draw → ℕ → List Dated
 dated_at s rows name who = dated_of name (rest s rows who)
 
--- whether the group is gone in the state in which a slot is the next one
+-- For each slot: whether the group is gone in the state in which that slot is the next one.
 abbrev pub Ends : Type 0
 Ends = ℕ → Bool
 
--- The group follows its leader in this course; its nodes take the one that leads for that; none is asked to promise from below its next slot, and a leader has taken what it asked itself; what a leader has in flight and ready is in order; the group goes on as it began until its first member's node has a replica; and it is gone where the log says so, which nothing follows.
+-- The group follows its leader in this course; its nodes take the one that leads for the leader; no node is asked to promise from a slot below its next one;
+-- a leader takes its own Prepare before it executes an entry; what a leader has in flight and ready is in order;
+-- the group is as it began until its first leader's node has a replica; and it is gone where the log says so, and no entry comes after that.
 pub record IsWellLed (at : Sets) (over : Ends) (by : Tellers) (words : ℕ → ℕ → ℕ × ℕ) (births : List (Seat Player)) (rows : Rows) (base : Base) (course : Course) : Type 0 where
   pub followed : IsFollowedAt at words births rows base course
   pub heeded : IsHeeding at by (progress_at births rows base course) (hints_at births rows base) (marks_at (players words births) rows base.core.id)
@@ -37,6 +39,6 @@ pub record IsWellLed (at : Sets) (over : Ends) (by : Tellers) (words : ℕ → �
   pub ends : course.gone ≡ over course.newest
   pub rests : (slot : ℕ) → over slot ≡ true → course.newest ≤ slot
 
--- .. in some course
+-- The group is well led after these rows, in some course.
 abbrev pub IsLedOn : Sets → Ends → Tellers → (ℕ → ℕ → ℕ × ℕ) → List (Seat Player) → Rows → Base → Type 0
 IsLedOn at over by words births rows base = (course : Course) × IsWellLed at over by words births rows base course

@@ -12,7 +12,8 @@ use Rattle.sc_following_law.specs.Definitions.{Course, Sets, IsOpen, Tellers, Is
 use Rattle.sc_calm_rows_law.specs.Definitions.{view_at, progress_at, marks_at}
 use Rattle.sc_calm_groups_law.specs.Led.{Ends, IsWellLed}
 
--- One leads, a settled member that no report binds, with all in order, and no other runs; no replica is further, and each member's is as far; none has promised a later ballot; and each other of a node that decides an open slot may vote.
+-- One replica leads: a settled member that no report binds, with all in order. No other leads, none has executed more, and each member's has executed as much;
+-- none has promised a later ballot; and each other replica of a node that decides an open slot may vote.
 pub record IsLedQuietly (at : Sets) (births : List (Seat Player)) (rows : Rows) (base : Base) (course : Course) (lead : ReplicaState) : Type 0 where
   pub leads : IsLeadOf at (progress_at births rows base course) lead
   pub runs : lead.running ≡ true
@@ -26,7 +27,8 @@ pub record IsLedQuietly (at : Sets) (births : List (Seat Player)) (rows : Rows) 
   pub promised : (node : ℕ) (r : ReplicaState) → view_at births rows base.core.id node ≡ Some r → below lead.leader.ballot r.acceptor.promised ≡ false
   pub voter : (node : ℕ) (r : ReplicaState) → view_at births rows base.core.id node ≡ Some r → r.me ≡ node → IsOpen at course.newest node → (node ≡ lead.me → ⊥) → MayVote lead r
 
--- So it is in a quiet journal, where no mail of it is for who is no actor: if it stands, with the replica of the node of its ballot; and if it is gone, none runs.
+-- In a quiet journal a group that is well led and stands is led as `IsLedQuietly` says by the replica at the node of its ballot,
+-- if no Paxos mail of it is under way to a number that no player has. Of a group that is gone, no replica leads.
 pub record QuietGroupsAreLed : Type 0 where
   pub stands : (at : Sets) (over : Ends) (by : Tellers) (words : ℕ → ℕ → ℕ × ℕ) (births : List (Seat Player)) (rows : Rows) (base : Base) (course : Course) (lead : ReplicaState) → ((slot : ℕ) → IsRoster (at slot)) → AreInTime (players words births) rows
       → is_quiet (players words births) rows ≡ true → ((who : ℕ) → is_born (players words births) who ≡ false → marks_at (players words births) rows base.core.id who ≡ []) → IsWellLed at over by words births rows base course

@@ -1,4 +1,4 @@
--- One that has promised the ballot of a leader, and saw no later one, rises to it.
+-- A replica that has promised the ballot of a leader, and saw no later one, rises to it (`RisesAt`).
 use Rattle.std.specs.Prelude.{◌≡◌, ℕ, true, Some}
 use Rattle.sc_node_table.specs.Values.{Draw}
 use Rattle.sc_paxos_words.specs.Definitions.{IsAtLeast}
@@ -6,7 +6,7 @@ use Rattle.sc_node_table.specs.Definitions.{ReplicaState}
 use Rattle.sc_calm_law.specs.Definitions.{View, RisesAt}
 use Rattle.sc_calm_groups_law.specs.Tops.{IsTopKept}
 
--- It takes the leader for that, whose ballot names its node: its greatest ballot is that one.
+-- A replica that takes a leader for the leader, has promised its ballot and saw no later one, has that ballot as the greatest that it saw, and so rises to that leader.
 abbrev pub PromisersRise : Type 0
 PromisersRise =
     (at : View) (group : Draw) (lead r : ReplicaState) (who : ℕ) → at group lead.me ≡ Some lead → lead.running ≡ true → lead.leader.ballot.node ≡ lead.me → r.hint ≡ Some lead.me → r.acceptor.promised ≡ lead.leader.ballot

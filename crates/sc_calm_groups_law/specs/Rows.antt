@@ -1,4 +1,4 @@
--- That each row of players, by its kind in a group, keeps the group well led.
+-- Each row of players, by its kind in a group, keeps the group well led.
 use Rattle.std.specs.Prelude.{◌≡◌, ℕ, suc, ◌≤◌, true, List, Some, None, is_some}
 use Rattle.sc_base.specs.Definitions.{Each, IsRoster}
 use Rattle.sc_node_table.specs.Values.{Ballot, Draw, Base, OrderLine, Mail, Install, Seat, Event}
@@ -11,23 +11,24 @@ use Rattle.sc_following_law.specs.Definitions.{dated_for, AsksLow, Tells, Course
 use Rattle.sc_calm_rows_law.specs.Definitions.{view_at, progress_at, taken_mark, LeavesLead, led_course, elected_course, LedBy, with_event, IsKind, IsReplicasRow}
 use Rattle.sc_calm_groups_law.specs.Led.{Ends, hints_at, IsWellLed}
 
--- a group is well led after some rows, whose slots have rosters, and one more event comes in time
+-- The group is well led after these rows, one to nine nodes decide each slot, and one more event comes in time.
 pub record IsStage (at : Sets) (over : Ends) (by : Tellers) (words : ℕ → ℕ → ℕ × ℕ) (births : List (Seat Player)) (rows : Rows) (seat : Seat Player) (event : Event OrderLine) (base : Base) (course : Course) : Type 0 where
   pub rosters : (slot : ℕ) → IsRoster (at slot)
   pub timely : AreInTime (players words births) (with_event rows seat event)
   pub was : IsWellLed at over by words births rows base course
 
--- a row leaves the one that leads, has its replica in order after it where that runs, and no replica of the node vanishes
+-- The row leaves the leader as `LeavesLead` says, has the node's replica in order after it if that leads, and the node's replica, if any, does not vanish.
 pub record LeavesWell (at : Sets) (births : List (Seat Player)) (rows : Rows) (seat : Seat Player) (event : Event OrderLine) (base : Base) (course : Course) : Type 0 where
   pub lead : LeavesLead at births rows seat event base course
   pub orderly : (r : ReplicaState) → view_at births (with_event rows seat event) base.core.id seat.who ≡ Some r → r.running ≡ true → IsOrderly r
   pub there : view_at births (with_event rows seat event) base.core.id seat.who ≡ None → view_at births rows base.core.id seat.who ≡ None
 
--- a mail with a state of a group is from this node
+-- If the mail has a state of this group, it is from this node.
 abbrev pub IsStateFrom : Draw → ℕ → Mail → Type 0
 IsStateFrom name who mail = (slot : ℕ) (state : Base) (sets : List (List ℕ)) → mail.body ≡ Install name slot state sets → mail.from ≡ who
 
--- a leader's row, of a leader that leaves last, counts its own promises, asks right behind a state, and sends its states itself; it is in order after it where it leads on, and the group is gone where the log says so, which nothing follows
+-- A row of a leader that leaves last, counts a promise only by taking it, asks to promise right behind a state, and sends states itself.
+-- If the leader leads on, it is in order after the row. The group is gone where the log says so, and no entry comes after that.
 pub record LeadsWell (at : Sets) (over : Ends) (by : Tellers) (births : List (Seat Player)) (rows : Rows) (seat : Seat Player) (event : Event OrderLine) (base : Base) (course : Course) (after : Place) : Type 0 where
   pub led : LedBy at births rows seat event base course after
   pub last : LeavesLast at by (progress_at births rows base course) (progress_at births (with_event rows seat event) base (led_course led.bound course after.0))
@@ -38,7 +39,7 @@ pub record LeadsWell (at : Sets) (over : Ends) (by : Tellers) (births : List (Se
   pub ends : is_some after.0.group.core.gone ≡ over (next after.0)
   pub rests : (slot : ℕ) → over slot ≡ true → next after.0 ≤ slot
 
--- a row in which a node elects itself by an entry that it is told: it leads after it, in order, and asks to promise from the slot after the newest state on
+-- A row in which a node elects itself by the last entry, which it learns: it leads after it, in order, and asks to promise from the next slot of the newest state on.
 pub record ElectsWell (at : Sets) (births : List (Seat Player)) (rows : Rows) (seat : Seat Player) (event : Event OrderLine) (base : Base) (course : Course) (ballot : Ballot) (after : Place) : Type 0 where
   pub elects : IsKind (Elects at) births rows seat event base course (elected_course course ballot)
   pub runs : after.0.running ≡ true
@@ -47,20 +48,20 @@ pub record ElectsWell (at : Sets) (births : List (Seat Player)) (rows : Rows) (s
   pub low : (who : ℕ) → Each (λ d. course.newest ≤ d.1) (dated_for base.core.id who after.1)
   pub orderly : IsOrderly after.0
 
--- Each row keeps a group well led ..
+-- Each row of these kinds keeps a group well led.
 pub record RowsKeepLed : Type 0 where
-  -- .. that does nothing in it
+  -- a row that does nothing in the group
   pub idle : (at : Sets) (over : Ends) (by : Tellers) (words : ℕ → ℕ → ℕ × ℕ) (births : List (Seat Player)) (rows : Rows) (seat : Seat Player) (event : Event OrderLine) (base : Base) (course : Course) → IsStage at over by words births rows seat event base course
       → LeavesWell at births rows seat event base course → IsKind IsIdle births rows seat event base course course → hints_at births (with_event rows seat event) base seat.who ≡ hints_at births rows base seat.who
       → IsWellLed at over by words births (with_event rows seat event) base course
-  -- .. in which a node takes a mail, and takes for the leader whom its mark says
+  -- a row in which a node takes a mail, after which it takes for the leader whom the mail's mark says
   pub takes : (at : Sets) (over : Ends) (by : Tellers) (words : ℕ → ℕ → ℕ × ℕ) (births : List (Seat Player)) (rows : Rows) (seat : Seat Player) (event : Event OrderLine) (base : Base) (course : Course) → IsStage at over by words births rows seat event base course
       → LeavesWell at births rows seat event base course → IsKind (Takes at) births rows seat event base course course
       → GoesBy at by (progress_at births rows base course) (progress_at births (with_event rows seat event) base course) seat.who (taken_mark base.core.id (mails rows) event) (hints_at births rows base seat.who) (hints_at births (with_event rows seat event) base seat.who)
       → IsWellLed at over by words births (with_event rows seat event) base course
-  -- .. of its leader
+  -- a row of the leader
   pub leads : (at : Sets) (over : Ends) (by : Tellers) (words : ℕ → ℕ → ℕ × ℕ) (births : List (Seat Player)) (rows : Rows) (seat : Seat Player) (event : Event OrderLine) (base : Base) (course : Course) (r : ReplicaState) (after : Place) → IsStage at over by words births rows seat event base course
       → IsReplicasRow births rows seat event base.core.id (Some r) after → (l : LeadsWell at over by births rows seat event base course after) → IsWellLed at over by words births (with_event rows seat event) base (led_course l.led.bound course after.0)
-  -- .. in which one elects itself
+  -- a row in which a node elects itself
   pub elects : (at : Sets) (over : Ends) (by : Tellers) (words : ℕ → ℕ → ℕ × ℕ) (births : List (Seat Player)) (rows : Rows) (seat : Seat Player) (event : Event OrderLine) (base : Base) (course : Course) (ballot : Ballot) (r : ReplicaState) (after : Place) → IsStage at over by words births rows seat event base course
       → IsReplicasRow births rows seat event base.core.id (Some r) after → ElectsWell at births rows seat event base course ballot after → IsWellLed at over by words births (with_event rows seat event) base (elected_course course ballot)

@@ -8,35 +8,35 @@ use Rattle.sc_sound.specs.Definitions.{Player, player_table}
 use Rattle.sc_calm_law.specs.Definitions.{Rows}
 use Rattle.sc_following_law.specs.Definitions.{AreApart}
 
--- commands in flight from a slot on, one at a slot
+-- All flights are at slots from `from` on, at most one at a slot.
 abbrev pub FlyFrom : ℕ → List (Flight Command) → Type 0
 FlyFrom from flights = Each (λ flight. from ≤ flight.slot) flights × AreApart flights
 
--- entries by rising slot
+-- The entries stand by rising slot.
 abbrev pub AreRising : List (ℕ × Command) → Type 0
 AreRising [] = Unit {0}
 AreRising (entry ∷ entries) = Each (λ later. entry.0 < later.0) entries × AreRising entries
 
--- .. from a slot on
+-- The entries stand by rising slot, from slot `from` on.
 abbrev pub WaitFrom : ℕ → List (ℕ × Command) → Type 0
 WaitFrom from entries = Each (λ entry. from ≤ entry.0) entries × AreRising entries
 
--- a replica that has anything in flight or ready runs, and has it from a slot on
+-- What the replica has in flight and ready is at slots from `from` on, and if it does not lead it has nothing.
 abbrev pub HasFrom : ℕ → ReplicaState → Type 0
 HasFrom from r = FlyFrom from r.leader.flights × WaitFrom from r.ready × (r.running ≡ false → (r.leader.flights ≡ []) × (r.ready ≡ []))
 
--- .. from its next slot on, and nothing that is ready is to be executed now
+-- What the replica has in flight and ready is at slots that it has not executed, and nothing is ready at its next slot.
 abbrev pub IsSlotKept : ReplicaState → Type 0
 IsSlotKept r = HasFrom (next r) r × (next_ready r ≡ None)
 
--- each replica of a node is so
+-- `IsSlotKept` holds of each replica of the node.
 abbrev pub IsSlotKeptNode : NodeState → Type 0
 IsSlotKeptNode node = Each IsSlotKept node.replicas
 
--- a node that is so at first is so after any rows
+-- A node of which `IsSlotKeptNode` holds at its birth satisfies it after any rows.
 abbrev pub NodesKeepSlots : Type 0
 NodesKeepSlots = (seat : Seat Player) (rows : Rows) (born node : NodeState) → seat.actor ≡ Node born → IsSlotKeptNode born → value player_table seat rows ≡ Node node → IsSlotKeptNode node
 
--- at the birth of groups each node is so
+-- `IsSlotKeptNode` holds of each node that is created with these groups.
 abbrev pub NodesAreBornSlotted : Type 0
 NodesAreBornSlotted = (me : ℕ) (groups : List Base) (policy : Bool) → IsSlotKeptNode (born_node slots_ahead me groups policy)

@@ -9,18 +9,19 @@ use Rattle.sc_sound.specs.Definitions.{Player, player_table}
 use Rattle.sc_calm_law.specs.Definitions.{Rows}
 use Rattle.sc_law_lemmas.specs.Definitions.{IsKept}
 
--- It is its node's, and has promised no later ballot than the greatest that it saw; where it runs, that is the one it runs with, and it takes itself for the leader; and it is kept as any replica is.
+-- The replica is its node's, and has promised no ballot later than the greatest that it saw.
+-- Where it leads, it does so in that ballot and takes itself for the leader. And it is kept as any replica is (`IsKept`).
 abbrev pub IsTopKept : ℕ → ReplicaState → Type 0
 IsTopKept me r = (r.me ≡ me) × IsAtLeast r.top r.acceptor.promised × (r.running ≡ true → (r.top ≡ r.leader.ballot) × (r.hint ≡ Some me)) × IsKept me r
 
--- each replica of a node is so
+-- `IsTopKept` holds of each replica of the node.
 abbrev pub IsTopKeptNode : NodeState → Type 0
 IsTopKeptNode node = Each (IsTopKept node.me) node.replicas
 
--- a node that is so at first is so after any rows, and keeps its number
+-- A node of which `IsTopKeptNode` holds at its birth satisfies it after any rows, and keeps its number.
 abbrev pub NodesKeepTops : Type 0
 NodesKeepTops = (seat : Seat Player) (rows : Rows) (born node : NodeState) → seat.actor ≡ Node born → IsTopKeptNode born → value player_table seat rows ≡ Node node → IsTopKeptNode node × (node.me ≡ born.me)
 
--- at the birth of groups each node is so
+-- `IsTopKeptNode` holds of each node that is created with these groups.
 abbrev pub NodesAreBornTopped : Type 0
 NodesAreBornTopped = (me : ℕ) (groups : List Base) (policy : Bool) → IsTopKeptNode (born_node slots_ahead me groups policy)

@@ -1,4 +1,3 @@
-//! Of one group through a calm journal: that it follows its leader, that each node takes the one
-//! that leads for that, and that what is asked and offered is in order. Definitions and laws, no
-//! logic.
+//! One group through a calm journal: it follows its leader, each node takes the node that leads
+//! for the leader, and what is asked and offered is in order. Definitions and laws; no function.
 #![tactic(auto)]

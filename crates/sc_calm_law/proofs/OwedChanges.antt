@@ -81,7 +81,7 @@ leave_new node order r =
     let all = ordered_members P r.group.core.gone (refusal_of r.group.core (Leave node order)) (without_node r.group node) r.group (none_new before (λ member. not (eqb member node)) before (λ x a. among_member x before a)) (same_new before before (λ x a. among_member x before a)) in
     subst P (sym (entered_members (Leave node order) r)) all
 
--- ---- what is said: the desk alone is told
+-- ---- what is said: a report to the desk alone
 
 call_silent : (o : Option AnswerBody) (command : Command) (place : Place) → IsChange command → told_call o command place ≡ place
 unfolding told_call

@@ -66,7 +66,7 @@ module _ (ways : Ways) where
       by None is = omega arith
       by (Some number) is = waits number is (eqb number seq) refl
 
-  -- ---- told another node
+  -- ---- an answer names another node
 
   lookup_set : (test : Draw → Bool) (known : KnownGroups) (way other : Way) → lookup test known ≡ Some other → lookup test (set_value test known way) ≡ Some way
   lookup_set test [] way other e = cc

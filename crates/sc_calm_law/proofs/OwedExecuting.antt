@@ -191,7 +191,7 @@ record IsSaid (command : Command) (place : Place) : Type 0 where
   pub most : ℕ
   pub says : SaysMost near command place.0 place.1 most
 
--- .. and whether it leads on after it
+-- what an entry says, and whether the replica leads on after it
 abbrev Follows : Command → Place → Type 0
 Follows command place = IsSaid command place × (LeadsOn command place.0 ⊎ (StopsAfter command place.0 ⊎ EndsAfter command place.0))
 

@@ -1,4 +1,4 @@
--- A row that finds what it needs lowers what is owed, where it delivers, and raises it little, where it tells an order.
+-- A row that finds what it needs lowers what is owed, where it delivers, and raises it little, where it gives an order.
 use Rattle.std.proofs.Common.{◌≡◌, ℕ, ◌+◌, ◌*◌, ◌≤◌, eqb, true, false, true≢false, cond, List, [], ◌∷◌, ◌++◌, sum_by, find, Some, None, inl, inr, refl, sym, ◌∙◌, ap, subst, arith}
 use Rattle.std.specs.List.{filter}
 use Rattle.std.specs.Option.{option_map}
@@ -76,7 +76,7 @@ module _ (chart : Chart) (elsewhere : Elsewhere) (bounded : AreBounded chart.way
   abbrev part : Player → ℕ
   part player = player_owes chart player + idle_part elsewhere chart.groups player
 
-  -- .. after an input, with what it sends
+  -- what a player owes after an input, with what groups owe and with the mails that it sends
   abbrev turn_part : Player → Input Mail OrderLine → ℕ
   turn_part player input = part (player_table player input).0 + sum_by (mail_owes chart.ways) (player_table player input).1
 
@@ -203,7 +203,7 @@ module _ (words : ℕ → ℕ → ℕ × ℕ) (births : List (Seat Player)) (apa
         let some = pending_owes words births (charts rows).ways rows (in_time_tidy (players words births) rows timely) (keep.delivered rows lawful timely low) loud in
         omega (arith, some)
 
--- Where each row in time of lawful journals with at most so many deliveries finds what it needs, what all players, groups and mail under way owe is a measure: a delivery lowers it, an order raises it by what a transaction with two other groups takes at most, and a client that goes raises nothing.
+-- Where each row in time of lawful journals with at most a given number of deliveries finds what it needs, what all players, groups and mail under way owe is a measure: a delivery lowers it, an order raises it by what a transaction with two other groups takes at most, and a client that goes raises nothing.
 pub kept_calm : KeptCalmIsMeasured
 kept_calm words births lines charts most still apart keep quiet = record {
   lowers = row_lowers words births apart lines charts most keep;

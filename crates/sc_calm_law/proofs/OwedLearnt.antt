@@ -34,7 +34,7 @@ open_few sets =
     omega (arith, short, all)
 
 module _ (ways : Ways) where
-  -- ---- what the desk is told owes nothing
+  -- ---- what is reported to the desk owes nothing
 
   pub desk_owes : (me number : ℕ) (result : ToldResult) (mails : List Mail) → sum_by (mail_owes ways) (told_order me number result mails) ≡ sum_by (mail_owes ways) mails
   unfolding told_order

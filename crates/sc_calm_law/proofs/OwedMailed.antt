@@ -30,7 +30,7 @@ pub learns : LearnsLower
 unfolding mailed
 learns = λ ways from group slot command place f low. learn_lowers ways from slot command place f low
 
--- A promise, a request, an offer and a watch lower what is owed: each is taken, or its sender is told of a replica that is nearer to the one that runs.
+-- A promise, a request, an offer and a watch lower what is owed: each is taken, or its sender learns of a replica that is nearer to the one that runs.
 pub asks : AsksLower
 unfolding mailed
 asks = record {

@@ -1,4 +1,4 @@
--- What a node owes: of its replicas one is changed by a mail, and others are born.
+-- What a node owes: of its replicas one is changed by a mail, and others are created.
 use Rattle.std.proofs.Common.{◌≡◌, ℕ, ◌+◌, ◌*◌, ◌≤◌, ◌==◌, ◌||◌, not, false, cond, List, [], ◌∷◌, length, sum_by, Option, Some, None, is_some, nat_lt, inl, inr, refl, sym, ◌∙◌, ap, arith}
 use Rattle.std.proofs.lemmas.Bool.{cond_both, cond-true, cond-false, cases_Bool}
 use Rattle.std.proofs.lemmas.List.Sums.{sum_by-cons}
@@ -81,7 +81,7 @@ taken_owes most from group body r node is =
     let put = put_owes most group after.0.0 r node.replicas is.found in
     omega (arith, same, born, put)
 
--- A mail changes what a node owes as it changes what its replica of the mail's group owes, and sends what that replica sends: the others keep what they owe, and a child that is born owes nothing by itself.
+-- A mail changes what a node owes as it changes what its replica of the mail's group owes, and sends what that replica sends: the others keep what they owe, and a child that is created owes nothing by itself.
 pub as_replicas : NodesOweAsReplicas
 as_replicas = record {
   owes = taken_owes;

@@ -9,7 +9,7 @@ use Rattle.sc_node_table.specs.Definitions.{NodeState, replica_of, with_replica,
 use Rattle.sc_calm_law.specs.Definitions.{IsLedMail, LedPartiesLower, group_owes, IsTaken, after_mail, Ways, body_owes, mail_owes, idle_owes, election, idle_with, Elsewhere, party_owes, party_turn_owes, StandsOnce, IsCalmMail, IsCalmOrder, PartiesLower, PartiesRaiseLittle}
 use Rattle.sc_calm_law.proofs.OwedNodes.{taken_turn, taken_owes, raise_little}
 
--- ---- which replica is found after one is changed, and others are born
+-- ---- which replica is found after one is changed, and others are created
 
 -- the changed one is found under its name
 pub put_found : (group : Draw) (new r : ReplicaState) (replicas : List ReplicaState) → name_of new ≡ group → replica_of group replicas ≡ Some r → replica_of group (with_replica group new replicas) ≡ Some new
@@ -46,7 +46,7 @@ new_found group new r (x ∷ replicas) ne e =
     ])
     (λ _. cond-false (same_draw (name_of new) group) (Some new) (replica_of group (x ∷ replicas)) (apart (name_of new) group ne) ∙ e)
 
--- a child is born where none of its name is
+-- a child is created where none of its name is
 pub child_found : (group : Draw) (r : ReplicaState) (child : Base) (node : NodeState) → replica_of group node.replicas ≡ Some r → replica_of group (with_born child node).replicas ≡ Some r
 child_found group r child node e =
     cond_both (is_some (replica_of child.core.id node.replicas)) node (record node { replicas = with_new (born_replica slots_ahead node.me child) node.replicas }) (λ n. replica_of group n.replicas ≡ Some r)
@@ -77,7 +77,7 @@ with_most true here = omega arith
 with_most false None = omega arith
 with_most false (Some r) = idle_most r.running r.group.core.gone
 
--- .. and no more while its replica stays
+-- a group owes no more while the node's replica of it stays
 pub stays_owes : (b : Bool) (old new : Option ReplicaState) → ((r : ReplicaState) → old ≡ Some r → new ≡ Some r) → idle_with b new ≤ idle_with b old
 stays_owes b None new stays = with_most b new
 stays_owes b (Some r) new stays = let same = ap (idle_with b) (stays r refl) in omega (arith, same)

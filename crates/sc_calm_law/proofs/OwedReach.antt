@@ -198,7 +198,7 @@ module _ (ways : Ways) (reach : Reach) (client : ClientState) (bounded : AreBoun
       by None is = omega arith
       by (Some number) is = waits number is (eqb number seq) refl
 
-  -- ---- told another node
+  -- ---- an answer names another node
 
   redirected_search : (group : Draw) (hint : Option ℕ) → search (redirected group (Says.NotLeader hint) client).0 ≤ search client
   redirected_search group (Some hint) =
@@ -220,7 +220,7 @@ module _ (ways : Ways) (reach : Reach) (client : ClientState) (bounded : AreBoun
       by true false le = omega arith
       by false c le = omega arith
 
-  -- ---- told another group
+  -- ---- an answer names another group
 
   not_mine_pays : (from seq : ℕ) (group : Draw) (arc : Arc) (succ : Link) → MayHear ways reach from group seq client (Says.NotMine arc succ)
       → client_turn_owes ways reach (got from (Answer group seq (Says.NotMine arc succ)) client) + 1 ≤ client_owes ways reach client + 27

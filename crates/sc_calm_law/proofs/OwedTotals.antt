@@ -88,7 +88,7 @@ here_idles true here = refl
 here_idles false None = refl
 here_idles false (Some r) = running_idles r.running r.group.core.gone
 
--- .. and one is a node
+-- what groups owe by a player that is a node
 pub node_idles : (elsewhere : Elsewhere) (groups : List Draw) (node : NodeState) → idle_part elsewhere groups (Node node) ≡ groups_owe groups elsewhere node
 node_idles elsewhere groups node =
     sums_same (λ group. cond (elsewhere group || leads group (Node node)) 0 election) (λ group. idle_with (elsewhere group) (replica_of group node.replicas)) (λ group. here_idles (elsewhere group) (replica_of group node.replicas)) groups

@@ -114,7 +114,7 @@ finish_new tx outcome r =
 
 -- ---- what is said
 
--- only of a call a client is told
+-- an entry that is no call sends no answer to a client
 call_passes : (o : Option AnswerBody) (command : Command) (place : Place) → is_act command ≡ true → told_call o command place ≡ place
 unfolding told_call
 call_passes (Some answer) Noop place is = refl
@@ -184,7 +184,7 @@ module _ (ways : Ways) where
   unfolding went_on
   finish_said tx outcome r mails = act_said (Finish tx outcome) r mails 0 refl refl (λ more. omega arith)
 
-  -- ---- a watcher that agrees: what it decides is told to two at most
+  -- ---- a watcher that agrees: what it decides is sent to two at most
 
   released_most : (h : Option (ℕ × Link)) (me : ℕ) (succ : Link) (tx : Draw) (by : ℕ) (outcome : Outcome) (more : List Mail) → sum (released_to h me succ tx by outcome more) ≤ sum more + 62
   released_most None me succ tx by outcome more = let s = sent_owes ways me by (TxOutcome tx succ.group outcome) more in omega (arith, s)
@@ -205,7 +205,7 @@ module _ (ways : Ways) where
       by None more = omega arith
       by (Some outcome) more = released_most (before_of r.group.core).heard r.me (before_of r.group.core).succ tx from outcome more
 
-  -- .. to one where none was heard before it
+  -- what a watcher's Yes decides is sent to one, where no participant was heard before it
   pub watch_first_said : (tx : Draw) (by : ℕ) (r : ReplicaState) (mails : List Mail) → (before_of r.group.core).heard ≡ None → SaysMost (RecordWatch tx Cast.Yes by) r mails 31
   unfolding went_on
   watch_first_said tx from r mails none = act_said (RecordWatch tx Cast.Yes from) r mails 31 refl refl (λ more. by (decided_in (applied r.group (RecordWatch tx Cast.Yes from)).1) more)

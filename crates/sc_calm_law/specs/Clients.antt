@@ -1,4 +1,4 @@
--- What the rows of a client owe in a calm journal.
+-- What the rows of a client change of what is owed in a calm journal.
 use Rattle.std.specs.Prelude.{◌≡◌, ℕ, ◌+◌, ◌-◌, ◌*◌, ◌≤◌, true, List, [], ◌∷◌, length, sum_by, if◌then◌else◌, Option, Some, None, is_some, ◌⊎◌}
 use Rattle.sc_base.specs.Definitions.{Among, Arc}
 use Rattle.sc_node_table.specs.Values.{Draw, Reply, Link, Route, Answer}
@@ -9,64 +9,66 @@ use Rattle.sc_client_table.specs.Definitions.{Client as ClientState, ClientStep,
 use Rattle.sc_calm_law.specs.Executing.{AreBounded}
 use Rattle.sc_calm_law.specs.Owed.{Ways, answer_owes, mail_owes}
 
--- one where a request waits
+-- 1 where a request waits for its answer, else 0.
 abbrev pub waiting_one : Option ℕ → ℕ
 waiting_one None = 0
 waiting_one (Some seq) = 1
 
--- a client owes a request for each that it has not begun
+-- What a client owes for its requests that have not begun: 28 for each.
 abbrev pub requests_owe : ClientState → ℕ
 requests_owe client = 28 * (length client.requests - (length client.replies + waiting_one client.waiting))
 
--- what is owed for the mail of a client's step, and by the client after it
+-- What a client owes for its requests after a step, with the mails that the step sends.
 abbrev pub step_owes : Ways → ClientStep → ℕ
 step_owes ways step = requests_owe step.0 + sum_by (mail_owes ways) step.1
 
--- the nodes that a client would ask are so far at most from those that run
+-- Each node that the client would ask is at most `most` hints away from its group's leader.
 abbrev pub AsksWithin : Ways → ℕ → ClientState → Type 0
 AsksWithin ways most client = (group : Draw) (node : ℕ) → target_in group client.known ≡ Some node → ways.far group node ≤ most
 
--- the request that waits is the one after those that have a reply
+-- The number of the request that waits is one more than the number of replies.
 abbrev pub IsInTurn : ClientState → Type 0
 IsInTurn client = (seq : ℕ) → client.waiting ≡ Some seq → length client.replies + 1 ≡ seq
 
--- the rows of a client, but for those by which it comes to know other groups
+-- By the rows of a client, except those by which it learns of other groups, what is owed changes as follows.
 pub record ClientsLower : Type 0 where
-  -- a client that goes raises what is owed by the way of its first request at most
+  -- a client that goes raises it by at most `2 * most`: the way to the node that it asks first
   pub go : (ways : Ways) (most : ℕ) (client : ClientState) → client.waiting ≡ None → client.replies ≡ [] → AsksWithin ways most client → step_owes ways (started 1 client) ≤ requests_owe client + 2 * most
-  -- a reply lowers it, but for the way of the next request
+  -- a reply lowers it by at least one, apart from `2 * most`, the way to the node that its next request asks
   pub value : (ways : Ways) (most from seq : ℕ) (group : Draw) (reply : Reply) (client : ClientState) → IsInTurn client → AsksWithin ways most client
       → step_owes ways (got from (Answer group seq (Says.Value reply)) client) + 1 ≤ requests_owe client + answer_owes ways group (Says.Value reply) + 2 * most
-  -- one who is told another node asks there
+  -- an answer that names another node lowers it by at least one: the client asks there
   pub not_leader : (ways : Ways) (from seq : ℕ) (group : Draw) (hint : Option ℕ) (client : ClientState) → AreBounded ways
       → step_owes ways (got from (Answer group seq (Says.NotLeader hint)) client) + 1 ≤ requests_owe client + answer_owes ways group (Says.NotLeader hint)
 
--- a group that a client does not know counts one
+-- 1 where the client does not know this group, else 0.
 abbrev pub unknown_one : KnownGroups → Draw → ℕ
 unknown_one known group = if is_some (way_to group known) then 0 else 1
 
--- of some groups how many it does not know
+-- How many of these groups the client does not know.
 abbrev pub unknown : List Draw → KnownGroups → ℕ
 unknown groups known = sum_by (unknown_one known) groups
 
--- a step of one who was told that the key is another group's: of some groups it knows one more, and it owes for that one at most what a group owes that is asked in vain
+-- The step of a client that learns that its key is another group's: it knows one more of these groups,
+-- and what is owed falls by at least one, apart from what is owed for asking a group in vain (2 and twice the bound of ways).
 abbrev pub IsToldOne : Ways → List Draw → Draw → Arc → Link → ClientState → ClientStep → Type 0
 IsToldOne ways groups group arc succ client step =
     (step_owes ways step + 1 ≤ requests_owe client + answer_owes ways group (Says.NotMine arc succ) + (2 + 2 * ways.most)) × (unknown groups step.0.known + 1 ≤ unknown groups client.known)
 
--- an answer that a key is another group's is passed over, or teaches one group
+-- An answer that the key is another group's is ignored, or the client learns of one group by it.
 abbrev pub NotMineTeaches : Type 0
 NotMineTeaches =
     (ways : Ways) (groups : List Draw) (from seq : ℕ) (group : Draw) (arc : Arc) (succ : Link) (client : ClientState) → AreBounded ways
     → (waits_for client.waiting seq ≡ true → was_asked client.asked from group ≡ true → Among succ.group groups × (way_to succ.group client.known ≡ None))
     → (got from (Answer group seq (Says.NotMine arc succ)) client ≡ (client, [])) ⊎ IsToldOne ways groups group arc succ client (got from (Answer group seq (Says.NotMine arc succ)) client)
 
--- a step of one who was told that its group went into another, and knew no other: it knows that one instead, and owes for it what a group owes that is asked in vain
+-- The step of a client that learns that its group went into another, and knew no other group: it now knows that other group alone,
+-- and what is owed falls by at least one, apart from what is owed for asking a group in vain.
 abbrev pub IsSentOn : Ways → Draw → Route → ClientState → ClientStep → Type 0
 IsSentOn ways group into client step =
     (step_owes ways step + 1 ≤ requests_owe client + answer_owes ways group (Says.Gone into) + (2 + 2 * ways.most)) × (step.0.known ≡ (into.group, new_way into.lo into.members) ∷ [])
 
--- an answer that a group is gone is passed over, or sends its client on
+-- An answer that a group is gone is ignored, or sends the client on to another group.
 abbrev pub GoneSendsOn : Type 0
 GoneSendsOn =
     (ways : Ways) (from seq : ℕ) (group : Draw) (into : Route) (way : Way) (client : ClientState) → AreBounded ways → client.known ≡ (group, way) ∷ []

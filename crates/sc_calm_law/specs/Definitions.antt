@@ -1,4 +1,4 @@
--- The definitions of this crate that others cite, under one name.
+-- The definitions of this crate that other crates cite, in one module.
 pub use Rattle.sc_calm_law.specs.Births.{BornReplicasOwe, MadeReplicasOwe}
 pub use Rattle.sc_calm_law.specs.Charts.{players, Chart, run_owes, MayFollow, SeeksNoMore, player_owes, ChartsMayChange}
 pub use Rattle.sc_calm_law.specs.Clients.{AsksWithin, IsInTurn, unknown, unknown_one, waiting_one, requests_owe, step_owes, ClientsLower, IsToldOne, NotMineTeaches, IsSentOn, GoneSendsOn}

@@ -1,4 +1,4 @@
--- What the entries that a leader executes one after another have to be, so that they raise nothing.
+-- What the entries that a leader executes one after another have to be, so that they raise nothing that is owed.
 use Rattle.std.specs.Prelude.{◌≡◌, ℕ, ◌≤◌, true, false, List, [], ◌∷◌, length, None, Some, ◌⊎◌}
 use Rattle.sc_base.specs.Definitions.{Each, is_member}
 use Rattle.sc_node_table.specs.Values.{Ballot, Draw, Op, Command, Noop, Call, Join, Leave, Split, Begin, Prepared, RecordVote, GiveUp, Finish, Watched, RecordWatch, Core, Free, Route, Past, Accepted, Flight}
@@ -12,17 +12,17 @@ use Rattle.sc_law_lemmas.specs.Definitions.{IfThere}
 use Rattle.sc_calm_law.specs.Laws.{newcomers, IsCounting, LeadsOn, StopsAfter, MayPump, Lowers, readied_at, ExecutesFreely}
 use Rattle.sc_calm_law.specs.Owed.{Ways}
 
--- no way by hints is longer than the longest
+-- No way by hints is longer than the bound `most`.
 abbrev pub AreBounded : Ways → Type 0
 AreBounded ways = (group : Draw) (node : ℕ) → ways.far group node ≤ ways.most
 
--- a call that the group serves: it is not gone, no lock keeps calls waiting, and the key is its own
+-- A group serves this call: it is not gone, no lock keeps calls waiting, and the key lies in its arc.
 pub record IsServed (op : Op) (core : Core) : Type 0 where
   pub stands : core.gone ≡ None
   pub serves : serves_calls core.lock ≡ true
   pub holds : holds_key core.arc (key_of op) ≡ true
 
--- such a call, and no other command
+-- The command is a call that the group serves.
 abbrev pub IsServedCall : Core → Command → Type 0
 IsServedCall core (Call client seq op) = IsServed op core
 IsServedCall core Noop = ⊥
@@ -37,7 +37,7 @@ IsServedCall core (Finish tx outcome) = ⊥
 IsServedCall core (Watched tx watch) = ⊥
 IsServedCall core (RecordWatch tx vote by) = ⊥
 
--- a leader at which all that is in flight or ready is a call that the group serves, and which may pump
+-- The replica leads, and may pump; every command in flight or ready at it is a call that its group serves.
 pub record ServesAll (r : ReplicaState) : Type 0 where
   pub running : r.running ≡ true
   pub few : length (members r) ≤ 9
@@ -46,7 +46,7 @@ pub record ServesAll (r : ReplicaState) : Type 0 where
   pub flights : Each (λ (flight : Flight Command). IsServedCall r.group.core flight.value) r.leader.flights
   pub ready : Each (λ (entry : ℕ × Command). IsServedCall r.group.core entry.1) r.ready
 
--- a leader whose group is gone after the entry, and at which nothing else is in flight or ready
+-- The leader's group is gone after the entry, and nothing else is in flight or ready.
 pub record EndsAfter (command : Command) (r : ReplicaState) : Type 0 where
   pub counting : IsCounting command r
   pub into : Route
@@ -54,11 +54,12 @@ pub record EndsAfter (command : Command) (r : ReplicaState) : Type 0 where
   pub flights : without_flight (next r) r.leader.flights ≡ []
   pub alone : without_slot r.ready (next r) ≡ []
 
--- a group has at most nine members after the entry
+-- The group has at most nine members after the entry.
 abbrev pub LeavesFew : Command → ReplicaState → Type 0
 LeavesFew command r = length (members (entered command r)) ≤ 9
 
--- a watcher's Yes; where it ends the leader's part, of a transaction in which no participant was heard, it adds nobody
+-- The vote of a watcher is a Yes, and the leader leads on after the entry; or it is no member after it,
+-- and then no participant was heard and nobody joins by the entry. At most nine are members after it.
 abbrev pub IsWatchPaid : Draw → Past → ℕ → ReplicaState → Type 0
 IsWatchPaid tx Cast.Yes by r =
     LeavesFew (RecordWatch tx Cast.Yes by) r
@@ -66,7 +67,8 @@ IsWatchPaid tx Cast.Yes by r =
 IsWatchPaid tx (Cast.No why) by r = ⊥
 IsWatchPaid tx Cast.Ended by r = ⊥
 
--- what an entry has to be at the leader that counted it, by its kind. One that stops leading splits a group that is alone, or decides; no transaction is given up
+-- What a leader needs of an entry that it counted, by the entry's kind, so that the entry raises nothing.
+-- A leader may stop only by its own leave, by the split of a group that is alone in its ring, by a decision, or by the end of its group. No transaction is given up.
 abbrev pub IsPaid : Command → ReplicaState → Type 0
 IsPaid Noop r = LeadsOn Noop r
 IsPaid (Call client seq op) r = IsCounting (Call client seq op) r × IsServed op r.group.core
@@ -81,29 +83,29 @@ IsPaid (Finish tx outcome) r = LeadsOn (Finish tx outcome) r ⊎ EndsAfter (Fini
 IsPaid (Watched tx watch) r = LeadsOn (Watched tx watch) r
 IsPaid (RecordWatch tx vote by) r = IsWatchPaid tx vote by r
 
--- a replica at which a pump raises nothing, where it runs
+-- A pump raises nothing at the replica, if that leads.
 abbrev pub MayGoOn : ReplicaState → Type 0
 MayGoOn r = r.running ≡ true → MayPump r
 
--- the entries that are ready, so many at most, one after another; and what the pump then finds
+-- The entries that are ready from the replica's next slot on, at most as many as the list is long, are each paid for (`IsPaid`), and a pump after them raises nothing.
 abbrev pub ArePaid : List (ℕ × Command) → Place → Type 0
 ArePaid [] place = MayGoOn place.0
 ArePaid (e ∷ es) place = IfThere (λ command. IsPaid command place.0 × ArePaid es (executed_one true command place)) (MayGoOn place.0) (next_ready place.0)
 
--- an entry, and those that are ready behind it
+-- This command, and the entries ready behind it, are each paid for, and a pump after them raises nothing.
 abbrev pub AllPaid : Command → Place → Type 0
 AllPaid command place = IsPaid command place.0 × ArePaid (executed_one true command place).0.ready (executed_one true command place)
 
--- such entries raise nothing, with all that is offered after them
+-- A command that is paid for with all that follows it raises nothing, with all that is offered after it.
 abbrev pub ExecutionsRaiseNothing : Type 0
 ExecutionsRaiseNothing = (ways : Ways) (command : Command) (place : Place) → AreBounded ways → AllPaid command place → ExecutesFreely ways command place
 
--- a vote at a leader that serves calls alone lowers what is owed, with all that it executes then
+-- A vote at a leader where calls alone are in flight or ready lowers what is owed, with all that the leader then executes.
 abbrev pub CallVotesLower : Type 0
 CallVotesLower =
     (ways : Ways) (from : ℕ) (group : Draw) (ballot : Ballot) (slot : ℕ) (place : Place) → AreBounded ways → ServesAll place.0 → Lowers ways from (Accepted group ballot slot) place
 
--- one entry is in flight, at this slot, and none is ready; where the slot is the next one, the entry is paid for
+-- One command is in flight, at this slot, and none is ready; where the slot is the replica's next one, the entry is paid for and leaves at most nine members.
 pub record FliesAlone (slot : ℕ) (flight : Flight Command) (r : ReplicaState) : Type 0 where
   pub flights : r.leader.flights ≡ flight ∷ []
   pub ready : r.ready ≡ []
@@ -111,7 +113,7 @@ pub record FliesAlone (slot : ℕ) (flight : Flight Command) (r : ReplicaState) 
   pub paid : slot ≡ next r → IsPaid flight.value (readied_at slot flight.value r)
   pub leaves : slot ≡ next r → LeavesFew flight.value (readied_at slot flight.value r)
 
--- a vote at a leader at which one paid entry is in flight, alone, lowers what is owed, with all that it executes then
+-- A vote at a replica where one paid command alone is in flight lowers what is owed, with all that the replica then executes.
 abbrev pub LoneVotesLower : Type 0
 LoneVotesLower =
     (ways : Ways) (from : ℕ) (group : Draw) (ballot : Ballot) (slot : ℕ) (flight : Flight Command) (place : Place) → AreBounded ways → FliesAlone slot flight place.0 → Lowers ways from (Accepted group ballot slot) place

@@ -1,4 +1,4 @@
-//! Calm scenarios: clients go, orders are given one after another, and mail is only delivered.
-//! What is owed while an order runs, and that the rows of a node's table lower it. Definitions and
-//! laws, no logic.
+//! What is owed while an order runs in a calm journal: at most how many deliveries are still to
+//! come. The rows of a node's and a client's table lower it. In a calm journal clients go, orders
+//! are given one after another, and mail is only delivered. Definitions and laws; no function.
 #![tactic(auto)]

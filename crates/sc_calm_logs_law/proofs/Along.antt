@@ -33,7 +33,7 @@ next_ready_is r c e =
 
 -- ---- the members of the open slots, with one more
 
--- some steps of a group, each log of which is a front of one
+-- some steps of a group, each log of which is a prefix of one
 module _ (ahead : Ahead) (open_slots : ahead.slots ≡ slots_ahead) (base : Base) (roster : IsRoster base.core.members) (h : Steps) (lawful : IsLawfulHistory (rule ahead base) (first ahead base) h) (all : List Command)
     (fronts : (log : List Command) → IsLog (rule ahead base) h log → (length log ≤ length all) × (take (length log) all ≡ log)) where
   -- the members of each slot

@@ -56,7 +56,7 @@ module _ (scenario : Scenario) where
   ordered_nodes (An.Join node group) bounded name number = bounded
   ordered_nodes _ bounded name number = tt
 
-  -- an order of nodes, whoever is told it and whatever name it takes
+  -- an order of nodes, whoever gets it and whatever name it takes
   abbrev pub OrdersNodes : ℕ → OrderLine → Type 0
   OrdersNodes who line = (name : Draw) → (BringsNodes (IsUpTo scenario.nodes)) (ordered_command name line.number line.order)
 

@@ -63,11 +63,11 @@ module _ (sources : Sources) (ahead : Ahead) (words : ℕ → ℕ → ℕ × ℕ
 
   -- ---- the orders of the schedule
 
-  -- a row that tells no order but of nodes
+  -- a row that gives no order but of nodes
   abbrev TellsNodes : Row Mail OrderLine → Type 0
   TellsNodes row = IsToldSo (OrdersNodes scenario) row.who row.event
 
-  -- each order that is told is of nodes
+  -- each order of the journal is of nodes
   told_nodes : Each TellsNodes journal
   told_nodes =
       told_induction (OrdersNodes scenario) (system_of ahead words scenario) (Each TellsNodes) (λ before row p told step. Each-append TellsNodes before (row ∷ []) p (told, tt)) (schedule scenario) journal
@@ -105,7 +105,7 @@ module _ (sources : Sources) (ahead : Ahead) (words : ℕ → ℕ → ℕ × ℕ
       some = λ older base a log all. (let roster = members_stay_rosters (group_of base) log (before.fresh base a).roster in first_of (state_after (group_of base) log).core.members roster.some);
     }
 
-    -- a child that is born is one of the groups, under a name of its own
+    -- a child that is created is one of the groups, under a name of its own
     offspring : KnowsOffspring ahead words scenario scenario.groups (bases rows) route made heard players rows
     offspring n base a child is =
         let log = is.front ++ is.command ∷ [] in
@@ -165,7 +165,7 @@ module _ (sources : Sources) (ahead : Ahead) (words : ℕ → ℕ → ℕ × ℕ
 
   -- ---- all rows
 
-  -- what holds of each first part of the journal
+  -- what holds of each prefix of the journal
   abbrev P : Rows → Type 0
   P rows = (more : Rows) → journal ≡ rows ++ more → NodesHold rows
 

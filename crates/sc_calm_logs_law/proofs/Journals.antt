@@ -70,7 +70,7 @@ module _ (sources : Sources) (ahead : Ahead) (words : ℕ → ℕ → ℕ × ℕ
   pub found : AreFound ahead scenario.groups journal
   found = groups_are_found sources ahead scenario.groups b.place journal whole.turn
 
-  -- .. and of each of its first parts
+  -- all holds of each prefix of the journal
   pub front : (rows more : Rows) → journal ≡ rows ++ more → All rows
   front rows more e =
       holds sources ahead words scenario route b.place b.seats b.asks b.apart b.fresh rows (fewer_orders sources ahead scenario rows more (subst (OrdersAreAllowed sources ahead scenario) e orders))
@@ -87,7 +87,7 @@ module _ (sources : Sources) (ahead : Ahead) (words : ℕ → ℕ → ℕ × ℕ
     pub roster : IsRoster base.core.members
     roster = (whole.fresh base stands).roster
 
-    -- each log of its steps is a front of its log
+    -- each log of its steps is a prefix of its log
     pub fronts : (log : List Command) → IsLog (rule ahead base) (h_of journal base) log → (length log ≤ length (decided_log ahead base journal)) × (take (length log) (decided_log ahead base journal) ≡ log)
     fronts = front_is ahead base journal part.lawful
 

@@ -13,7 +13,7 @@ slots_have_rosters = slots_have_rosters_by valid_scenarios_are_bounded valid_sce
 pub replicas_are_logged : ReplicasAreLogged
 replicas_are_logged = replicas_are_logged_by valid_scenarios_are_bounded valid_scenarios_begin_well orders_are_allowed_allowed orders_are_allowed_wishes orders_are_allowed_positions names_have_one_owner_others
 
--- What such a replica is told of its next slot is the entry there, after which its members are those of the slot behind; so is what is ready at it, one entry after another, and what a vote decides at one that leads.
+-- What such a replica learns of its next slot is the entry there, after which its members are those of the slot behind; so is what is ready at it, one entry after another, and what a vote decides at one that leads.
 pub commands_come_next : CommandsComeNext
 commands_come_next = commands_come_next_by valid_scenarios_are_bounded valid_scenarios_begin_well orders_are_allowed_allowed orders_are_allowed_wishes orders_are_allowed_positions names_have_one_owner_others
 

@@ -56,7 +56,7 @@ module _ (Home : ℕ → Type 0) where
   HeardNodes None = Unit {0}
   HeardNodes (Some heard) = AreNodes heard.frozen.members
 
-  -- .. by its lock
+  -- those that a coordinator heard of, by its lock, are nodes
   abbrev pub LockNodes : Lock → Type 0
   LockNodes (Coordinating tx body order heard) = HeardNodes heard
   LockNodes Free = Unit {0}

@@ -12,23 +12,23 @@ use Rattle.sc_log_law.specs.Definitions.{Rows}
 use Rattle.sc_following_law.specs.Definitions.{IsNext, AreNext, Sets, members_at, DecidesNext, AreAt}
 use Rattle.sc_calm_rows_law.specs.Definitions.{view_at, IsSeat}
 
--- the members of each slot by the group's log in a journal: those of the state after the entries up to so many slots before it as are open, and behind the log's end those of the last state
+-- The members of each slot by the group's log in a journal. The state after the first `max(0, slot - ahead)` entries gives those of a slot; behind the log's end it is the last state.
 abbrev pub logged_sets : Ahead → Base → Rows → Sets
 logged_sets ahead base journal slot = members_of (rule_of ahead base) (decided_log ahead base journal) slot
 
--- a group of a lawful journal of a valid scenario
+-- `base` is a group of a lawful journal of a valid scenario, with as many open slots as a node's groups have at birth.
 pub record IsGroupOf (ahead : Ahead) (words : ℕ → ℕ → ℕ × ℕ) (scenario : Scenario) (journal : Rows) (base : Base) : Type 0 where
   pub open_slots : ahead.slots ≡ slots_ahead
   pub valid : IsValid scenario
   pub lawful : Lawful ahead words scenario journal
   pub stands : Among base (groups_at ahead scenario.groups journal)
 
--- its first members are those of each slot that is open at its birth and of the next one, and those of all slots are one to nine nodes, ascending
+-- The slots that are open at the group's birth, and slot 0, have its first members; the members of each slot are one to nine numbers, ascending.
 pub record SlotsHaveRosters : Type 0 where
   pub first : (ahead : Ahead) (words : ℕ → ℕ → ℕ × ℕ) (scenario : Scenario) (journal : Rows) (base : Base) → IsGroupOf ahead words scenario journal base → (slot : ℕ) → slot < 1 + slots_ahead → logged_sets ahead base journal slot ≡ base.core.members
   pub rosters : (ahead : Ahead) (words : ℕ → ℕ → ℕ × ℕ) (scenario : Scenario) (journal : Rows) (base : Base) → IsGroupOf ahead words scenario journal base → (slot : ℕ) → IsRoster (logged_sets ahead base journal slot)
 
--- a player of a scenario is a node, which has this replica of the group after the first rows of a journal
+-- A player of the scenario is a node that has this replica of the group after a prefix of the journal.
 pub record HasReplica (ahead : Ahead) (scenario : Scenario) (journal : Rows) (base : Base) (rows : Rows) (seat : Seat Player) (node : NodeState) (r : ReplicaState) : Type 0 where
   pub more : Rows
   pub front : journal ≡ rows ++ more
@@ -36,13 +36,13 @@ pub record HasReplica (ahead : Ahead) (scenario : Scenario) (journal : Rows) (ba
   pub is : value player_table seat rows ≡ Node node
   pub here : replica_of base.core.id node.replicas ≡ Some r
 
--- each replica of the group that a player has is one of a node
+-- Each replica of the group that a player has, after a prefix of the journal, is one of a node.
 abbrev pub ViewsAreReplicas : Type 0
 ViewsAreReplicas = (ahead : Ahead) (words : ℕ → ℕ → ℕ × ℕ) (scenario : Scenario) (journal : Rows) (base : Base) → IsGroupOf ahead words scenario journal base
     → (rows more : Rows) → journal ≡ rows ++ more → (who : ℕ) (r : ReplicaState) → view_at (births ahead scenario) rows base.core.id who ≡ Some r
     → (seat : Seat Player) × (node : NodeState) × HasReplica ahead scenario journal base rows seat node r × (seat.who ≡ who)
 
--- a replica has the group's name, the members of its open slots, and for its own those of the slot behind these
+-- The replica has the group's name and the members of its open slots, and the members of its state are those of the last open slot (`members_at`).
 pub record IsLogged (at : Sets) (base : Base) (r : ReplicaState) : Type 0 where
   pub named : name_of r ≡ base.core.id
   pub roster : IsRoster (members r)
@@ -50,34 +50,34 @@ pub record IsLogged (at : Sets) (base : Base) (r : ReplicaState) : Type 0 where
   pub many : length r.sets ≡ slots_ahead
   pub opens : AreAt at (next r) r.sets
 
--- so has each replica of the group, after any rows of the journal
+-- After each prefix of the journal, `IsLogged` holds of each replica of the group.
 abbrev pub ReplicasAreLogged : Type 0
 ReplicasAreLogged = (ahead : Ahead) (words : ℕ → ℕ → ℕ × ℕ) (scenario : Scenario) (journal : Rows) (base : Base) → IsGroupOf ahead words scenario journal base
     → (rows : Rows) (seat : Seat Player) (node : NodeState) (r : ReplicaState) → HasReplica ahead scenario journal base rows seat node r → IsLogged (logged_sets ahead base journal) base r
 
--- What it executes next is the entry of its slot ..
+-- What a replica executes next is the entry of its next slot, as `IsNext` says.
 pub record CommandsComeNext : Type 0 where
-  -- .. where a mail tells it of its next slot
+  -- an entry of its next slot that a mail brings it to learn
   pub learnt : (ahead : Ahead) (words : ℕ → ℕ → ℕ × ℕ) (scenario : Scenario) (journal : Rows) (base : Base) → IsGroupOf ahead words scenario journal base
       → (rows : Rows) (seat : Seat Player) (node : NodeState) (r : ReplicaState) → HasReplica ahead scenario journal base rows seat node r
       → (number : ℕ) (mail : Mail) (slot : ℕ) (command : Command) → numbered (mails rows) number ≡ Some mail → mail.body ≡ Learn base.core.id slot command → slot ≡ next r
       → IsNext (logged_sets ahead base journal) command r
-  -- .. after which it has the members of one slot more
+  -- the replica after such an entry has the members of its open slots then, as `IsLogged` says
   pub entered : (ahead : Ahead) (words : ℕ → ℕ → ℕ × ℕ) (scenario : Scenario) (journal : Rows) (base : Base) → IsGroupOf ahead words scenario journal base
       → (rows : Rows) (seat : Seat Player) (node : NodeState) (r : ReplicaState) → HasReplica ahead scenario journal base rows seat node r
       → (number : ℕ) (mail : Mail) (slot : ℕ) (command : Command) → numbered (mails rows) number ≡ Some mail → mail.body ≡ Learn base.core.id slot command → slot ≡ next r
       → IsLogged (logged_sets ahead base journal) base (entered command r)
-  -- .. what is ready there, and so on
+  -- what is ready at its next slot, and at those behind it
   pub ready : (ahead : Ahead) (words : ℕ → ℕ → ℕ × ℕ) (scenario : Scenario) (journal : Rows) (base : Base) → IsGroupOf ahead words scenario journal base
       → (rows : Rows) (seat : Seat Player) (node : NodeState) (r : ReplicaState) → HasReplica ahead scenario journal base rows seat node r
       → (mails : List Mail) → AreNext (logged_sets ahead base journal) r.ready (r, mails)
-  -- .. and what a vote decides at one that leads, with all that is ready behind it
+  -- what a vote decides at a leader's next slot, with all that is ready behind it
   pub decided : (ahead : Ahead) (words : ℕ → ℕ → ℕ × ℕ) (scenario : Scenario) (journal : Rows) (base : Base) → IsGroupOf ahead words scenario journal base
       → (rows : Rows) (seat : Seat Player) (node : NodeState) (r : ReplicaState) → HasReplica ahead scenario journal base rows seat node r → r.running ≡ true
       → (number : ℕ) (mail : Mail) (ballot : Ballot) (slot : ℕ) → numbered (mails rows) number ≡ Some mail → mail.body ≡ Accepted base.core.id ballot slot
       → DecidesNext (logged_sets ahead base journal) mail.from ballot slot r
 
--- A state is the group's after the entries up to a slot, with the members of the slots that are open then.
+-- The state is the group's after the entry at this slot, with the members of the slots that are open then.
 pub record IsLoggedState (at : Sets) (base : Base) (slot : ℕ) (state : Base) (sets : List (List ℕ)) : Type 0 where
   pub many : length sets ≡ slots_ahead
   pub named : state.core.id ≡ base.core.id
@@ -86,7 +86,7 @@ pub record IsLoggedState (at : Sets) (base : Base) (slot : ℕ) (state : Base) (
   pub members : members_at at (slot + 1) ≡ state.core.members
   pub opens : AreAt at (slot + 1) sets
 
--- so is each that is sent
+-- Each state of the group that a mail has is one that `IsLoggedState` describes.
 abbrev pub StatesAreLogged : Type 0
 StatesAreLogged = (ahead : Ahead) (words : ℕ → ℕ → ℕ × ℕ) (scenario : Scenario) (journal : Rows) (base : Base) → IsGroupOf ahead words scenario journal base
     → (rows more : Rows) → journal ≡ rows ++ more → (number : ℕ) (mail : Mail) (slot : ℕ) (state : Base) (sets : List (List ℕ)) → numbered (mails rows) number ≡ Some mail → mail.body ≡ Install base.core.id slot state sets

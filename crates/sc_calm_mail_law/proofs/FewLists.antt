@@ -9,7 +9,7 @@ use Rattle.sc_paxos_words.proofs.Lemmas.{Each-append, Each-filter}
 use Rattle.sc_node_table.specs.Definitions.{at_slot, with_slot, without_slot}
 use Rattle.sc_law_lemmas.proofs.Lemmas.{either_way}
 
--- flights and entries at slots not above so many
+-- flights and entries at slots not above `most`
 abbrev pub FlyTo : ℕ → List (Flight Command) → Type 0
 FlyTo most flights = Each (λ (flight : Flight Command). flight.slot ≤ most) flights
 

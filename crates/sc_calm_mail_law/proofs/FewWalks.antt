@@ -24,7 +24,7 @@ entered_up command p =
 pub installed_up : (slot : ℕ) → next_of (log_cut (floor_of slot) (installed {V = Command} slot)) ≡ slot + 1
 installed_up slot = (let most = floor_most slot in cut_next (floor_of slot) (installed slot) (omega (arith, most)) ∙ omega arith)
 
--- ---- one row, where all slots and rounds were so many at most
+-- ---- one row, where all slots and rounds were m at most
 
 module _ (m : ℕ) where
   -- what no row raises but by mail: promises, and what was accepted, is reported and is ready

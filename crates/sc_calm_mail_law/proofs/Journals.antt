@@ -40,7 +40,7 @@ number_among sent (suc place) mail e = among_place sent place mail e
 abbrev pub Speaks : PartWalk → Seat Player → Mail → Type 0
 Speaks w seat mail = ((born : NodeState) × (seat.actor ≡ Node born) × Sends w mail) ⊎ ((born : ClientState) × (seat.actor ≡ Client born) × (seat.who ≡ client_actor born.me) × IsRequestOf born.me mail)
 
--- a law of journals: what holds of replicas and of mail after so many rows, and the walk by which one more row keeps it
+-- a law of journals: what holds of replicas and of mail after a number of rows, and the walk by which one more row keeps it
 pub record Law (seats : List (Seat Player)) : Type 1 where
   pub walk : ℕ → ℕ → PartWalk
   pub mine : (n who : ℕ) → (walk n who).me ≡ who
@@ -55,7 +55,7 @@ pub record Law (seats : List (Seat Player)) : Type 1 where
   pub said : (n : ℕ) (seat : Seat Player) (mail : Mail) → IsSeat seats seat → Speaks (walk n seat.who) seat mail → Good (n + 1) mail
 
 module _ (births : List (Seat Player)) (law : Law births) where
-  -- a replica after so many rows
+  -- a replica after n rows
   abbrev pub IsKept : ℕ → ℕ → ReplicaState → Type 0
   IsKept n who r = IsPlainlyKept who r × law.Kept n (part r)
 

@@ -25,7 +25,7 @@ use Rattle.sc_calm_mail_law.proofs.Growing.{mailed_grown, ordered_grown, same_gr
 -- a replica, and what holds of it: R, which is kept where the body of a mail is so, H, and by orders
 module _ (name : Draw) (r : ReplicaState) (R : ReplicaState → Type 0) (H : MailBody → Type 0) (holds : R r)
     (by_mail : (from : ℕ) (body : MailBody) → H body → R (mailed from body (r, [])).0.0) (by_order : (drawer : Drawer) (line : OrderLine) → R (ordered_row drawer line (r, [])).0) where
-  -- .. of a replica that there is
+  -- what holds of a replica that there is
   abbrev IsThere : Option ReplicaState → Type 0
   IsThere o = (later : ReplicaState) × (o ≡ Some later) × R later
 

@@ -153,7 +153,7 @@ module _ (w : PartWalk) where
       → ((group : Draw) (slot : ℕ) (base : Base) (sets : List (List ℕ)) → body ≡ Install group slot base sets → w.State slot base × w.State slot (named group base)) → Hears body
   hears_all rounds slots body states = heard_all part_walk rounds (λ slot command. (slots slot).0) slots body states
 
-  -- .. and as the walk has it
+  -- a replica as the law of the parts has it is one as the walk has it
   to_walk : (P : Part → Type 0) (r : ReplicaState) → IsPlainlyKept w.me r × P (part r) → IsKept w.me r × At P r
   to_walk P r k = ((k.0.0, k.0.1, (k.0.2.0, k.0.2.2, k.0.2.3)), (k.0.2.1, k.1))
 

@@ -49,7 +49,7 @@ elected_part me p =
 abbrev pub IsReported : (Ballot → Type 0) → (ℕ → Type 0) → Report Command → Type 0
 IsReported Round Slot = Reported Round (λ slot command. Slot slot)
 
--- One law: what holds of a replica while it has not elected itself in a row, and after it; of what it says to whom; and of the ballots, slots and states that it is told. The rest is what a row may do.
+-- One law: what holds of a replica while it has not elected itself in a row, and after it; of what it says to whom; and of the ballots, slots and states in its mail. The rest is what a row may do.
 pub record PartWalk : Type 1 where
   pub me : ℕ
   pub Early : Part → Type 0
@@ -58,7 +58,7 @@ pub record PartWalk : Type 1 where
   pub Round : Ballot → Type 0
   pub Slot : ℕ → Type 0
   pub State : ℕ → Base → Type 0
-  -- .. of a ballot that it is asked to promise, and of a slot of which it is told before its own
+  -- what holds of a ballot that it is asked to promise, and of a slot before its own whose entry it is sent
   pub Polled : Ballot → Type 0
   pub Behind : ℕ → Type 0
   -- what it becomes
@@ -100,5 +100,5 @@ pub record PartWalk : Type 1 where
 pub record PartBirths (w : PartWalk) : Type 0 where
   pub born : (base : Base) → w.Late (born_part base)
   pub made : (slot : ℕ) (base : Base) → w.State slot base → w.Early (cut_part slot (record (born_part base) { log = installed slot }))
-  -- .. and what is asked for where there is none
+  -- what is asked for where there is no replica
   pub wants_all : (to : ℕ) (group : Draw) → w.Says to (Ask group 0)

@@ -1,4 +1,4 @@
--- The definitions of this crate that others cite, under one name.
+-- The definitions of this crate that other crates cite, in one module.
 pub use Rattle.sc_calm_mail_law.specs.Few.{SlotsAreLeft, most_after, IsFewReport, SaysFew, JournalsHaveFew}
 pub use Rattle.sc_calm_mail_law.specs.Idle.{IsPlainlyKept, JournalsKeepIdle, FiledIsWork}
 pub use Rattle.sc_calm_mail_law.specs.Lasting.{ReplicasLast, IsLater, HasGrown}

@@ -1,4 +1,4 @@
--- Slots and rounds are few: as many as a journal has rows, but for a factor.
+-- Slots and rounds are bounded by the number of rows of a journal.
 use Rattle.std.specs.Prelude.{◌≡◌, ℕ, ◌+◌, ◌-◌, ◌*◌, ◌^◌, ◌<◌, ◌≤◌, length, Some}
 use Rattle.sc_base.specs.Definitions.{Each}
 use Rattle.sc_node_table.specs.Values.{Draw, Command, MailBody, Request, Answer, Prepare, Promise, Accept, Accepted, Nack, Learn, Ask, Install, TxPrepare, TxVote, TxOutcome, TxElsewhere, TxWatch, TxWatched, Told, Flight, Report}
@@ -10,21 +10,21 @@ use Rattle.sc_sound.specs.Definitions.{births, as_nodes}
 use Rattle.sc_calm_law.specs.Definitions.{players, Rows}
 use Rattle.sc_calm_rows_law.specs.Definitions.{view_at}
 
--- the most that a slot or a round is after so many rows: each offers four slots at most, one above the last that was decided, and raises a round by one
+-- A bound of all slots and rounds after this number of rows: a row raises it by four, the number of open slots.
 abbrev pub most_after : ℕ → ℕ
 most_after rows = 4 * rows + 1
 
--- a report of a slot and a round no greater than so many
+-- The report's slot and round are at most `most`.
 abbrev pub IsFewReport : ℕ → Report Command → Type 0
 IsFewReport most report = (report.ballot.round ≤ most) × (report.slot ≤ most)
 
--- no slot and no round of a replica is greater than so many
+-- No slot and no round of the replica is greater than `most`.
 abbrev pub HasFew : ℕ → ReplicaState → Type 0
 HasFew most r =
     (next r ≤ most) × (r.top.round ≤ most) × (r.acceptor.promised.round ≤ most) × Each (IsFewReport most) r.acceptor.accepted × (r.leader.ballot.round ≤ most) × Each (IsFewReport most) r.leader.reports
     × Each (λ (flight : Flight Command). flight.slot ≤ most) r.leader.flights × Each (λ (entry : ℕ × Command). entry.0 ≤ most) r.ready
 
--- .. none of a body
+-- No slot and no round in the body is greater than `most`.
 abbrev pub SaysFew : ℕ → MailBody → Type 0
 SaysFew most (Prepare group ballot from_slot) = (ballot.round ≤ most) × (from_slot ≤ most)
 SaysFew most (Promise group ballot reports) = (ballot.round ≤ most) × Each (IsFewReport most) reports
@@ -44,12 +44,12 @@ SaysFew most (TxWatch tx watch) = Unit {0}
 SaysFew most (TxWatched tx coord part vote) = Unit {0}
 SaysFew most (Told number result) = Unit {0}
 
--- So it is of each replica and each mail after rows that come in time, by how many there are.
+-- After rows in time, each replica and each mail has slots and rounds of at most `most_after` of the number of rows.
 pub record JournalsHaveFew : Type 0 where
   pub replicas : (words : ℕ → ℕ → ℕ × ℕ) (scenario : Scenario) (rows : Rows) (name : Draw) (who : ℕ) (r : ReplicaState) → AreInTime (players words (births as_nodes scenario)) rows → view_at (births as_nodes scenario) rows name who ≡ Some r → HasFew (most_after (length rows)) r
   pub mails : (words : ℕ → ℕ → ℕ × ℕ) (scenario : Scenario) (rows : Rows) → AreInTime (players words (births as_nodes scenario)) rows → Each (λ mail. SaysFew (most_after (length rows)) mail.body) (mails rows)
 
--- In a journal that is not too long each slot that is open is one at which commands are learnt, and each round has one above it.
+-- In a journal of at most 2^28 rows, whose rows come in time, no open slot of a replica is behind the last slot, and each replica has a later round.
 abbrev pub SlotsAreLeft : Type 0
 SlotsAreLeft =
     (words : ℕ → ℕ → ℕ × ℕ) (scenario : Scenario) (rows : Rows) (name : Draw) (who : ℕ) (r : ReplicaState) → AreInTime (players words (births as_nodes scenario)) rows → length rows ≤ 2 ^ 28

@@ -11,18 +11,18 @@ use Rattle.sc_calm_orders_law.specs.Definitions.{Work, work_by}
 use Rattle.sc_calm_rows_law.specs.Definitions.{view_at}
 use Rattle.sc_law_lemmas.specs.Definitions.{IsFiled, IsAsked}
 
--- Where it does not run, nothing is in flight and nothing waits; no transaction has waited for a tick; and what waits is a command of a transaction, or a call or an order.
+-- Where the replica does not lead, nothing is in flight or queued. It has waited for no tick. One queue has commands of transactions alone, the other calls and orders.
 abbrev pub IsIdlyKept : ReplicaState → Type 0
 IsIdlyKept r = (r.running ≡ false → (r.leader.flights ≡ []) × (r.acts ≡ []) × (r.calls ≡ [])) × (r.waits ≡ 0) × Each IsFiled r.acts × Each IsAsked r.calls
 
--- .. and it is its node's, and has the members of as many slots as are open
+-- `IsIdlyKept` holds of the replica, and it is its node's and has the members of as many slots as are open.
 abbrev pub IsPlainlyKept : ℕ → ReplicaState → Type 0
 IsPlainlyKept me r = (r.me ≡ me) × (length r.sets ≡ slots_ahead) × IsIdlyKept r
 
--- So is each replica after rows of a scenario that come in time.
+-- `IsPlainlyKept` holds of each replica after rows of a scenario that come in time.
 abbrev pub JournalsKeepIdle : Type 0
 JournalsKeepIdle = (words : ℕ → ℕ → ℕ × ℕ) (scenario : Scenario) (rows : Rows) (name : Draw) (who : ℕ) (r : ReplicaState) → AreInTime (players words (births as_nodes scenario)) rows → view_at (births as_nodes scenario) rows name who ≡ Some r → IsPlainlyKept who r
 
--- A command of a transaction is the work of an order, as is an order; a call is none.
+-- A command of a transaction is work of an order (`Work`).
 abbrev pub FiledIsWork : Type 0
 FiledIsWork = (command : Command) → IsFiled command → (work : Work) × (work_by command ≡ Some work)

@@ -9,15 +9,15 @@ use Rattle.sc_sound.specs.Definitions.{births, as_nodes}
 use Rattle.sc_calm_law.specs.Definitions.{players, Rows}
 use Rattle.sc_calm_rows_law.specs.Definitions.{view_at}
 
--- a later replica has seen no lower ballot, and has executed no less
+-- The later replica has seen no lower ballot, and has executed no fewer entries.
 abbrev pub HasGrown : ReplicaState → ReplicaState → Type 0
 HasGrown r later = IsAtLeast later.top r.top × (next r ≤ next later)
 
--- there is one
+-- There is a replica, and it is later than `r`.
 abbrev pub IsLater : ReplicaState → Option ReplicaState → Type 0
 IsLater r o = (later : ReplicaState) × (o ≡ Some later) × HasGrown r later
 
--- A node of a scenario that has a replica of a group after some rows has a later one after more.
+-- A node of a scenario that has a replica of a group after some rows has a later one after more rows, if all come in time.
 abbrev pub ReplicasLast : Type 0
 ReplicasLast =
     (words : ℕ → ℕ → ℕ × ℕ) (scenario : Scenario) (rows more : Rows) (name : Draw) (who : ℕ) (r : ReplicaState) → AreInTime (players words (births as_nodes scenario)) (rows ++ more) → view_at (births as_nodes scenario) rows name who ≡ Some r

@@ -11,7 +11,7 @@ use Rattle.sc_sound.specs.Definitions.{Player, births, as_nodes}
 use Rattle.sc_calm_law.specs.Definitions.{players, Rows}
 use Rattle.sc_calm_rows_law.specs.Definitions.{IsSeat}
 
--- what a node sends, by its number, the receiver and the body: an answer goes to a client, what came of an order to the desk, and an offer and a watch are its own; it sends no request
+-- What the node `me` may send to `to`: an answer goes to a client and the report of an order to the desk; an offer and a watch name the node itself; a node sends no request.
 abbrev pub IsNodesBody : ℕ → ℕ → MailBody → Type 0
 IsNodesBody me to (Request group client seq op) = ⊥
 IsNodesBody me to (Answer group seq answer) = (client : ℕ) × (to ≡ client_actor client)
@@ -31,7 +31,7 @@ IsNodesBody me to (TxOutcome tx part outcome) = Unit {0}
 IsNodesBody me to (TxElsewhere tx coord hint) = Unit {0}
 IsNodesBody me to (TxWatched tx coord part vote) = Unit {0}
 
--- what a client sends: a request of its own
+-- What the client `me` may send: its own requests alone.
 abbrev pub IsClientsBody : ℕ → MailBody → Type 0
 IsClientsBody me (Request group client seq op) = client ≡ me
 IsClientsBody me (Answer group seq answer) = ⊥
@@ -51,30 +51,30 @@ IsClientsBody me (TxOutcome tx part outcome) = ⊥
 IsClientsBody me (TxElsewhere tx coord hint) = ⊥
 IsClientsBody me (TxWatched tx coord part vote) = ⊥
 
--- what a player sends, by what it was born as; a client has its number as an actor
+-- What a player may send, by whether it is a node or a client. A client's number as an actor is that of `client_actor`.
 abbrev pub IsPlayers : ℕ → Player → Mail → Type 0
 IsPlayers who (Node node) mail = IsNodesBody who mail.to mail.body
 IsPlayers who (Client client) mail = (who ≡ client_actor client.me) × IsClientsBody client.me mail.body
 
--- a player of a seat sends it
+-- A player of one of these seats sent the mail, and may send it.
 pub record IsPosted (births : List (Seat Player)) (mail : Mail) : Type 0 where
   pub seat : Seat Player
   pub born : IsSeat births seat
   pub from_is : mail.from ≡ seat.who
   pub is : IsPlayers seat.who seat.actor mail
 
--- So is each mail of a journal of a scenario whose rows come in time.
+-- In a journal of a scenario whose rows come in time, `IsPosted` holds of each mail.
 abbrev pub MailIsPosted : Type 0
 MailIsPosted = (words : ℕ → ℕ → ℕ × ℕ) (scenario : Scenario) (rows : Rows) → AreInTime (players words (births as_nodes scenario)) rows → Each (IsPosted (births as_nodes scenario)) (mails rows)
 
--- .. and each mail of a row is from the player whose row it is
+-- Each mail of a row in time is from the player whose row it is.
 abbrev pub RowsPostTheirOwn : Type 0
 RowsPostTheirOwn = (words : ℕ → ℕ → ℕ × ℕ) (scenario : Scenario) (rows : Rows) (row : Row Mail OrderLine) → AreInTime (players words (births as_nodes scenario)) (rows ++ row ∷ []) → Each (λ mail. mail.from ≡ row.who) row.sent
 
--- In a bounded scenario each mail comes from one who may send it.
+-- In a journal of a bounded scenario whose rows come in time, each mail comes from one that may send it.
 abbrev pub MailMayCome : Type 0
 MailMayCome = (words : ℕ → ℕ → ℕ × ℕ) (scenario : Scenario) (rows : Rows) → IsBounded scenario → AreInTime (players words (births as_nodes scenario)) rows → Each (λ mail. may_come mail.from mail.body ≡ true) (mails rows)
 
--- No player of a scenario has the desk's number.
+-- No player of a scenario has the desk's number, 0.
 abbrev pub DesksAreNotBorn : Type 0
 DesksAreNotBorn = (scenario : Scenario) → find (λ (other : Seat Player). other.who == 0) (births as_nodes scenario) ≡ None

@@ -30,7 +30,7 @@ module _ (P : Group × Effect → Type 0) (group after : Group) where
   ordered_either None (Some why) g a = g _
   ordered_either None None g a = a
 
-  -- .. by whether it has begun
+  -- a property of the group after a begin, by whether its name is used before
   changed_only : (draw : Draw) (b : Bool) (gone : Option Route) (why : Option OrderRefusal) → is_changed (cond {A = Group × Effect} b (group, Was.NoEffect draw) (ordered gone why after group)).1 ≡ true → P (after, Was.Changed)
       → P (cond b (group, Was.NoEffect draw) (ordered gone why after group))
   changed_only draw true went why e p = absurd cc
@@ -161,7 +161,7 @@ before_succ Free core = refl
 before_succ _ core = refl
 
 module _ (me : ℕ) (before : Before) (tx : Draw) (by : ℕ) where
-  -- a decision tells the party that brought the vote
+  -- a decision is sent to the party that brought the vote
   decided_leaves : (frozen : Frozen) (asked : Draw) (made : Group) (outcome : Outcome) → before.succ.group ≡ asked → Leaves Unbound (results tx asked First by) (RecordVote tx (Says.Yes frozen) by) me before (decided made tx outcome)
   unfolding went_on
   decided_leaves frozen asked made outcome e = record {

@@ -19,7 +19,7 @@ pub errands-none : (name : Draw) (me to : ℕ) (body : MailBody) (mails : List M
 errands-none name me to body mails e =
     errands-push name mails (record { from = me; to = to; body = body }) ∙ (ap (λ o. errands_for name mails ++ errand_for name o) e ∙ append-nil (errands_for name mails))
 
--- .. to several
+-- a mail that is no errand, sent to several nodes
 pub errands-all : (name : Draw) (me : ℕ) (nodes : List ℕ) (body : MailBody) (mails : List Mail) → ((to : ℕ) → errand_by me to body ≡ None) → errands_for name (sent_all me nodes body mails) ≡ errands_for name mails
 unfolding sent_all
 errands-all name me [] body mails e = refl

@@ -122,7 +122,7 @@ abbrev IsIdle : Option Command → Type 0
 IsIdle None = Unit {0}
 IsIdle (Some command) = work_by command ≡ None
 
--- .. in flight
+-- what is in flight there has no work
 abbrev IsIdleFlight : Option (Flight Command) → Type 0
 IsIdleFlight None = Unit {0}
 IsIdleFlight (Some flight) = work_by flight.value ≡ None

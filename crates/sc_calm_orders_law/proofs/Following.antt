@@ -6,7 +6,7 @@ use Rattle.sc_calm_orders_law.proofs.Decided.{aborted-step, decided-step, heard-
 use Rattle.sc_calm_orders_law.proofs.Questions.{passes-step, asks-step, files-step}
 use Rattle.sc_calm_orders_law.proofs.Told.{rests-step, told-step}
 
--- Each kind of row is one step: a row that does nothing of an order leaves its stage, a leader that is told one begins it, a question goes out, on and out again, is taken, and voted on; a vote is taken, and ends the order, is heard or decides; and an outcome is taken, and frees its party.
+-- Each kind of row is one step: a row that does nothing of an order leaves its stage, a leader that is given one begins it, a question goes out, on and out again, is taken, and voted on; a vote is taken, and ends the order, is heard or decides; and an outcome is taken, and frees its party.
 pub rows-step : RowsStep
 rows-step = record {
   rests = rests-step;

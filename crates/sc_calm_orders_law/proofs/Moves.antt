@@ -18,7 +18,7 @@ module _ (now after : Scene) (group : Draw) (taken : Option Errand) (sent : Draw
   other-mailed other h mail ne is e =
       row.others other ne ∙ (ap (λ l. having (now.at other).bond (now.at other).work ((now.at other).errands ++ l)) e ∙ ap (λ (k : Here). having k.bond k.work (k.errands ++ mail)) is)
 
-  -- .. or nothing
+  -- another group that is sent nothing stays as it was
   pub other-same : (other : Draw) → (other ≡ group → ⊥) → sent other ≡ [] → after.at other ≡ now.at other
   other-same other ne e = other-mailed other (now.at other) [] ne refl e ∙ ap (λ l. having (now.at other).bond (now.at other).work l) (append-nil (now.at other).errands)
 

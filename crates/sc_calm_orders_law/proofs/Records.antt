@@ -125,7 +125,7 @@ two_results me by host tx part asked outcome ne = (
 )
 
 module _ (me : ℕ) (group : Group) (tx : Draw) (by : ℕ) (outcome : Outcome) where
-  -- a decision tells the parties
+  -- a decision is sent to the parties
   told_leaves : (before : Before) (sent_on : List (Draw × List Errand)) (plan : Plan) → ((o : Outcome) → IsOnly [] sent_on (λ name. errands_for name (released_to before.heard me before.succ tx by o [])))
       → decided_in (committed plan group tx).1 ≡ Some outcome → Leaves Unbound sent_on (RecordWatch tx Cast.Yes by) me before (committed plan group tx)
   unfolding went_on

@@ -64,7 +64,7 @@ module _ (name : Draw) where
   all_dismissed_none me group hint answer [] mails = refl
   all_dismissed_none me group hint answer (command ∷ commands) mails = all_dismissed_none me group hint answer commands (dismissed me group hint answer command mails) ∙ dismissed_none me group hint answer command mails
 
--- a command that is a work is no call: no client is told of it
+-- a command that is a work is no call: no client gets an answer for it
 not_call : (o : Option AnswerBody) (command : Command) (work : Work) (place : Place) → work_by command ≡ Some work → told_call o command place ≡ place
 unfolding told_call
 not_call o Noop work place e = cc
@@ -93,7 +93,7 @@ module _ (command : Command) (work : Work) (r : ReplicaState) (lone : IsLone com
   abbrev goes_on : List Mail
   goes_on = went_on r.me made (before_of r.group.core) effect command []
 
-  -- 1. what is told, and how the transaction goes on
+  -- 1. what is reported, and how the transaction goes on
   effect_told : (o : Option ToldResult) (q : ReplicaState) (mails : List Mail) → ((told_effect o command (q, mails)).0 ≡ q) × ((name : Draw) → errands_for name (told_effect o command (q, mails)).1 ≡ errands_for name mails)
   unfolding told_effect
   effect_told None q mails = (refl, λ name. refl)
@@ -181,7 +181,7 @@ module _ (command : Command) (work : Work) (r : ReplicaState) (lone : IsLone com
     pub musts : (slot : ℕ) → next r ≤ slot → must slot q.leader ≡ Open
     pub sends : (name : Draw) → errands_for name mails ≡ errands_for name goes_on
 
-  -- .. and it leads where it stays a member of a group that stands
+  -- the leader leads on where it stays a member of a group that stands
   abbrev IsDoneAt : Place → Type 0
   IsDoneAt place = IsDone place.0 place.1 × (made.core.gone ≡ None → is_member made.core.members r.me ≡ true → place.0.running ≡ true)
 

@@ -38,7 +38,7 @@ pub by-work : (work : Work) (now after : Scene) (group : Draw) (taken : Option E
 by-work work now after group taken P x s a c =
     at_each work now group P c s a (found work_of now.at group work (subst (Among work) (sym x.had) (inl refl)) (parties_of s) a.parties refl)
 
--- .. after which it has none, and no errand if it had none and is sent none
+-- a group whose one work is executed has none after it, and no errand if it had none and is sent none
 pub own-done : (work : Work) (now after : Scene) (group : Draw) (taken : Option Errand) (sent : Draw → List Errand) → IsRow now after group taken sent → Executes work now after group taken
     → (h : Here) (bond : Bond) → now.at group ≡ h → h.errands ≡ [] → sent group ≡ [] → (after.at group).bond ≡ bond → after.at group ≡ having bond [] []
 own-done work now after group taken sent row x h bond is none s b =

@@ -1,33 +1,33 @@
--- Which stage of an order follows which, by a row of a group, and by which kind of row.
+-- Which stage of an order follows which, by which kind of row of a group.
 use Rattle.std.specs.Prelude.{◌≡◌, ℕ, Bool, true, List, ◌⊎◌, Option}
 use Rattle.sc_node_table.specs.Values.{Draw}
 use Rattle.sc_calm_orders_law.specs.Scenes.{Turn, First, Lone, Next, Errand, Work, Opens, Scene}
 use Rattle.sc_calm_orders_law.specs.Stages.{Deal, Mailed, Filed, Party, Stage, Still, Ordered, Asks, SentOn, Weighs, Replied, Recorded, Closes, ClosesBoth, IsAt}
 use Rattle.sc_calm_orders_law.specs.Rows.{IsRow, Kind, Rests, IsTold, PassesOn, AsksOn, Files, Changed, Opened, Voted, Aborted, Decided, Heard, Ended}
 
--- of a row's group, and the stages before and after the row
+-- A relation of a row's group and the stages before and after the row.
 abbrev pub Step : Type 1
 Step = Draw → Stage → Stage → Type 0
 
--- the stage stays
+-- The stage stays.
 abbrev pub Stays : Step
 Stays group before after = after ≡ before
 
--- the group takes an order
+-- The group's leader takes an order.
 pub record Begins (group : Draw) (before after : Stage) : Type 0 where
   pub chief : ℕ
   pub work : Work
   pub before_is : before ≡ Still
   pub after_is : after ≡ Ordered group chief work
 
--- it executes it, and nothing else comes of it
+-- The group executes the order, which is then over.
 pub record Changes (group : Draw) (before after : Stage) : Type 0 where
   pub chief : ℕ
   pub work : Work
   pub before_is : before ≡ Ordered group chief work
   pub after_is : after ≡ Still
 
--- .. or asks another group
+-- The group executes the order, which begins a transaction: a question to another group is under way.
 pub record BeginsDeal (group : Draw) (before after : Stage) : Type 0 where
   pub deal : Deal
   pub to : ℕ
@@ -36,7 +36,7 @@ pub record BeginsDeal (group : Draw) (before after : Stage) : Type 0 where
   pub turn_is : (deal.turn ≡ First) ⊎ (deal.turn ≡ Lone)
   pub after_is : after ≡ Asks deal to
 
--- the group that is asked sends the question on
+-- The group that is asked sends the question back, to be asked at another node.
 pub record Passes (group : Draw) (before after : Stage) : Type 0 where
   pub deal : Deal
   pub to : ℕ
@@ -44,7 +44,7 @@ pub record Passes (group : Draw) (before after : Stage) : Type 0 where
   pub asked_is : deal.asked ≡ group
   pub after_is : after ≡ SentOn deal
 
--- its coordinator asks again
+-- The coordinator asks again, at another node.
 pub record AsksAgain (group : Draw) (before after : Stage) : Type 0 where
   pub deal : Deal
   pub to : ℕ
@@ -52,7 +52,7 @@ pub record AsksAgain (group : Draw) (before after : Stage) : Type 0 where
   pub coord_is : deal.coord ≡ group
   pub after_is : after ≡ Asks deal to
 
--- the group that is asked takes the question
+-- The group that is asked takes the question.
 pub record TakesQuestion (group : Draw) (before after : Stage) : Type 0 where
   pub deal : Deal
   pub to : ℕ
@@ -61,7 +61,7 @@ pub record TakesQuestion (group : Draw) (before after : Stage) : Type 0 where
   pub asked_is : deal.asked ≡ group
   pub after_is : after ≡ Weighs deal host
 
--- .. and votes
+-- The group that is asked votes.
 pub record Votes (group : Draw) (before after : Stage) : Type 0 where
   pub deal : Deal
   pub agreed : Bool
@@ -70,7 +70,7 @@ pub record Votes (group : Draw) (before after : Stage) : Type 0 where
   pub asked_is : deal.asked ≡ group
   pub after_is : after ≡ Replied deal agreed host
 
--- the coordinator takes the vote
+-- The coordinator takes the vote.
 pub record TakesVote (group : Draw) (before after : Stage) : Type 0 where
   pub deal : Deal
   pub agreed : Bool
@@ -79,7 +79,7 @@ pub record TakesVote (group : Draw) (before after : Stage) : Type 0 where
   pub coord_is : deal.coord ≡ group
   pub after_is : after ≡ Recorded deal agreed host
 
--- .. and is free by a No
+-- The coordinator records a No, and the order is over.
 pub record Aborts (group : Draw) (before after : Stage) : Type 0 where
   pub deal : Deal
   pub agreed : Bool
@@ -88,7 +88,7 @@ pub record Aborts (group : Draw) (before after : Stage) : Type 0 where
   pub coord_is : deal.coord ≡ group
   pub after_is : after ≡ Still
 
--- .. or hears its participant, and asks the watcher
+-- The coordinator records its participant's Yes, and asks the watcher.
 pub record Hears (group : Draw) (before after : Stage) : Type 0 where
   pub deal : Deal
   pub host : ℕ
@@ -103,13 +103,13 @@ pub record Hears (group : Draw) (before after : Stage) : Type 0 where
   pub turn_is : next.turn ≡ Next deal.asked host
   pub after_is : after ≡ Asks next to
 
--- the stage of an outcome that is sent to those that said Yes
+-- The stage at which the outcome is under way to those that said Yes: the one asked last, and the participant heard before it.
 abbrev pub closed : Draw → Draw → Turn → ℕ → Stage
 closed tx asked First host = Closes tx (record { group = asked; host = host; leg = Mailed })
 closed tx asked Lone host = Closes tx (record { group = asked; host = host; leg = Mailed })
 closed tx asked (Next part node) host = ClosesBoth tx (record { group = part; host = node; leg = Mailed }) (record { group = asked; host = host; leg = Mailed })
 
--- .. or decides
+-- The coordinator records a Yes and decides; the outcome is under way.
 pub record Decides (group : Draw) (before after : Stage) : Type 0 where
   pub deal : Deal
   pub host : ℕ
@@ -117,29 +117,29 @@ pub record Decides (group : Draw) (before after : Stage) : Type 0 where
   pub coord_is : deal.coord ≡ group
   pub after_is : after ≡ closed deal.tx deal.asked deal.turn host
 
--- a party that has the outcome in its log
+-- The party, with the outcome at its leader.
 abbrev pub filed_there : Party → Party
 filed_there party = record party { leg = Filed }
 
--- a party takes the outcome
+-- A party's leader takes the outcome.
 pub data TakesOutcome (group : Draw) (before after : Stage) : Type 0 where
   LastTakes : (tx : Draw) (party : Party) → before ≡ Closes tx party → party.leg ≡ Mailed → party.group ≡ group → after ≡ Closes tx (filed_there party) → TakesOutcome group before after
   OneTakes : (tx : Draw) (one two : Party) → before ≡ ClosesBoth tx one two → one.leg ≡ Mailed → one.group ≡ group → after ≡ ClosesBoth tx (filed_there one) two → TakesOutcome group before after
   TwoTakes : (tx : Draw) (one two : Party) → before ≡ ClosesBoth tx one two → two.leg ≡ Mailed → two.group ≡ group → after ≡ ClosesBoth tx one (filed_there two) → TakesOutcome group before after
 
--- .. and is free by it
+-- A party executes the outcome and is free.
 pub data IsFreed (group : Draw) (before after : Stage) : Type 0 where
   LastFreed : (tx : Draw) (party : Party) → before ≡ Closes tx party → party.leg ≡ Filed → party.group ≡ group → after ≡ Still → IsFreed group before after
   OneFreed : (tx : Draw) (one two : Party) → before ≡ ClosesBoth tx one two → one.leg ≡ Filed → one.group ≡ group → after ≡ Closes tx two → IsFreed group before after
   TwoFreed : (tx : Draw) (one two : Party) → before ≡ ClosesBoth tx one two → two.leg ≡ Filed → two.group ≡ group → after ≡ Closes tx one → IsFreed group before after
 
--- what a leader takes
+-- The group's leader takes a question, a vote or an outcome.
 pub data IsTaken (group : Draw) (before after : Stage) : Type 0 where
   OfQuestion : TakesQuestion group before after → IsTaken group before after
   OfVote : TakesVote group before after → IsTaken group before after
   OfOutcome : TakesOutcome group before after → IsTaken group before after
 
--- A row of the group leads from the one stage to the other.
+-- A row of the group leads from the one stage to the other. Each constructor is one kind of row.
 pub data IsStepOf (group : Draw) (before after : Stage) : Type 0 where
   ByRest : Stays group before after → IsStepOf group before after
   ByOrder : Begins group before after → IsStepOf group before after
@@ -154,21 +154,21 @@ pub data IsStepOf (group : Draw) (before after : Stage) : Type 0 where
   ByDeciding : Decides group before after → IsStepOf group before after
   ByEnd : IsFreed group before after → IsStepOf group before after
 
--- a stage that stands, and to which such a step leads
+-- Some stage holds of the scene after the row, and this relation leads to it from the stage before.
 abbrev pub Comes : Step → Draw → Stage → Scene → Type 0
 Comes Is group before after = (stage : Stage) × IsAt stage after × Is group before stage
 
--- a row of such a kind is such a step
+-- A row of this kind leads from the stage before it as this relation says.
 abbrev pub StepsBy : Kind → Step → Type 0
 StepsBy Does Is =
     (now after : Scene) (group : Draw) (taken : Option Errand) (sent : Draw → List Errand) → IsRow now after group taken sent → Does now after group taken sent → (before : Stage) → IsAt before now → Comes Is group before after
 
--- .. where nothing is under way
+-- A row of this kind leads, from the stage at which nothing is under way, as this relation says.
 abbrev pub BeginsBy : Kind → Step → Type 0
 BeginsBy Does Is =
     (now after : Scene) (group : Draw) (taken : Option Errand) (sent : Draw → List Errand) → IsRow now after group taken sent → Does now after group taken sent → IsAt Still now → Comes Is group Still after
 
--- Which step a row is, by its kind.
+-- Which relation of stages each kind of row satisfies.
 pub record RowsStep : Type 0 where
   pub rests : StepsBy Rests Stays
   pub told : BeginsBy IsTold Begins

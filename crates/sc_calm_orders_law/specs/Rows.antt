@@ -5,7 +5,8 @@ use Rattle.sc_node_table.specs.Definitions.{listed}
 use Rattle.sc_calm_orders_law.specs.Scenes.{Turn, First, Lone, Next, is_watch, Unbound, Asking, Errand, Question, Elsewhere, Reply, Result, Work, Opens, Answers, Records, Ends, Scene, IsOnly}
 use Rattle.sc_calm_orders_law.specs.Stages.{bound_by, IsOrder, IsAt, Still, IsUnderWay, IsQuiet}
 
--- A row of a group, at one of its nodes, that takes an errand for it or none: to the others comes what is sent to them, and whoever leads one of them goes on.
+-- A row of one group, at one of its nodes, that takes an errand for the group or none.
+-- The errands that it sends to other groups are appended to theirs, and whoever leads one of those leads on.
 pub record IsRow (now after : Scene) (group : Draw) (taken : Option Errand) (sent : Draw → List Errand) : Type 0 where
   pub before : List Errand
   pub behind : List Errand
@@ -14,15 +15,15 @@ pub record IsRow (now after : Scene) (group : Draw) (taken : Option Errand) (sen
   pub others : (other : Draw) → (other ≡ group → ⊥) → after.at other ≡ record (now.at other) { errands = (now.at other).errands ++ sent other }
   pub leads : (other : Draw) (node : ℕ) → (other ≡ group → ⊥) → now.lead other ≡ Some node → after.lead other ≡ Some node
 
--- what a row may do in its group
+-- What a row may do in its group: a relation of the scenes before and after it, the group, the errand taken and the errands sent.
 abbrev pub Kind : Type 1
 Kind = Scene → Scene → Draw → Option Errand → (Draw → List Errand) → Type 0
 
--- whoever leads the group goes on
+-- Whoever leads the group leads on.
 abbrev pub GoesOn : Scene → Scene → Draw → Type 0
 GoesOn now after group = (node : ℕ) → now.lead group ≡ Some node → after.lead group ≡ Some node
 
--- a row that does nothing of the order: also one in which what stands at a leader begins to fly or is ready, and one in which a node learns an entry, or elects itself
+-- A row that does nothing of the order. Such is also a row in which a leader's work is put in flight or becomes ready, and one in which a node learns an entry or elects itself.
 pub record Rests (now after : Scene) (group : Draw) (taken : Option Errand) (sent : Draw → List Errand) : Type 0 where
   pub takes : taken ≡ None
   pub bond : (after.at group).bond ≡ (now.at group).bond
@@ -30,7 +31,7 @@ pub record Rests (now after : Scene) (group : Draw) (taken : Option Errand) (sen
   pub leads : GoesOn now after group
   pub sends : IsOnly [] [] sent
 
--- a leader is told an order, and takes it
+-- A leader is given an order and takes it.
 pub record IsTold (now after : Scene) (group : Draw) (taken : Option Errand) (sent : Draw → List Errand) : Type 0 where
   pub takes : taken ≡ None
   pub bond : (after.at group).bond ≡ (now.at group).bond
@@ -41,7 +42,7 @@ pub record IsTold (now after : Scene) (group : Draw) (taken : Option Errand) (se
   pub leads : after.lead group ≡ Some chief
   pub sends : IsOnly [] [] sent
 
--- a node that does not lead, or has no replica, sends a question on
+-- A node that does not lead, or has no replica, sends a question back, to be asked at another node.
 pub record PassesOn (now after : Scene) (group : Draw) (taken : Option Errand) (sent : Draw → List Errand) : Type 0 where
   pub tx : Draw
   pub coord : Draw
@@ -54,7 +55,7 @@ pub record PassesOn (now after : Scene) (group : Draw) (taken : Option Errand) (
   pub leads : GoesOn now after group
   pub sends : IsOnly [] ((coord, Elsewhere tx by ∷ []) ∷ []) sent
 
--- a coordinator's leader that is sent elsewhere asks there
+-- A coordinator's leader is sent to another node and asks there.
 pub record AsksOn (now after : Scene) (group : Draw) (taken : Option Errand) (sent : Draw → List Errand) : Type 0 where
   pub tx : Draw
   pub to : ℕ
@@ -70,14 +71,14 @@ pub record AsksOn (now after : Scene) (group : Draw) (taken : Option Errand) (se
   pub leads : GoesOn now after group
   pub sends : IsOnly [] ((asked, Question tx group (is_watch turn) chief node ∷ []) ∷ []) sent
 
--- what comes of an errand at a leader
+-- The work that comes of an errand at a leader; none for `Elsewhere`.
 abbrev pub work_for : Errand → Option Work
 work_for (Question tx coord watch by to) = Some (Answers tx coord watch by)
 work_for (Elsewhere tx to) = None
 work_for (Reply tx watch agreed by to) = Some (Records tx watch agreed by)
 work_for (Result tx to) = Some (Ends tx)
 
--- a leader takes a question, a vote or an outcome: it is to go into the log
+-- A leader takes a question, a vote or an outcome, which becomes its work: it is to go into the log.
 pub record Files (now after : Scene) (group : Draw) (taken : Option Errand) (sent : Draw → List Errand) : Type 0 where
   pub errand : Errand
   pub takes : taken ≡ Some errand
@@ -90,13 +91,13 @@ pub record Files (now after : Scene) (group : Draw) (taken : Option Errand) (sen
   pub leads : GoesOn now after group
   pub sends : IsOnly [] [] sent
 
--- a leader executes an entry, which was all its work
+-- A leader executes an entry, which was all its work.
 pub record Executes (work : Work) (now after : Scene) (group : Draw) (taken : Option Errand) : Type 0 where
   pub takes : taken ≡ None
   pub had : (now.at group).work ≡ work ∷ []
   pub has : (after.at group).work ≡ []
 
--- an order that begins no transaction: members come and go, the group splits at once, or nothing comes of it
+-- A leader executes an order that begins no transaction: members come and go, the group splits at once, or the order has no effect.
 pub record Changed (now after : Scene) (group : Draw) (taken : Option Errand) (sent : Draw → List Errand) : Type 0 where
   pub order : Work
   pub is_order : IsOrder order
@@ -104,7 +105,7 @@ pub record Changed (now after : Scene) (group : Draw) (taken : Option Errand) (s
   pub bond : (after.at group).bond ≡ (now.at group).bond
   pub sends : IsOnly [] [] sent
 
--- an order that begins one: another group is asked
+-- A leader executes an order that begins a transaction, and asks another group.
 pub record Opened (now after : Scene) (group : Draw) (taken : Option Errand) (sent : Draw → List Errand) : Type 0 where
   pub tx : Draw
   pub asked : Draw
@@ -118,7 +119,7 @@ pub record Opened (now after : Scene) (group : Draw) (taken : Option Errand) (se
   pub leads : GoesOn now after group
   pub sends : IsOnly [] ((asked, Question tx group watch chief node ∷ []) ∷ []) sent
 
--- the group that is asked votes
+-- The group that is asked executes its vote and sends it.
 pub record Voted (now after : Scene) (group : Draw) (taken : Option Errand) (sent : Draw → List Errand) : Type 0 where
   pub tx : Draw
   pub coord : Draw
@@ -134,7 +135,7 @@ pub record Voted (now after : Scene) (group : Draw) (taken : Option Errand) (sen
   pub leads : GoesOn now after group
   pub sends : IsOnly [] ((coord, Reply tx watch agreed host by ∷ []) ∷ []) sent
 
--- the coordinator records a No, and nothing comes of it
+-- The coordinator executes a No, and is free.
 pub record Aborted (now after : Scene) (group : Draw) (taken : Option Errand) (sent : Draw → List Errand) : Type 0 where
   pub tx : Draw
   pub by : ℕ
@@ -142,13 +143,13 @@ pub record Aborted (now after : Scene) (group : Draw) (taken : Option Errand) (s
   pub bond : (after.at group).bond ≡ Unbound
   pub sends : IsOnly [] [] sent
 
--- to whom an outcome is sent: to the participant that was heard, and to the one that was asked last
+-- The errands with the outcome, to those that said Yes: the group asked last, and the participant heard before it.
 abbrev pub results : Draw → Draw → Turn → ℕ → List (Draw × List Errand)
 results tx asked First by = (asked, Result tx by ∷ []) ∷ []
 results tx asked Lone by = (asked, Result tx by ∷ []) ∷ []
 results tx asked (Next part host) by = (part, Result tx host ∷ []) ∷ (asked, Result tx by ∷ []) ∷ []
 
--- it records a Yes, and decides
+-- The coordinator executes a Yes, decides, and sends the outcome.
 pub record Decided (now after : Scene) (group : Draw) (taken : Option Errand) (sent : Draw → List Errand) : Type 0 where
   pub tx : Draw
   pub by : ℕ
@@ -159,7 +160,7 @@ pub record Decided (now after : Scene) (group : Draw) (taken : Option Errand) (s
   pub bond : (after.at group).bond ≡ Unbound
   pub sends : IsOnly [] (results tx asked turn by) sent
 
--- .. or hears its participant, and asks the watcher, a third group
+-- The coordinator executes its participant's Yes, and asks the watcher, a third group.
 pub record Heard (now after : Scene) (group : Draw) (taken : Option Errand) (sent : Draw → List Errand) : Type 0 where
   pub tx : Draw
   pub by : ℕ
@@ -175,32 +176,32 @@ pub record Heard (now after : Scene) (group : Draw) (taken : Option Errand) (sen
   pub leads : GoesOn now after group
   pub sends : IsOnly [] ((watcher, Question tx group true chief node ∷ []) ∷ []) sent
 
--- a party is free again
+-- A party executes the outcome and is free.
 pub record Ended (now after : Scene) (group : Draw) (taken : Option Errand) (sent : Draw → List Errand) : Type 0 where
   pub tx : Draw
   pub executes : Executes (Ends tx) now after group taken
   pub bond : (after.at group).bond ≡ Unbound
   pub sends : IsOnly [] [] sent
 
--- such a row keeps the stages
+-- Each row of this kind keeps it that some stage stands.
 abbrev pub Keeps : Kind → Type 0
 Keeps Does =
     (now after : Scene) (group : Draw) (taken : Option Errand) (sent : Draw → List Errand) → IsRow now after group taken sent → Does now after group taken sent → IsUnderWay now → IsUnderWay after
 
--- .. of each kind
+-- Rows that do nothing of an order keep its stages.
 abbrev pub RestsKeep : Type 0
 RestsKeep = Keeps Rests
 
--- a question, or that it is to be asked elsewhere
+-- Rows that send a question back, and rows that ask again elsewhere, keep the stages.
 pub record QuestionsKeep : Type 0 where
   pub passes : Keeps PassesOn
   pub asks : Keeps AsksOn
 
--- what a leader takes
+-- Rows in which a leader takes a question, a vote or an outcome keep the stages.
 abbrev pub FilesKeep : Type 0
 FilesKeep = Keeps Files
 
--- what it executes
+-- Rows in which a leader executes an entry of an order keep the stages.
 pub record EntriesKeep : Type 0 where
   pub changed : Keeps Changed
   pub opened : Keeps Opened
@@ -210,11 +211,11 @@ pub record EntriesKeep : Type 0 where
   pub heard : Keeps Heard
   pub ended : Keeps Ended
 
--- an order begins where none is under way
+-- Where nothing is under way, a row in which a leader takes an order begins its stages.
 abbrev pub OrdersBegin : Type 0
 OrdersBegin =
     (now after : Scene) (group : Draw) (taken : Option Errand) (sent : Draw → List Errand) → IsRow now after group taken sent → IsTold now after group taken sent → IsAt Still now → IsUnderWay after
 
--- where nothing is under way, the stage is the last one: no group is bound
+-- Where no errand is under way and no leader has work, the stage is `Still`, and no group is bound.
 abbrev pub QuietIsStill : Type 0
 QuietIsStill = (now : Scene) → IsQuiet now → IsUnderWay now → IsAt Still now × ((group : Draw) → (now.at group).bond ≡ Unbound)

@@ -1,4 +1,4 @@
--- What a leader's table does by an entry of an order that it counted, alone; and with an order that it is told.
+-- What a leader's table does by an entry of an order that it counted alone, and by an order that it is given.
 use Rattle.std.specs.Prelude.{◌≡◌, ℕ, true, false, [], ◌∷◌, List, Option, Some, None, ◌⊎◌}
 use Rattle.sc_base.specs.Definitions.{Drawer, next_name, is_member}
 use Rattle.sc_node_table.specs.Values.{Ballot, Draw, Command, Base, OrderLine, OrderRefusal, Accept, Accepted, Install, Learn, Nack, Prepare, Promise, Flight}
@@ -10,7 +10,7 @@ use Rattle.sc_calm_orders_law.specs.Parts.{work_by, works_in, works, errands_for
 use Rattle.sc_calm_orders_law.specs.Stages.{IsOrder}
 use Rattle.sc_calm_orders_law.specs.Tables.{IsUnbound, Works, MayFile}
 
--- a leader at whose next slot a command is ready, alone: nothing is in flight, and no other work waits
+-- A leader with one command, ready at its next slot: nothing is in flight, no other work waits, and no report binds it.
 pub record IsLone (command : Command) (r : ReplicaState) : Type 0 where
   pub running : r.running ≡ true
   pub unbound : IsUnbound r
@@ -19,7 +19,7 @@ pub record IsLone (command : Command) (r : ReplicaState) : Type 0 where
   pub acts : works_in r.acts ≡ []
   pub calls : works_in r.calls ≡ []
 
--- it executes the command: it has no work then, sends the errands by which the transaction goes on, and no others, and leads on where it stays a member of a group that stands
+-- The leader executes the command. It has no work then, sends the errands by which the transaction goes on and no others, and leads on where it stays a member of a group that stands.
 pub record RunsAlone (command : Command) (r : ReplicaState) (after : Place) : Type 0 where
   pub group : after.0.group ≡ (applied r.group command).0
   pub me : after.0.me ≡ r.me
@@ -27,17 +27,17 @@ pub record RunsAlone (command : Command) (r : ReplicaState) (after : Place) : Ty
   pub sends : (name : Draw) → errands_for name after.1 ≡ errands_for name (went_on r.me (applied r.group command).0 (before_of r.group.core) (applied r.group command).1 command [])
   pub leads : (applied r.group command).0.core.gone ≡ None → is_member (applied r.group command).0.core.members r.me ≡ true → after.0.running ≡ true
 
--- a table does so by each command but calls and fillers
+-- A leader's table does what `RunsAlone` says, by each command that is work of an order.
 abbrev pub EntriesRunAlone : Type 0
 EntriesRunAlone = (command : Command) (work : Work) (r : ReplicaState) → IsLone command r → work_by command ≡ Some work → RunsAlone command r (executed true command (r, [])).0
 
--- an order that a leader takes is its work; one that it refuses changes nothing
+-- An order that a leader takes is its one work after the row; one that it refuses leaves its work as it was.
 pub record TablesOrder : Type 0 where
   pub taken : (drawer : Drawer) (line : OrderLine) (r : ReplicaState) → MayFile r → untaken drawer line r ≡ None
       → (order : Work) × IsOrder order × (work_by (ordered_command (next_name drawer) line.number line.order) ≡ Some order) × Works (order ∷ []) [] r (ordered_row drawer line (r, []))
   pub refused : (drawer : Drawer) (line : OrderLine) (why : OrderRefusal) (r : ReplicaState) → untaken drawer line r ≡ Some why → Works (works r) [] r (ordered_row drawer line (r, []))
 
--- a leader with one command in flight, at its next slot, alone: nothing is ready, and no other work waits
+-- A leader with one command, in flight at its next slot: nothing is ready, no other work waits, and no report binds it.
 pub record FliesLone (flight : Flight Command) (r : ReplicaState) : Type 0 where
   pub running : r.running ≡ true
   pub unbound : IsUnbound r
@@ -47,7 +47,7 @@ pub record FliesLone (flight : Flight Command) (r : ReplicaState) : Type 0 where
   pub acts : works_in r.acts ≡ []
   pub calls : works_in r.calls ≡ []
 
--- it executes that command, as one that is ready alone, in the state in which the replica was
+-- The leader executes the command in flight, as one that is ready alone.
 pub record Decides (flight : Flight Command) (r : ReplicaState) (after : Place) : Type 0 where
   pub readied : ReplicaState
   pub lone : IsLone flight.value readied
@@ -55,13 +55,13 @@ pub record Decides (flight : Flight Command) (r : ReplicaState) (after : Place) 
   pub me : readied.me ≡ r.me
   pub is : after ≡ (executed true flight.value (readied, [])).0
 
--- a vote leaves the work where it is, or decides it
+-- A vote at a leader with one command in flight leaves its work as it was, or decides the command.
 abbrev pub VotesCountAlone : Type 0
 VotesCountAlone =
     (from : ℕ) (group : Draw) (ballot : Ballot) (slot : ℕ) (flight : Flight Command) (r : ReplicaState) → FliesLone flight r
     → Works (works r) [] r (mailed from (Accepted group ballot slot) (r, [])).0 ⊎ Decides flight r (mailed from (Accepted group ballot slot) (r, [])).0
 
--- one that does not run, and has nothing to do
+-- A replica that does not run and has no work.
 pub record IsIdle (r : ReplicaState) : Type 0 where
   pub stopped : r.running ≡ false
   pub acts : works_in r.acts ≡ []
@@ -69,12 +69,13 @@ pub record IsIdle (r : ReplicaState) : Type 0 where
   pub flights : r.leader.flights ≡ []
   pub ready : r.ready ≡ []
 
--- a row after which a replica has no work, and by which it sends no errand
+-- After the row the replica has no work, and the row sends no errand.
 pub record Rested (after : Place) : Type 0 where
   pub work : works after.0 ≡ []
   pub sends : IsOnly [] [] (λ name. errands_for name after.1)
 
--- what is asked for, or was promised elsewhere, leaves the work of one that does not stop by it; an entry that is learnt, or a state that is taken over, makes no work, also where the replica is elected by it
+-- Mail of Paxos does nothing of an order. An Accept, a Prepare and a Nack leave the work of a replica that does not stop by them.
+-- An entry that is learnt and a state that is taken over make no work, also where they elect the replica.
 pub record TablesRest : Type 0 where
   pub accept : (from : ℕ) (group : Draw) (ballot : Ballot) (slot : ℕ) (command : Command) (r : ReplicaState) → GoesOn ballot r → Works (works r) [] r (mailed from (Accept group ballot slot command) (r, [])).0
   pub prepare : (from : ℕ) (group : Draw) (ballot : Ballot) (from_slot : ℕ) (r : ReplicaState) → GoesOn ballot r → Works (works r) [] r (mailed from (Prepare group ballot from_slot) (r, [])).0
@@ -82,7 +83,7 @@ pub record TablesRest : Type 0 where
   pub learn : (from : ℕ) (group : Draw) (slot : ℕ) (command : Command) (r : ReplicaState) → IsIdle r → Rested (mailed from (Learn group slot command) (r, [])).0
   pub install : (from : ℕ) (group : Draw) (slot : ℕ) (base : Base) (sets : List (List ℕ)) (r : ReplicaState) → IsIdle r → Rested (mailed from (Install group slot base sets) (r, [])).0
 
--- a promise that reports nothing leaves a leader's one work, or none, where it is
+-- A promise without reports leaves a leader's one work, or none, as it was.
 abbrev pub PromisesKeepWork : Type 0
 PromisesKeepWork =
     (from : ℕ) (group : Draw) (ballot : Ballot) (work : Option Work) (r : ReplicaState) → IsUnbound r → works r ≡ listed work → Works (listed work) [] r (mailed from (Promise group ballot []) (r, [])).0

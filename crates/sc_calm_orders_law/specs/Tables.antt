@@ -1,4 +1,4 @@
--- That a replica's table takes the mail of an order as the rows of it say.
+-- A replica's table takes the mail of an order as the rows of `Rows.antt` say.
 use Rattle.std.specs.Prelude.{◌≡◌, ℕ, ◌≤◌, true, false, List, [], ◌∷◌, Option, Some, None}
 use Rattle.sc_node_table.specs.Values.{Draw, Offer, Watch, Outcome, Past, Vote, TxPrepare, TxVote, TxOutcome, TxElsewhere, TxWatch, TxWatched}
 use Rattle.sc_node_table.specs.Definitions.{absent, pumped, ReplicaState, Place, name_of, next, settled, listed, mailed, standing_vote, noted_outcome}
@@ -7,11 +7,11 @@ use Rattle.sc_paxos_words.specs.Definitions.{must}
 use Rattle.sc_calm_orders_law.specs.Scenes.{Turn, is_watch, Asking, Bound, Errand, Question, Elsewhere, Work, Answers, Records, Ends, IsOnly}
 use Rattle.sc_calm_orders_law.specs.Parts.{bond_of, is_yes, is_cast_yes, works, errands_for}
 
--- no report binds a leader at an open slot
+-- No report that the leader has counted says what it must offer at a slot that it has not executed.
 abbrev pub IsUnbound : ReplicaState → Type 0
 IsUnbound r = (slot : ℕ) → next r ≤ slot → must slot r.leader ≡ Open
 
--- a replica has this work after a step, its state stays, and it runs on if it did; and the step sends these errands, and no others
+-- After a step the replica has this work; its group's state and whether it runs stay as they were; and the step sends these errands and no others.
 pub record Works (done : List Work) (sent : List (Draw × List Errand)) (r : ReplicaState) (after : Place) : Type 0 where
   pub group : after.0.group ≡ r.group
   pub me : after.0.me ≡ r.me
@@ -19,17 +19,18 @@ pub record Works (done : List Work) (sent : List (Draw × List Errand)) (r : Rep
   pub work : works after.0 ≡ done
   pub sends : IsOnly [] sent (λ name. errands_for name after.1)
 
--- a pump leaves one work, or none, where it is
+-- A pump, which offers queued commands at open slots, leaves a replica's one work, or none, as it was.
 abbrev pub PumpsKeepWork : Type 0
 PumpsKeepWork = (work : Option Work) (r : ReplicaState) → IsUnbound r → works r ≡ listed work → Works (listed work) [] r (pumped (r, []))
 
--- a leader that no report binds, and that has nothing to do but calls
+-- A leader that no report binds and that has no work; calls may wait.
 pub record MayFile (r : ReplicaState) : Type 0 where
   pub running : r.running ≡ true
   pub unbound : IsUnbound r
   pub idle : works r ≡ []
 
--- what a leader takes becomes its work: a question on which no vote stands, a vote for which it waits and of whose transaction no outcome is noted, and an outcome of the transaction by which it is bound
+-- What a leader takes becomes its one work: a question on which it has cast no vote; a vote for which it waits, in a transaction whose outcome is not noted;
+-- and an outcome of the transaction in which it is bound.
 pub record TablesFile : Type 0 where
   pub offer : (from : ℕ) (tx : Draw) (offer : Offer) (r : ReplicaState) → MayFile r → standing_vote r.group.core tx ≡ None
       → Works (Answers tx offer.coord false offer.by ∷ []) [] r (mailed from (TxPrepare tx offer) (r, [])).0
@@ -42,7 +43,7 @@ pub record TablesFile : Type 0 where
   pub outcome : (from : ℕ) (tx part : Draw) (outcome : Outcome) (r : ReplicaState) → MayFile r → bond_of r.group.core ≡ Bound tx
       → Works (Ends tx ∷ []) [] r (mailed from (TxOutcome tx part outcome) (r, [])).0
 
--- one that does not run sends a question on to its sender, as a node does that has no replica
+-- A replica that does not run, and a node without a replica, send a question back to its sender, to be asked at another node.
 pub record TablesPass : Type 0 where
   pub offer : (from : ℕ) (tx : Draw) (offer : Offer) (r : ReplicaState) → r.running ≡ false → standing_vote r.group.core tx ≡ None
       → Works (works r) ((offer.coord, Elsewhere tx from ∷ []) ∷ []) r (mailed from (TxPrepare tx offer) (r, [])).0
@@ -51,7 +52,7 @@ pub record TablesPass : Type 0 where
   pub offer_missed : (me from : ℕ) (tx : Draw) (offer : Offer) → IsOnly [] ((offer.coord, Elsewhere tx from ∷ []) ∷ []) (λ name. errands_for name (absent me from (TxPrepare tx offer)))
   pub watch_missed : (me from : ℕ) (tx : Draw) (watch : Watch) → IsOnly [] ((watch.coord, Elsewhere tx from ∷ []) ∷ []) (λ name. errands_for name (absent me from (TxWatch tx watch)))
 
--- a settled coordinator asks the node that it is sent to, if it is sent to one, what it asks
+-- A settled coordinator that is sent to another node asks that node what it asks.
 abbrev pub TablesAskOn : Type 0
 TablesAskOn =
     (from node : ℕ) (tx coord asked : Draw) (turn : Turn) (r : ReplicaState) → settled r ≡ true → bond_of r.group.core ≡ Asking tx asked turn

@@ -1,4 +1,4 @@
-//! What stands between the groups of an order that is under way alone: the stages of it, apart from
-//! tables, that each kind of row keeps them, and what of a replica's table is such a row.
-//! Definitions and laws, no logic.
+//! What holds between the groups of one order that is under way alone. Its stages are stated apart
+//! from tables; each kind of row keeps them, and the rows of a replica's table are of these kinds.
+//! Definitions and laws; no function.
 #![tactic(auto)]

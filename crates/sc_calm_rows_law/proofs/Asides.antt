@@ -22,7 +22,7 @@ module _ (r : ReplicaState) (other : Draw) where
     hint_is : place.0.hint ≡ r.hint
     quiet : AreQuiet other place.1
 
-  -- .. with other queues, or another ballot seen
+  -- what is kept stays so with other queues, or another ballot seen
   with_queues : (q : ReplicaState) (mails : List Mail) (acts calls : List Command) (top : Ballot) → Keeps (q, mails) → Keeps (record q { acts = acts; calls = calls; top = top }, mails)
   with_queues q mails acts calls top k = record { next_is = k.next_is; promise_is = k.promise_is; off = k.off; hint_is = k.hint_is; quiet = k.quiet }
 

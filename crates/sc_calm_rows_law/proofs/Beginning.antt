@@ -129,7 +129,7 @@ module _ (me : ℕ) (base : Base) where
   one_less : (b : Base) (groups : List Base) → HasOnce (b ∷ groups) → HasOnce groups
   one_less b groups once = λ other a e. once other (inr a) e
 
-  -- with one more group in front, the node's replica of it comes first, if it is a member
+  -- with one more group at the head, the node's replica of it comes first, if it is a member
   in_front : (P : Option ReplicaState → Type 0) (b : Base) (groups : List Base)
       → (is_member b.core.members me ≡ true → P (cond (same_draw b.core.id base.core.id) (Some (born_replica slots_ahead me b)) (replica_of base.core.id (born_replicas slots_ahead me groups))))
       → (is_member b.core.members me ≡ false → P (replica_of base.core.id (born_replicas slots_ahead me groups))) → P (replica_of base.core.id (born_replicas slots_ahead me (b ∷ groups)))

@@ -66,7 +66,7 @@ elected_leads at two course slot command r after rosters lead bound running reac
       counted = λ node. ap (λ (c : Course). c.counted node) is ∙ sym (ap (λ ps. is_member ps node) promisers);
     }
 
--- Where none leads, the one that is to lead next elects itself by the last entry that it is told, leads in the course after it, and the group follows it.
+-- Where none leads, the one that is to lead next elects itself by the last entry, which it learns, leads in the course after it, and the group follows it.
 pub elections_keep : ElectionsKeepFollowing
 elections_keep at words births rows seat number mail node base course r slot command scene takes has body lead =
     let name : Draw = base.core.id in

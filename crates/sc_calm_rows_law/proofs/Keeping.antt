@@ -57,7 +57,7 @@ module _ (at : Sets) (words : ℕ → ℕ → ℕ × ℕ) (births : List (Seat P
       ];
     }
 
-    -- .. and after one of the leader
+    -- the course after a row of the leader
     pub course_led : (r : ReplicaState) (after : Place) → IsReplicasRow births rows seat event name (Some r) after → (led : LedBy at births rows seat event base course after) → IsCourseOf at births then_ base (led_course led.bound course after.0)
     course_led r after row led = record {
       gives = λ node other e runs. elim (cases_eq node seat.who) [
@@ -68,7 +68,7 @@ module _ (at : Sets) (words : ℕ → ℕ → ℕ × ℕ) (births : List (Seat P
       runs = λ c. subst (λ n. IsLedBy base (led_course led.bound course after.0) (view_at births then_ name n)) led.leads.mine (subst (IsLedBy base (led_course led.bound course after.0)) (sym row.is) c);
     }
 
-    -- .. and where one elects itself
+    -- the course after a row in which a node elects itself
     pub course_elected : (ballot : Ballot) (r : ReplicaState) (after : Place) → IsReplicasRow births rows seat event name (Some r) after → IsKind (Elects at) births rows seat event base course (elected_course course ballot) → after.0.running ≡ true
         → IsLeadOf at (progress_at births then_ base (elected_course course ballot)) after.0 → IsCourseOf at births then_ base (elected_course course ballot)
     course_elected ballot r after row elects running lead = record {

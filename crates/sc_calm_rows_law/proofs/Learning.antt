@@ -1,4 +1,4 @@
--- A replica with nothing ready that is told the next entry has the state after it, and nothing ready.
+-- A replica with nothing ready that learns the next entry has the state after it, and nothing ready.
 use Rattle.std.proofs.Common.{◌≡◌, ℕ, ◌+◌, ◌-◌, ◌^◌, ◌≤◌, ◌&&◌, nat_le, nat_lt, eqb, false, cond, List, [], ◌∷◌, Option, Some, None, refl, sym, ◌∙◌, ap, subst}
 use Rattle.std.specs.Prelude.{is_some}
 use Rattle.std.specs.List.{list_any}
@@ -165,6 +165,6 @@ module _ (command : Command) (r : ReplicaState) where
       ∙ cond-true (eqb slot (next r)) (executed false command (r, [])) (cond {A = Executed} (nat_lt (next r) slot) (childless (r, sent r.me from (Ask (name_of r) (next r)) [])) (childless (r, []))) (eq-eqb slot (next r) at)))
       (executed_past none)
 
--- A replica with nothing ready that is told the next entry has the state after it.
+-- A replica with nothing ready that learns the next entry has the state after it.
 pub told_entries : ToldEntriesAreTaken
 told_entries from slot command r at low none = learn_past command r from slot at low none

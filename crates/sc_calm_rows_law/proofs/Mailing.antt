@@ -18,7 +18,7 @@ module _ (name : Draw) where
   abbrev K : Place → Type 0
   K place = Keeps name place
 
-  -- .. with the children that a row made
+  -- what is kept, with the children that a row made
   abbrev After : Executed → Type 0
   After step = Keeps name step.0
 

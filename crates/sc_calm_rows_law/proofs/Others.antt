@@ -1,4 +1,4 @@
--- A row that does nothing in a group leaves it following its leader, also where a replica is born.
+-- A row that does nothing in a group leaves it following its leader, also where a replica is created.
 use Rattle.std.proofs.Common.{◌≡◌, ℕ, ◌+◌, ◌<◌, true, List, None, inl, inr, sym, ◌∙◌, ap, subst, arith}
 use Rattle.sc_node_table.specs.Values.{Base, OrderLine, Seat, Event}
 use Rattle.sc_base.specs.Definitions.{IsRoster, is_member}

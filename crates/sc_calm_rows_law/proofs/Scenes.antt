@@ -133,7 +133,7 @@ module _ (at : Sets) (words : ℕ → ℕ → ℕ × ℕ) (births : List (Seat P
             (steps_take at births rows seat (Deliver number) base course mark r after row named has.well.0 (taken mark is) steps counts
             (λ off stands least. (let low = waits_here r row.was off stands least in omega (arith, low, same))))
 
-        -- .. that takes the node further, where it does not lead
+        -- a mail that takes the node further, where it does not lead
         takes_further : (off : r.running ≡ false) → StepsBy mark r after → (IsCount mark → ⊥) → (course.runs ≡ true → seat.who ≡ course.ballot.node → ⊥) → WaitsStill at course seat.who (next after.0) → FollowsAfter at words births rows seat number base course
         takes_further off steps none apart waits =
             rows_keep.takes at words births rows seat (Deliver number) base course scene.rosters takes.timely scene.followed (leads_stay.quiet at births rows seat (Deliver number) base course after.0 row.is (steps.runs ∙ off) apart)

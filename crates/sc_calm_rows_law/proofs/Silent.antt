@@ -42,11 +42,11 @@ narrow name from _ e = refl
 abbrev pub IsQuietBody : Draw → ℕ → MailBody → Type 0
 IsQuietBody name me body = (other : Draw) → same_draw name other ≡ false → wide_mark other me body ≡ None
 
--- .. a mail
+-- a mail leaves no such mark for another group
 abbrev pub IsQuietMail : Draw → Mail → Type 0
 IsQuietMail name mail = IsQuietBody name mail.from mail.body
 
--- .. each of some
+-- each of these mails leaves no such mark for another group
 abbrev pub AreQuiet : Draw → List Mail → Type 0
 AreQuiet name mails = Each (IsQuietMail name) mails
 

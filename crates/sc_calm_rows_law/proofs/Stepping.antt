@@ -103,7 +103,7 @@ module _ (at : Sets) (who : ℕ) where
     | inr ge ↦ (let same : slot ≡ from = omega (arith, low, ge) in or_left (is_member set who) (is_in_some sets who) (ap (λ s. is_member s who) (sym are.0) ∙ (ap (λ n. is_member (at n) who) (sym same) ∙ m)))
   ]
 
-  -- .. and decides one where it is in one
+  -- a node that is in some set of the open slots decides one of them
   from_sets : (sets : List (List ℕ)) (from : ℕ) → AreAt at from sets → is_in_some sets who ≡ true → (slot : ℕ) × (from ≤ slot) × (slot < from + length sets) × (is_member (at slot) who ≡ true)
   from_sets [] from are e = absurd (true≢false (sym e))
   from_sets (set ∷ sets) from are e = by (is_member set who) refl e (from_sets sets (from + 1) are.1)

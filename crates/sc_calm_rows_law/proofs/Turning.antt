@@ -38,7 +38,7 @@ module _ (births : List (Seat Player)) (rows : Rows) (seat : Seat Player) (event
         sends = λ who. ap (marks_for base.core.id who) (sent_is births rows seat event base.core.id born player is o e) ∙ silent who;
       })
 
-  -- .. where the replica stays
+  -- a row that does nothing in a group, where the replica stays
   alone_by : (base : Base) → taken_mark base.core.id (mails rows) event ≡ None → replica_of base.core.id (replicas_of (acted player_table player o).0) ≡ replica_of base.core.id (replicas_of player)
       → ((who : ℕ) → marks_for base.core.id who (acted player_table player o).1 ≡ []) → LeavesAlone births rows seat event base
   alone_by base takes same silent = record {
@@ -46,7 +46,7 @@ module _ (births : List (Seat Player)) (rows : Rows) (seat : Seat Player) (event
     view = view_is births rows seat event base.core.id born player is o e ∙ (same ∙ sym (view_was births rows seat event base.core.id born player is));
   }
 
-  -- .. or is born
+  -- a row that does nothing in a group, where the replica is created
   born_by : (base : Base) → taken_mark base.core.id (mails rows) event ≡ None → Same base seat.who (replica_of base.core.id (replicas_of (acted player_table player o).0)) (replica_of base.core.id (replicas_of player))
       → ((who : ℕ) → marks_for base.core.id who (acted player_table player o).1 ≡ []) → IsBornOr base seat.who (replica_of base.core.id (replicas_of (acted player_table player o).0)) (replica_of base.core.id (replicas_of player))
       → LeavesOrBears births rows seat event base
@@ -192,7 +192,7 @@ client_idle births rows seat event base client born is takes None e = alone_by b
 client_idle births rows seat event base client born is takes (Some input) e =
     alone_by births rows seat event born (Client client) is (Some input) e base takes refl (λ who. others_hear_nothing.client base.core.id who client input)
 
--- A row does nothing in any group but that of its mail or order, and in those whose child is born in it; a client's row does nothing in any.
+-- A row does nothing in any group but that of its mail or order, and in those whose child is created in it; a client's row does nothing in any.
 pub others_idle : OthersRowsAreIdle
 others_idle = record {
   client = λ births rows seat event base client born is takes. client_idle births rows seat event base client born is takes (input_of (mails rows) event) refl;

@@ -82,7 +82,7 @@ module _ (base : Base) (who : ℕ) where
   same_then : (one two three : Option ReplicaState) → Same one two → Same two three → Same one three
   same_then one two three a b = (a.0 ∙ b.0, a.1 ∙ b.1)
 
-  -- the group itself is born
+  -- the group itself is created
   own_born : (node : NodeState) → node.me ≡ who → is_member base.core.members who ≡ true → Same (replica_of base.core.id (with_born base node).replicas) (replica_of base.core.id node.replicas)
   own_born node me is = by (replica_of base.core.id node.replicas) refl
     where
@@ -111,7 +111,7 @@ module _ (base : Base) (who : ℕ) where
       same_then (replica_of base.core.id (with_children children (with_born child node)).replicas) (replica_of base.core.id (with_born child node).replicas) (replica_of base.core.id node.replicas)
       (all_born children (with_born child node) (child_me child node ∙ me) fits.1) (one_born child node me fits.0)
 
-  -- ---- whether it is born
+  -- ---- whether it is created
 
   then_or : (one two three : Option ReplicaState) → IsBornOr base who two three → IsBornOr base who one two → IsBornOr base who one three
   then_or one two three (inl e) (inl f) = inl (f ∙ e)

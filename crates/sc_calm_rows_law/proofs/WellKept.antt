@@ -111,6 +111,6 @@ nodes_stay seat rows born node is well e =
     let after = players.stays born.me (λ r. Stands r) (parts born.me) (begins born.me) (λ r. IsWellKept born.me r) (to born.me) (from born.me) seat rows born node is (refl, well) e in
     (subst (λ m. Each (IsWellKept m) node.replicas) (sym after.0) after.1, after.0)
 
--- So is each replica of a node that is born.
+-- So is each replica of a node that is created.
 pub nodes_born : NodesAreBornWellKept
 nodes_born me groups policy = players.born me (λ r. Stands r) (parts me) (begins me) (λ r. IsWellKept me r) (to me) (from me) groups

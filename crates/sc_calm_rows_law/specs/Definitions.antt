@@ -1,4 +1,4 @@
--- The definitions of this crate that others cite, under one name.
+-- The definitions of this crate that other crates cite, in one module.
 pub use Rattle.sc_calm_rows_law.specs.Asides.{IsUnmoved, AsidesStayStill}
 pub use Rattle.sc_calm_rows_law.specs.Begun.{ScenariosBeginFollowing, ChildrenBeginFollowing}
 pub use Rattle.sc_calm_rows_law.specs.Elections.{IsNextLead, IsPast, ElectionsKeepFollowing, ToldEntriesAreTaken}

@@ -1,4 +1,4 @@
--- That a node which elects itself leads its group, and the group follows it.
+-- A node that elects itself leads its group, and the group follows it.
 use Rattle.std.specs.Prelude.{◌≡◌, ℕ, suc, ◌≤◌, true, false, List, [], length}
 use Rattle.sc_node_table.specs.Values.{Command, Base, Mail, Learn, Seat}
 use Rattle.sc_base.specs.Definitions.{is_member}
@@ -10,18 +10,19 @@ use Rattle.sc_following_law.specs.Definitions.{Course, Sets, members_at, AreAt, 
 use Rattle.sc_calm_rows_law.specs.Mailed.{IsScene, TakesMail, HoldsReplica, FollowsAfter}
 use Rattle.sc_calm_rows_law.specs.Steps.{elected_course}
 
--- a replica has executed an entry, whoever leads: its state and the members of its open slots are those after the entry, and nothing is ready
+-- The replica has executed this entry, whoever leads now: its state and the members of its open slots are those after the entry, and nothing is ready.
 pub record IsPast (command : Command) (r after : ReplicaState) : Type 0 where
   pub group_is : after.group ≡ (entered command r).group
   pub sets_are : after.sets ≡ (entered command r).sets
   pub me_is : after.me ≡ r.me
   pub ready_is : after.ready ≡ []
 
--- so has one with nothing ready that is told the next entry
+-- A replica with nothing ready that learns the entry of its next slot has executed it (`IsPast`).
 abbrev pub ToldEntriesAreTaken : Type 0
 ToldEntriesAreTaken = (from slot : ℕ) (command : Command) (r : ReplicaState) → slot ≡ next r → slot ≤ last_slot → r.ready ≡ [] → IsPast command r (mailed from (Learn (name_of r) slot command) (r, [])).0.0
 
--- None leads a group that stands, and a replica is the one to lead it next: the entry at a slot is the last one, after it the members and the open slots are the group's, it may elect itself by it, and its ballot is a later one.
+-- No node leads the group, which stands, and the replica is to lead it next: the entry at this slot is the last one, after it the members and the open slots are the group's,
+-- the replica may elect itself by the entry, and its ballot is later than the group's.
 pub record IsNextLead (at : Sets) (course : Course) (slot : ℕ) (command : Command) (r : ReplicaState) : Type 0 where
   pub idle : course.runs ≡ false
   pub stands : course.gone ≡ false
@@ -34,7 +35,7 @@ pub record IsNextLead (at : Sets) (course : Course) (slot : ℕ) (command : Comm
   pub nodes : (slot node : ℕ) → is_member (at slot) node ≡ true → is_node node ≡ true
   pub later : below course.ballot (next_ballot r) ≡ true
 
--- one that is told that entry leads the group then
+-- A group follows the replica that learns that entry and elects itself by it.
 abbrev pub ElectionsKeepFollowing : Type 0
 ElectionsKeepFollowing =
     (at : Sets) (words : ℕ → ℕ → ℕ × ℕ) (births : List (Seat Player)) (rows : Rows) (seat : Seat Player) (number : ℕ) (mail : Mail) (node : NodeState) (base : Base) (course : Course) (r : ReplicaState) (slot : ℕ) (command : Command)

@@ -1,4 +1,4 @@
--- What a group that follows its leader is in a quiet journal.
+-- What a group that follows its leader is in a quiet journal (no mail pending).
 use Rattle.std.specs.Prelude.{◌≡◌, ℕ, true, false, List, [], Some}
 use Rattle.sc_node_table.specs.Values.{Base, Seat}
 use Rattle.sc_base.specs.Definitions.{IsRoster}
@@ -10,14 +10,15 @@ use Rattle.sc_calm_law.specs.Definitions.{players, Rows}
 use Rattle.sc_following_law.specs.Definitions.{Course, Sets, IsEven, IsEvenLed, IsLeadOf}
 use Rattle.sc_calm_rows_law.specs.Groups.{view_at, progress_at, marks_at, IsFollowedAt}
 
--- All members of the group have executed all; and if it stands, the replica at the node of its ballot leads, to which each node of an open slot has promised, and no other runs.
+-- All members of the group have executed all entries. If the group stands, the replica at the node of its ballot leads, no other does,
+-- and each node that decides an open slot has promised that ballot.
 pub record IsEvenAt (at : Sets) (births : List (Seat Player)) (rows : Rows) (base : Base) (course : Course) : Type 0 where
   pub even : IsEven at (progress_at births rows base course)
   pub led : course.gone ≡ false → IsEvenLed at (progress_at births rows base course)
   pub lead : course.gone ≡ false → (r : ReplicaState) → view_at births rows base.core.id course.ballot.node ≡ Some r → IsLeadOf at (progress_at births rows base course) r
   pub alone : (node : ℕ) (r : ReplicaState) → view_at births rows base.core.id node ≡ Some r → r.running ≡ true → node ≡ course.ballot.node
 
--- so it is in a quiet journal, where no mail of it is for who is no actor
+-- A group that follows its leader is even in a quiet journal, if no Paxos mail of it is under way to a number that no player has.
 abbrev pub QuietGroupsRest : Type 0
 QuietGroupsRest =
     (at : Sets) (words : ℕ → ℕ → ℕ × ℕ) (births : List (Seat Player)) (rows : Rows) (base : Base) (course : Course) → ((slot : ℕ) → IsRoster (at slot)) → AreInTime (players words births) rows → is_quiet (players words births) rows ≡ true

@@ -12,55 +12,56 @@ use Rattle.sc_calm_rows_law.specs.Groups.{view_at, progress_at, begun_course, Is
 use Rattle.sc_calm_rows_law.specs.Steps.{led_course, elected_course, LedBy}
 use Rattle.sc_calm_rows_law.specs.Turns.{with_event, IsKind, LeavesAlone, LeavesOrBears, IsReplicasRow}
 
--- the node that acts has a replica that leads in the course only where the course says so, and where it does, one that runs or is yet to be made
+-- If the replica of the node that acts leads after the event, it does so in this course.
+-- If the course says that this node leads, its replica does, or is yet to be created.
 pub record LeavesLead (at : Sets) (births : List (Seat Player)) (rows : Rows) (seat : Seat Player) (event : Event OrderLine) (base : Base) (course : Course) : Type 0 where
   pub own : (r : ReplicaState) → view_at births (with_event rows seat event) base.core.id seat.who ≡ Some r → r.running ≡ true → IsLeadOf at (progress_at births (with_event rows seat event) base course) r × (seat.who ≡ course.ballot.node)
   pub runs : course.runs ≡ true → seat.who ≡ course.ballot.node → IsLedBy base course (view_at births (with_event rows seat event) base.core.id seat.who)
 
--- The replica that leads is left as it is ..
+-- Rows of which `LeavesLead` holds.
 pub record LeadsStay : Type 0 where
-  -- .. where the node's replica stays
+  -- a row that leaves the node's replica of the group as it is
   pub same : (at : Sets) (words : ℕ → ℕ → ℕ × ℕ) (births : List (Seat Player)) (rows : Rows) (seat : Seat Player) (event : Event OrderLine) (base : Base) (course : Course) → IsFollowedAt at words births rows base course
       → view_at births (with_event rows seat event) base.core.id seat.who ≡ view_at births rows base.core.id seat.who → LeavesLead at births rows seat event base course
-  -- .. where another leads, or none, and the node's replica does not begin to
+  -- a row after which the node's replica does not lead, where the course does not say that it does
   pub quiet : (at : Sets) (births : List (Seat Player)) (rows : Rows) (seat : Seat Player) (event : Event OrderLine) (base : Base) (course : Course) (r : ReplicaState)
       → view_at births (with_event rows seat event) base.core.id seat.who ≡ Some r → r.running ≡ false → (course.runs ≡ true → seat.who ≡ course.ballot.node → ⊥) → LeavesLead at births rows seat event base course
-  -- .. where the node makes its replica at the group's birth
+  -- a row in which the node creates its replica at the group's birth
   pub born : (at : Sets) (births : List (Seat Player)) (rows : Rows) (seat : Seat Player) (event : Event OrderLine) (base : Base) (course : Course) → ((slot : ℕ) → slot < 1 + slots_ahead → at slot ≡ base.core.members)
       → IsRoster base.core.members → is_member base.core.members base.core.first ≡ true → base.core.gone ≡ None → (seat.who ≡ base.core.first → course ≡ begun_course base) → (course.runs ≡ true → seat.who ≡ course.ballot.node → seat.who ≡ base.core.first)
       → view_at births (with_event rows seat event) base.core.id seat.who ≡ Some (born_replica slots_ahead seat.who base) → LeavesLead at births rows seat event base course
-  -- .. and where it is the one that leads, and is asked itself to accept something
+  -- a row in which the node's replica takes its own accept request
   pub accepts : (at : Sets) (words : ℕ → ℕ → ℕ × ℕ) (births : List (Seat Player)) (rows : Rows) (seat : Seat Player) (event : Event OrderLine) (base : Base) (course : Course) (from slot : ℕ) (ballot : Ballot) (command : Command) (r : ReplicaState)
       → IsFollowedAt at words births rows base course → r.me ≡ seat.who → GoesOn ballot r → IsReplicasRow births rows seat event base.core.id (Some r) (mailed from (Accept (name_of r) ballot slot command) (r, [])).0 → LeavesLead at births rows seat event base course
-  -- .. or to promise a ballot
+  -- a row in which the node's replica takes its own Prepare
   pub promises : (at : Sets) (words : ℕ → ℕ → ℕ × ℕ) (births : List (Seat Player)) (rows : Rows) (seat : Seat Player) (event : Event OrderLine) (base : Base) (course : Course) (from from_slot : ℕ) (ballot : Ballot) (r : ReplicaState)
       → IsFollowedAt at words births rows base course → r.me ≡ seat.who → GoesOn ballot r → IsReplicasRow births rows seat event base.core.id (Some r) (mailed from (Prepare (name_of r) ballot from_slot) (r, [])).0 → LeavesLead at births rows seat event base course
 
--- A group that follows its leader does so after each row that comes in time ..
+-- A group that follows its leader does so after each row in time of these kinds.
 pub record RowsKeepFollowing : Type 0 where
-  -- .. that does nothing in it
+  -- a row that does nothing in the group
   pub idle : (at : Sets) (words : ℕ → ℕ → ℕ × ℕ) (births : List (Seat Player)) (rows : Rows) (seat : Seat Player) (event : Event OrderLine) (base : Base) (course : Course) → ((slot : ℕ) → IsRoster (at slot))
       → AreInTime (players words births) (with_event rows seat event) → IsFollowedAt at words births rows base course → LeavesLead at births rows seat event base course → IsKind IsIdle births rows seat event base course course
       → IsFollowedAt at words births (with_event rows seat event) base course
-  -- .. in which a node takes a mail
+  -- a row in which a node takes a mail
   pub takes : (at : Sets) (words : ℕ → ℕ → ℕ × ℕ) (births : List (Seat Player)) (rows : Rows) (seat : Seat Player) (event : Event OrderLine) (base : Base) (course : Course) → ((slot : ℕ) → IsRoster (at slot))
       → AreInTime (players words births) (with_event rows seat event) → IsFollowedAt at words births rows base course → LeavesLead at births rows seat event base course → IsKind (Takes at) births rows seat event base course course
       → IsFollowedAt at words births (with_event rows seat event) base course
-  -- .. of its leader
+  -- a row of the group's leader
   pub leads : (at : Sets) (words : ℕ → ℕ → ℕ × ℕ) (births : List (Seat Player)) (rows : Rows) (seat : Seat Player) (event : Event OrderLine) (base : Base) (course : Course) (r : ReplicaState) (after : Place) → ((slot : ℕ) → IsRoster (at slot))
       → AreInTime (players words births) (with_event rows seat event) → IsFollowedAt at words births rows base course → IsReplicasRow births rows seat event base.core.id (Some r) after → (led : LedBy at births rows seat event base course after)
       → IsFollowedAt at words births (with_event rows seat event) base (led_course led.bound course after.0)
-  -- .. in which one elects itself that then leads in the course after it
+  -- a row in which a node elects itself, and then leads in the course after it
   pub elects : (at : Sets) (words : ℕ → ℕ → ℕ × ℕ) (births : List (Seat Player)) (rows : Rows) (seat : Seat Player) (event : Event OrderLine) (base : Base) (course : Course) (ballot : Ballot) (r : ReplicaState) (after : Place) → ((slot : ℕ) → IsRoster (at slot))
       → AreInTime (players words births) (with_event rows seat event) → IsFollowedAt at words births rows base course → IsReplicasRow births rows seat event base.core.id (Some r) after
       → IsKind (Elects at) births rows seat event base course (elected_course course ballot) → after.0.running ≡ true → IsLeadOf at (progress_at births (with_event rows seat event) base (elected_course course ballot)) after.0
       → IsFollowedAt at words births (with_event rows seat event) base (elected_course course ballot)
 
--- So it does after an event that does nothing in it ..
+-- A group that follows its leader does so after an event that does nothing in the group.
 pub record OthersKeepFollowing : Type 0 where
   pub alone : (at : Sets) (words : ℕ → ℕ → ℕ × ℕ) (births : List (Seat Player)) (rows : Rows) (seat : Seat Player) (event : Event OrderLine) (base : Base) (course : Course) → ((slot : ℕ) → IsRoster (at slot))
       → AreInTime (players words births) (with_event rows seat event) → IsFollowedAt at words births rows base course → LeavesAlone births rows seat event base → IsFollowedAt at words births (with_event rows seat event) base course
-  -- .. or makes a replica at the group's birth, which goes on as it began until its first member's node has one
+  -- an event that may create a replica at the group's birth, where the group is as it began until its first leader's node has one
   pub bears : (at : Sets) (words : ℕ → ℕ → ℕ × ℕ) (births : List (Seat Player)) (rows : Rows) (seat : Seat Player) (event : Event OrderLine) (base : Base) (course : Course) → ((slot : ℕ) → IsRoster (at slot))
       → AreInTime (players words births) (with_event rows seat event) → IsFollowedAt at words births rows base course → ((slot : ℕ) → slot < 1 + slots_ahead → at slot ≡ base.core.members) → is_member base.core.members base.core.first ≡ true → base.core.gone ≡ None
       → (view_at births rows base.core.id base.core.first ≡ None → course ≡ begun_course base) → LeavesOrBears births rows seat event base → IsFollowedAt at words births (with_event rows seat event) base course

@@ -1,4 +1,4 @@
--- Who sends what asks to accept or to promise: the node of its ballot.
+-- Accept requests and Prepares are sent by the node of their ballot.
 use Rattle.std.specs.Prelude.{◌≡◌, ℕ, true, List}
 use Rattle.sc_base.specs.Definitions.{Each}
 use Rattle.sc_node_table.specs.Values.{Mail, MailBody, Request, Answer, Prepare, Promise, Accept, Accepted, Nack, Learn, Ask, Install, TxPrepare, TxVote, TxOutcome, TxElsewhere, TxWatch, TxWatched, Told, Seat, Node, Client}
@@ -10,7 +10,7 @@ use Rattle.sc_sound.specs.Definitions.{Player, births, as_nodes}
 use Rattle.sc_calm_law.specs.Definitions.{players, Rows}
 use Rattle.sc_law_lemmas.specs.Definitions.{IsKept}
 
--- a body from a node: what it asks to accept or to promise is of a ballot of that node
+-- If the body is an accept request or a Prepare, its ballot is of the node `from`.
 abbrev pub IsOwnAsking : ℕ → MailBody → Type 0
 IsOwnAsking from (Accept group ballot slot command) = from ≡ ballot.node
 IsOwnAsking from (Prepare group ballot from_slot) = from ≡ ballot.node
@@ -30,27 +30,27 @@ IsOwnAsking from (TxWatch tx watch) = Unit {0}
 IsOwnAsking from (TxWatched tx coord part vote) = Unit {0}
 IsOwnAsking from (Told order result) = Unit {0}
 
--- .. a mail
+-- If the mail is an accept request or a Prepare, its sender is the node of its ballot.
 abbrev pub IsOwnMail : Mail → Type 0
 IsOwnMail mail = IsOwnAsking mail.from mail.body
 
--- .. each of some
+-- `IsOwnMail` holds of each of these mails.
 abbrev pub AreOwn : List Mail → Type 0
 AreOwn mails = Each IsOwnMail mails
 
--- a replica that runs does so with a ballot of its own
+-- If the replica leads, it does so in a ballot of its own node.
 abbrev pub RunsAlone : ReplicaState → Type 0
 RunsAlone r = r.running ≡ true → r.me ≡ r.leader.ballot.node
 
--- .. each of a player, which is kept as any replica is
+-- Each replica of the player is kept as any is (`IsKept`), and leads only in a ballot of its own node.
 abbrev pub PlaysAlone : Player → Type 0
 PlaysAlone (Node node) = Each (λ r. IsKept node.me r × RunsAlone r) node.replicas
 PlaysAlone (Client client) = Unit {0}
 
--- Where it is so at the births, all mail of a journal whose rows come in time is.
+-- In a journal whose rows come in time, `IsOwnMail` holds of all mail, if `PlaysAlone` holds of all players at their births.
 abbrev pub BallotsAreOwn : Type 0
 BallotsAreOwn = (words : ℕ → ℕ → ℕ × ℕ) (births : List (Seat Player)) (rows : Rows) → Each (λ seat. PlaysAlone seat.actor) births → AreInTime (players words births) rows → AreOwn (mails rows)
 
--- at the births of a scenario it is so
+-- `PlaysAlone` holds of all players of a scenario at their births.
 abbrev pub BirthsPlayAlone : Type 0
 BirthsPlayAlone = (scenario : Scenario) → Each (λ seat. PlaysAlone seat.actor) (births as_nodes scenario)

@@ -1,4 +1,4 @@
--- That an order stays under way where a vote is counted, and where an order is told.
+-- That an order stays under way where a vote is counted, and where an order is given.
 use Rattle.std.proofs.Common.{◌≡◌, ℕ, true, false, cond, List, [], ◌∷◌, ◌++◌, Option, Some, None, ◌⊎◌, inl, inr, refl, sym, ◌∙◌, ap, subst}
 use Rattle.sc_node_table.specs.Values.{Draw, Command, OrderLine, OrderRefusal, Mail, Accepted, Seat, Event, Deliver, Flight}
 use Rattle.sc_machine_table.specs.Definitions.{applied}
@@ -140,7 +140,7 @@ module _ (words : ℕ → ℕ → ℕ × ℕ) (births : List (Seat Player)) (row
       (asides_are.rests births rows seat told group (stays_by beside) refl
       (only_as [] (λ n. errands_for n place.1) (errands_sent rows seat told) (λ n. ap (errands_for n) row.1.sends) (tables-order.refused node.draws line why r e).sends))
 
--- Where nothing is under way, an order that a leader is told begins to be, or is refused; one that is refused beside the leader changes nothing.
+-- Where nothing is under way, an order that a leader is given begins to be, or is refused; one that is refused beside the leader changes nothing.
 pub orders_keep : OrdersKeep
 orders_keep = record {
   led = λ words births rows seat line node r o leads may still. led_by words births rows seat line node r o leads may still (untaken node.draws line r) refl;

@@ -240,7 +240,7 @@ module _ (words : ℕ → ℕ → ℕ × ℕ) (births : List (Seat Player)) (qui
   leaves : (name : Draw) → IsFresh found_first.0 name → Kept name
   leaves name f = player_leaves (value player_table seat quiet) refl name (fresh_other name f)
 
-  -- who is told it has a replica of the group, or leaves that as it is
+  -- who gets the order has a replica of the group, or leaves that as it is
   told_there : (player : Player) → value player_table seat quiet ≡ player → IsThere births quiet group ⊎ ((who : ℕ) → view_at births (with_event quiet seat told) group who ≡ view_at births quiet group who)
   told_there (Client client) is = inr (left_view words births quiet seat told b.seated b.timely group (client_leaves words births quiet seat told b.seated b.timely client is group (ToldInput line) refl refl))
   told_there (Node node) is = by (replica_of group node.replicas) refl

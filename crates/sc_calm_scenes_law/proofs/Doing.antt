@@ -209,7 +209,7 @@ asides_are = record {
   };
 }
 
--- A row of the leader alone does nothing of the order, or is that it is told one, takes what comes to it, or asks elsewhere, by the work that its table leaves and the errands that it sends.
+-- A row of the leader alone does nothing of the order, or is that it is given one, takes what comes to it, or asks elsewhere, by the work that its table leaves and the errands that it sends.
 pub leaders_are : LeadersAre
 leaders_are = record {
   rests = λ births rows seat event name r after row none.

@@ -241,7 +241,7 @@ found_keeps : (words : ℕ → ℕ → ℕ × ℕ) (births : List (Seat Player))
     → FindsOrder words births rows seat event → KeepsStage births rows seat event
 found_keeps words births rows seat event born timely finds = player_keeps words births rows seat born event timely finds (value player_table seat rows) refl
 
--- A row that finds what `FindsOrder` says, by the mail that it takes or the order that it tells, leaves the stage of an order, or is a step of its group to one that follows.
+-- A row that finds what `FindsOrder` says, by the mail that it takes or the order that it gives, leaves the stage of an order, or is a step of its group to one that follows.
 pub found_step : FoundOrdersStep
 found_step words births rows seat event born timely finds stage a = found_keeps words births rows seat event born timely finds (stage, a)
 

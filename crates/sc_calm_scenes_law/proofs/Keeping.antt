@@ -90,7 +90,7 @@ module _ (words : ℕ → ℕ → ℕ × ℕ) (births : List (Seat Player)) (row
     files_it c body e errand filed takes_it files idle works_so =
         leaders_are.files births rows seat event group errand filed r after (leads_row c (filed ∷ []) [] body e works_so) idle (errand_is c.comes body e ∙ takes_it) files
 
-    -- .. so the stage is that after it takes it
+    -- the stage is that after the leader takes the errand
     pub lead_takes : ComesToLeader words births rows seat number mail group r → (body : MailBody) → mail.body ≡ body → (errand : Errand) (filed : Work) → option_map (λ entry. entry.1) (errand_by mail.from mail.to body) ≡ Some errand
         → work_for errand ≡ Some filed → works r ≡ [] → Works (filed ∷ []) [] r (mailed mail.from body (r, [])).0 → (under : IsUnderWay (scene_at births rows)) → Comes IsTaken group under.0 (scene_at births (with_event rows seat event))
     lead_takes c body e errand filed takes_it files idle works_so under =

@@ -138,7 +138,7 @@ module _ (words : ℕ → ℕ → ℕ × ℕ) (births : List (Seat Player)) (row
       keeps_still words births rows seat (Deliver number) born timely (ANode node) is (ap errand_in at ∙ none) (Some (Got mail)) (ap (option_map Got) at)
       (λ name. ap (λ (x : NodeState × List Mail). replica_of name x.0.replicas) step) (λ name. ap (λ (x : NodeState × List Mail). errands_for name x.1) step ∙ silent name)
 
--- Rows of clients, of nodes that are told to go, and of nodes that get mail of no group or have no replica of it, and make none, keep an order under way.
+-- Rows of clients, of nodes that go, and of nodes that get mail of no group or have no replica of it, and make none, keep an order under way.
 pub others_keep : OthersKeep
 others_keep = record {
   client = λ words births rows seat event client born timely is none. client_keeps words births rows seat event client born timely is none (input_of (mails rows) event) refl;

@@ -61,7 +61,7 @@ module _ (words : ℕ → ℕ → ℕ × ℕ) (births : List (Seat Player)) (row
     others = λ other ne. after_is event other ∙ ap (λ l. l ++ errands_sent rows seat event other) (ap (errands_for other) same);
   }
 
-  -- .. that takes one
+  -- a row that takes a mail, where its errand, if it is one, is for this group
   mail_row : (number : ℕ) (name : Draw) → ((entry : Draw × Errand) → errand_taken (mails rows) (Deliver number) ≡ Some entry → entry.0 ≡ name) → TakesOne words births rows seat.who number
       → ErrandRow name (taken_errand (mails rows) (Deliver number)) Now (After (Deliver number)) (errands_sent rows seat (Deliver number))
   mail_row number name own one =

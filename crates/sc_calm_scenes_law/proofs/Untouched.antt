@@ -48,7 +48,7 @@ step_back group stage later name (ByEnd (LastFreed tx party e l g a)) on f = abs
 step_back group stage later name (ByEnd (OneFreed tx one two e l g a)) on f = absurd (subst (λ x. IsFresh x name) a f)
 step_back group stage later name (ByEnd (TwoFreed tx one two e l g a)) on f = absurd (subst (λ x. IsFresh x name) a f)
 
--- by an order: the group that is told it is not
+-- a group that is untouched after an order is not the one that gets it
 pub begun_other : (group : Draw) (later : Stage) (name : Draw) → IsStepOf group Still later → IsFresh later name → name ≡ group → ⊥
 begun_other group later name (ByRest e) f = absurd (subst (λ x. IsFresh x name) e f)
 begun_other group later name (ByOrder s) f = subst (λ x. IsFresh x name) s.after_is f
@@ -140,7 +140,7 @@ module _ (births : List (Seat Player)) (quiet : Rows) where
       let was : There (ClosesBoth tx one two) = subst There e t in
       subst There (sym a) (was.0, tt)
 
-  -- by an order they are, if the group that is told it is where its leader is
+  -- by an order they are, if the group that gets it is where its leader is
   pub begun_there : (group : Draw) (later : Stage) → IsStepOf group Still later → ((chief : ℕ) (work : Work) → later ≡ Ordered group chief work → IsThere births quiet group) → There later
   begun_there group later (ByRest e) there = subst There (sym e) tt
   begun_there group later (ByOrder s) there = subst There (sym s.after_is) (there s.chief s.work s.after_is, tt)

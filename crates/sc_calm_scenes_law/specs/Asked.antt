@@ -1,4 +1,4 @@
--- That what is answered from what a replica has, and what comes too late, does nothing of an order; and that all but questions goes to the node that leads.
+-- Mail that a replica answers from what it has, and mail that comes too late, does nothing of an order; and every errand but a question goes to the node that leads.
 use Rattle.std.specs.Prelude.{◌≡◌, ℕ, ◌<◌, Bool, false, List, [], Option, Some, None}
 use Rattle.sc_base.specs.Definitions.{Among}
 use Rattle.sc_node_table.specs.Values.{Ballot, Draw, Command, Base, Mail, Ask, Accepted, Promise, Nack, Learn, Install, Seat, Deliver, Report}
@@ -10,7 +10,8 @@ use Rattle.sc_calm_law.specs.Definitions.{Rows}
 use Rattle.sc_calm_orders_law.specs.Definitions.{Turn, is_watch, Bond, Unbound, Asking, Bound, Errand, Question, Elsewhere, Reply, Result, Here, Scene, IsUnderWay, errand_by}
 use Rattle.sc_calm_scenes_law.specs.Kept.{KeepsStage, ComesToLeader, ComesBeside, ComesToNone}
 
--- An order stays under way where a replica is asked for entries; where a vote comes to one that does not run, or to the leader for a slot at which nothing is in flight; where a promise, or a refusal, comes to one that does not run; and where the leader learns an entry, or is sent a state, that it has.
+-- Which mails keep an order at its stage: an Ask for entries; a vote at a replica that does not lead, or at the leader for a slot where nothing is in flight;
+-- a promise or a Nack at a replica that does not lead; and an entry or a state that the leader has executed already.
 pub record AskedKeep : Type 0 where
   pub ask : (words : ℕ → ℕ → ℕ × ℕ) (births : List (Seat Player)) (rows : Rows) (seat : Seat Player) (number : ℕ) (mail : Mail) (group : Draw) (r : ReplicaState) (named : Draw) (slot : ℕ)
       → ComesToLeader words births rows seat number mail group r → mail.body ≡ Ask named slot → KeepsStage births rows seat (Deliver number)
@@ -29,14 +30,14 @@ pub record AskedKeep : Type 0 where
   pub install_late : (words : ℕ → ℕ → ℕ × ℕ) (births : List (Seat Player)) (rows : Rows) (seat : Seat Player) (number : ℕ) (mail : Mail) (group : Draw) (r : ReplicaState) (named : Draw) (slot : ℕ) (base : Base) (sets : List (List ℕ))
       → ComesToLeader words births rows seat number mail group r → mail.body ≡ Install named slot base sets → slot < next r → KeepsStage births rows seat (Deliver number)
 
--- the node to which an errand goes that only the leader can take: all but a question
+-- The node that an errand goes to, if only the leader can take it: of every errand but a question.
 abbrev pub leader_sought : Errand → Option ℕ
 leader_sought (Question tx coord watch by to) = None
 leader_sought (Elsewhere tx to) = Some to
 leader_sought (Reply tx watch agreed by to) = Some to
 leader_sought (Result tx to) = Some to
 
--- a coordinator waits in this turn, and its leader has no work
+-- A coordinator asks in this transaction, in the given kind of turn, and its leader has no work.
 pub record IsAsking (tx : Draw) (watch : Option Bool) (here : Here) : Type 0 where
   pub asked : Draw
   pub turn : Turn
@@ -44,19 +45,20 @@ pub record IsAsking (tx : Draw) (watch : Option Bool) (here : Here) : Type 0 whe
   pub turn_is : (vote : Bool) → watch ≡ Some vote → is_watch turn ≡ vote
   pub work : here.work ≡ []
 
--- a group has this bond, and its leader no work
+-- The group has this bond, and its leader has no work.
 pub record IsWaiting (bond : Bond) (here : Here) : Type 0 where
   pub bond_is : here.bond ≡ bond
   pub work : here.work ≡ []
 
--- what the group is for which an errand is under way: one that is asked is bound by nothing, one that hears a vote or is to ask elsewhere is the coordinator, and one that hears an outcome is bound
+-- What the group that an errand is for must be: bound by nothing for a question, the coordinator for a vote and for `Elsewhere`, and bound in the transaction for an outcome.
 abbrev pub Expects : Errand → Here → Type 0
 Expects (Question tx coord watch by to) here = IsWaiting Unbound here
 Expects (Elsewhere tx to) here = IsAsking tx None here
 Expects (Reply tx watch agreed by to) here = IsAsking tx (Some watch) here
 Expects (Result tx to) here = IsWaiting (Bound tx) here
 
--- In each stage such an errand goes to the node that leads its group; so it comes neither to another, nor to a node without replica. And the group of an errand waits for it.
+-- At each stage a vote, an outcome and an `Elsewhere` go to the node that leads their group, and the group of each errand waits for it.
+-- So none of these three comes to another replica of the group, or to a node without one.
 pub record AnswersReachLeaders : Type 0 where
   pub led : (now : Scene) (group : Draw) (errand : Errand) (to : ℕ) → IsUnderWay now → Among errand (now.at group).errands → leader_sought errand ≡ Some to → now.lead group ≡ Some to
   pub waits : (now : Scene) (group : Draw) (errand : Errand) → IsUnderWay now → Among errand (now.at group).errands → Expects errand (now.at group)

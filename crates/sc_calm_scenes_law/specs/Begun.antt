@@ -1,4 +1,4 @@
--- That nothing is under way before the first row of a scenario.
+-- Nothing is under way before the first row of a scenario.
 use Rattle.std.specs.Prelude.{[]}
 use Rattle.sc_scenario.specs.Definitions.{IsBounded}
 use Rattle.sc_scenario.specs.declared.scenarios.Scenario.{Scenario}
@@ -6,6 +6,6 @@ use Rattle.sc_sound.specs.Definitions.{births, as_nodes}
 use Rattle.sc_calm_orders_law.specs.Definitions.{IsAt, Still}
 use Rattle.sc_calm_scenes_law.specs.Scenes.{scene_at}
 
--- The scene of a bounded scenario at its birth is still: all groups are free, no leader has work, and no mail is under way.
+-- At the birth of a bounded scenario the stage is `Still`: all groups are free, no leader has work, and no mail is under way.
 abbrev pub ScenariosBeginStill : Type 0
 ScenariosBeginStill = (scenario : Scenario) → IsBounded scenario → IsAt Still (scene_at (births as_nodes scenario) [])

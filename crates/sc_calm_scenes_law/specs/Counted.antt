@@ -1,4 +1,4 @@
--- That an order stays under way where a leader counts votes for the one command that it has in flight, and where it is told an order.
+-- An order stays under way where a leader counts votes for the one command that it has in flight; and an order begins where a leader is given it.
 use Rattle.std.specs.Prelude.{◌≡◌, ℕ, Bool, true, false, List, [], ◌∷◌, if◌then◌else◌, Some, None}
 use Rattle.sc_node_table.specs.Values.{Ballot, Draw, Command, OrderLine, OrderRefusal, Mail, Accepted, Node, Seat, Deliver, Flight}
 use Rattle.sc_machine_table.specs.Definitions.{Group, applied}
@@ -15,7 +15,7 @@ use Rattle.sc_calm_scenes_law.specs.Scenes.{scene_at}
 use Rattle.sc_calm_scenes_law.specs.Turns.{NewestAreBound, LeadsAlone}
 use Rattle.sc_calm_scenes_law.specs.Kept.{StageAfter, KeepsStage, ComesToLeader, IsBeside}
 
--- a vote comes to the leader of a group, which has one command in flight, alone
+-- A vote comes to the leader of a group, which has one command in flight, alone.
 pub record IsCounting (words : ℕ → ℕ → ℕ × ℕ) (births : List (Seat Player)) (rows : Rows) (seat : Seat Player) (number : ℕ) (mail : Mail) (group : Draw) (flight : Flight Command) (r : ReplicaState) : Type 0 where
   pub comes : ComesToLeader words births rows seat number mail group r
   pub named : Draw
@@ -25,18 +25,19 @@ pub record IsCounting (words : ℕ → ℕ → ℕ × ℕ) (births : List (Seat 
   pub flies : FliesLone flight r
   pub me_is : r.me ≡ seat.who
 
--- by that command, which is such work, the group is bound so, and a leader sends these errands; and if the leader stops by it, the newest state is its own
+-- The command is this work; after it the group has this bond, and its leader sends these errands. If the leader stops by it, the group's newest states have this bond.
 pub record IsEntry (births : List (Seat Player)) (rows : Rows) (seat : Seat Player) (number : ℕ) (mail : Mail) (group : Draw) (work : Work) (bond : Bond) (sent : List (Draw × List Errand)) (command : Command) (r : ReplicaState) : Type 0 where
   pub work_is : work_by command ≡ Some work
   pub leaves : EntryLeaves bond sent command seat.who r.group
   pub newest : (mailed mail.from mail.body (r, [])).0.0.running ≡ false → NewestAreBound births (with_event rows seat (Deliver number)) group bond
 
--- the group stands after the command, and this node is a member
+-- After the command the group stands, and this node is a member.
 pub record StaysIn (command : Command) (me : ℕ) (group : Group) : Type 0 where
   pub stands : (applied group command).0.core.gone ≡ None
   pub mine : is_member (applied group command).0.core.members me ≡ true
 
--- A vote keeps an order under way, by what the command is: an order that begins no transaction, or one; a vote of the group; a No or a Yes that is recorded; an outcome.
+-- A vote keeps an order under way, whatever the command in flight is: an order that begins no transaction, or one that does; a vote of the group;
+-- a No or a Yes that the coordinator records; or an outcome.
 pub record VotesKeep : Type 0 where
   pub changed : (words : ℕ → ℕ → ℕ × ℕ) (births : List (Seat Player)) (rows : Rows) (seat : Seat Player) (number : ℕ) (mail : Mail) (group : Draw) (flight : Flight Command) (r : ReplicaState) (order : Work)
       → IsCounting words births rows seat number mail group flight r → IsEntry births rows seat number mail group order (bond_of r.group.core) [] flight.value r → IsOrder order → KeepsStage births rows seat (Deliver number)
@@ -60,14 +61,14 @@ pub record VotesKeep : Type 0 where
   pub ended : (words : ℕ → ℕ → ℕ × ℕ) (births : List (Seat Player)) (rows : Rows) (seat : Seat Player) (number : ℕ) (mail : Mail) (group : Draw) (flight : Flight Command) (r : ReplicaState) (tx : Draw)
       → IsCounting words births rows seat number mail group flight r → IsEntry births rows seat number mail group (Ends tx) Unbound [] flight.value r → KeepsStage births rows seat (Deliver number)
 
--- a node is told an order for a group of which it has a replica
+-- A node is given an order for a group of which it has a replica, in time.
 pub record IsOrdered (words : ℕ → ℕ → ℕ × ℕ) (births : List (Seat Player)) (rows : Rows) (seat : Seat Player) (line : OrderLine) (node : NodeState) (r : ReplicaState) : Type 0 where
   pub seated : IsSeat births seat
   pub timely : AreInTime (players words births) (with_event rows seat (Told line))
   pub is_node : value player_table seat rows ≡ Node node
   pub here : replica_of (group_of_order line.order) node.replicas ≡ Some r
 
--- Where nothing is under way, an order that the leader is told begins to be, or is refused; and one that is refused elsewhere changes nothing.
+-- Where nothing is under way, an order that the leader is given begins or is refused; an order that another replica refuses changes nothing.
 pub record OrdersKeep : Type 0 where
   pub led : (words : ℕ → ℕ → ℕ × ℕ) (births : List (Seat Player)) (rows : Rows) (seat : Seat Player) (line : OrderLine) (node : NodeState) (r : ReplicaState) → IsOrdered words births rows seat line node r
       → LeadsAlone births rows (group_of_order line.order) seat.who r → MayFile r → IsAt Still (scene_at births rows) → StageAfter births rows seat (Told line) Still

@@ -1,4 +1,4 @@
--- The definitions of this crate that others cite, under one name.
+-- The definitions of this crate that other crates cite, in one module.
 pub use Rattle.sc_calm_scenes_law.specs.Asked.{AnswersReachLeaders, Expects, IsAsking, IsWaiting, AskedKeep, leader_sought}
 pub use Rattle.sc_calm_scenes_law.specs.Begun.{ScenariosBeginStill}
 pub use Rattle.sc_calm_scenes_law.specs.Counted.{IsOrdered, StaysIn, IsEntry, IsCounting, VotesKeep, OrdersKeep}

@@ -14,16 +14,16 @@ use Rattle.sc_calm_rows_law.specs.Definitions.{with_event}
 use Rattle.sc_calm_scenes_law.specs.Turns.{NewestAreBound}
 use Rattle.sc_calm_scenes_law.specs.Counted.{IsEntry}
 
--- a vote comes to a replica of this group, and if it stops by that, the newest state of the group is bound so
+-- A vote comes to a replica of this group; if it stops by that, the group's newest states have this bond.
 pub record IsSpoken (births : List (Seat Player)) (rows : Rows) (seat : Seat Player) (number : ℕ) (mail : Mail) (group : Draw) (bond : Bond) (r : ReplicaState) : Type 0 where
   pub named : name_of r ≡ group
   pub newest : (mailed mail.from mail.body (r, [])).0.0.running ≡ false → NewestAreBound births (with_event rows seat (Deliver number)) group bond
 
--- by an entry a group with this bond comes to another, and its leader sends these errands
+-- By this entry, which a vote decides, the group gets this bond, and its leader sends these errands (`IsEntry`).
 abbrev pub Fits : List (Seat Player) → Rows → Seat Player → ℕ → Mail → Draw → Work → Bond → List (Draw × List Errand) → Command → ReplicaState → Type 0
 Fits births rows seat number mail group work bond sent command r = IsSpoken births rows seat number mail group bond r → IsEntry births rows seat number mail group work bond sent command r
 
--- So do the orders of a group that is free; a vote that is true; a vote that is recorded, where it is No or gives Decided or Changed; and an outcome that is taken.
+-- Which entries fit: the orders of a group that is free; a true vote of the group; a No that the coordinator records, a Yes that decides or changes the group; and an outcome that a party takes.
 pub record EntriesFit : Type 0 where
   pub join : (births : List (Seat Player)) (rows : Rows) (seat : Seat Player) (number : ℕ) (mail : Mail) (group : Draw) (r : ReplicaState) (node order : ℕ) → r.group.core.lock ≡ Free
       → Fits births rows seat number mail group Changes Unbound [] (Join node order) r

@@ -1,4 +1,4 @@
--- What has to be found where a row comes, by the mail that it takes or the order that it tells, so that an order stays under way.
+-- What a row has to find, by the mail that it takes or the order that it gives, so that an order stays under way.
 use Rattle.std.specs.Prelude.{◌≡◌, ℕ, ◌<◌, Bool, true, false, List, [], ◌∷◌, Option, if◌then◌else◌, Some, None}
 use Rattle.sc_base.specs.Definitions.{Each, is_member}
 use Rattle.sc_node_table.specs.Values.{Draw, Command, OrderLine, OrderRefusal, Mail, MailBody, Request, Answer, Prepare, Promise, Accept, Accepted, Nack, Learn, Ask, Install, TxPrepare, TxVote, TxOutcome, TxElsewhere, TxWatch, TxWatched, Told as ToldMail, Node, Client, Seat, Event, Deliver, Flight, Report}
@@ -25,21 +25,22 @@ use Rattle.sc_calm_scenes_law.specs.Turns.{LeadsAlone}
 
 -- ---- the leader
 
--- a settled coordinator is sent to a node
+-- A settled coordinator is sent to a node, to ask there.
 pub record IsSentOn (me : ℕ) (hint : Option ℕ) (r : ReplicaState) : Type 0 where
   pub to : ℕ
   pub hint_is : hint ≡ Some to
   pub me_is : r.me ≡ me
   pub settles : settled r ≡ true
 
--- a promise reports nothing, to a leader that has one work, or none
+-- A promise without reports comes to a leader that has one work, or none, and that no report binds.
 pub record IsBarePromise (reports : List (Report Command)) (r : ReplicaState) : Type 0 where
   pub bare : reports ≡ []
   pub unbound : IsUnbound r
   pub work : Option Work
   pub works_are : works r ≡ listed work
 
--- a vote finds nothing in flight at its slot, or leaves the work; or the one command in flight, which is of one of the kinds of entries
+-- What a vote finds at the leader. `Late`: nothing is in flight at its slot. `Leaves`: it leaves the work as it is.
+-- Otherwise: one command is in flight, alone, and it is an entry of one of the kinds of `VotesKeep`.
 pub data FindsFlight (births : List (Seat Player)) (rows : Rows) (seat : Seat Player) (number : ℕ) (mail : Mail) (group : Draw) (r : ReplicaState) (slot : ℕ) : Type 0 where
   Late : flight_at slot r.leader.flights ≡ None → FindsFlight births rows seat number mail group r slot
   Leaves : Works (works r) [] r (mailed mail.from mail.body (r, [])).0 → FindsFlight births rows seat number mail group r slot
@@ -61,7 +62,7 @@ pub data FindsFlight (births : List (Seat Player)) (rows : Rows) (seat : Seat Pl
       → bond_of r.group.core ≡ Asking tx asked First → StaysIn flight.value r.me r.group → (watcher ≡ group → ⊥) × (watcher ≡ asked → ⊥) → FindsFlight births rows seat number mail group r slot
   Ended : (flight : Flight Command) (tx : Draw) → FliesLone flight r → r.me ≡ seat.who → IsEntry births rows seat number mail group (Ends tx) Unbound [] flight.value r → FindsFlight births rows seat number mail group r slot
 
--- what a mail finds at the leader, by its body
+-- What a mail has to find at the leader, by its body.
 abbrev pub LeaderFinds : List (Seat Player) → Rows → Seat Player → ℕ → Mail → Draw → ReplicaState → MailBody → Type 0
 LeaderFinds births rows seat number mail group r (TxPrepare tx offer) = IsUnbound r × (standing_vote r.group.core tx ≡ None)
 LeaderFinds births rows seat number mail group r (TxWatch tx watch) = IsUnbound r × (standing_vote r.group.core tx ≡ None)
@@ -83,7 +84,7 @@ LeaderFinds births rows seat number mail group r (ToldMail order result) = Unit 
 
 -- ---- beside it
 
--- .. at a replica beside the leader
+-- What a mail has to find at a replica that does not lead, by its body.
 abbrev pub BesideFinds : Mail → ReplicaState → MailBody → Type 0
 BesideFinds mail r (TxPrepare tx offer) = (offer.by ≡ mail.from) × ((r.running ≡ false) × (standing_vote r.group.core tx ≡ None))
 BesideFinds mail r (TxWatch tx watch) = (watch.by ≡ mail.from) × ((r.running ≡ false) × (standing_vote r.group.core tx ≡ None))
@@ -103,19 +104,19 @@ BesideFinds mail r (Request named client seq op) = r.running ≡ false
 BesideFinds mail r (Answer named seq answer) = Unit {0}
 BesideFinds mail r (ToldMail order result) = Unit {0}
 
--- a mail comes to the leader, or beside it
+-- The mail comes to the leader, or to a replica that does not lead, and finds there what it has to.
 pub data FindsReplica (births : List (Seat Player)) (rows : Rows) (seat : Seat Player) (number : ℕ) (mail : Mail) (group : Draw) (r : ReplicaState) : Type 0 where
   AtLeader : LeadsAlone births rows group seat.who r → LeaderFinds births rows seat number mail group r mail.body → FindsReplica births rows seat number mail group r
   AtAnother : IsBeside births rows seat (Deliver number) group (mailed mail.from mail.body (r, [])).0 → BesideFinds mail r mail.body → FindsReplica births rows seat number mail group r
 
 -- ---- where there is no replica
 
--- a whole state that a member sends, of a group that may be joined
+-- The state has as many sets of members as slots are open, and a replica of its group may be created at the node.
 pub record IsState (births : List (Seat Player)) (rows : Rows) (seat : Seat Player) (number : ℕ) (group : Draw) (slot : ℕ) (sets : List (List ℕ)) : Type 0 where
   pub whole : IsWholeState slot sets
   pub joins : MayJoin births rows seat (Deliver number) group
 
--- what a mail finds at a node without replica, by its body
+-- What a mail has to find at a node without a replica of its group, by its body.
 abbrev pub NodeFinds : List (Seat Player) → Rows → Seat Player → ℕ → Mail → Draw → MailBody → Type 0
 NodeFinds births rows seat number mail group (TxPrepare tx offer) = offer.by ≡ mail.from
 NodeFinds births rows seat number mail group (TxWatch tx watch) = watch.by ≡ mail.from
@@ -137,7 +138,7 @@ NodeFinds births rows seat number mail group (ToldMail order result) = Unit {0}
 
 -- ---- orders
 
--- an order is told the leader, where no leader has anything in flight; or it is refused beside it
+-- The leader is given the order, where no leader has anything in flight and all errands went to actors; or another replica refuses it.
 pub data FindsQuiet (words : ℕ → ℕ → ℕ × ℕ) (births : List (Seat Player)) (rows : Rows) (seat : Seat Player) (line : OrderLine) (node : NodeState) (r : ReplicaState) : Type 0 where
   ByLeader : LeadsAlone births rows (group_of_order line.order) seat.who r → IsUnbound r → Each (GoesToActor words births) (mails rows)
       → ((name : Draw) (node : ℕ) (r : ReplicaState) → view_at births rows name node ≡ Some r → r.running ≡ true → HasNothing r) → FindsQuiet words births rows seat line node r
@@ -145,7 +146,8 @@ pub data FindsQuiet (words : ℕ → ℕ → ℕ × ℕ) (births : List (Seat Pl
 
 -- ---- any row
 
--- What a row finds: a client takes no errand; no errand is barred; a node has its number; and a mail or an order finds what is said above.
+-- What a row has to find: a client takes no errand; no errand comes from one that may not send it; a node has its own number;
+-- and a mail or an order finds what `FindsReplica`, `NodeFinds` and `FindsQuiet` say.
 pub record FindsOrder (words : ℕ → ℕ → ℕ × ℕ) (births : List (Seat Player)) (rows : Rows) (seat : Seat Player) (event : Event OrderLine) : Type 0 where
   pub client : (client : ClientState) → value player_table seat rows ≡ Client client → errand_taken (mails rows) event ≡ None
   pub me_is : (node : NodeState) → value player_table seat rows ≡ Node node → node.me ≡ seat.who
@@ -157,19 +159,19 @@ pub record FindsOrder (words : ℕ → ℕ → ℕ × ℕ) (births : List (Seat 
       → NodeFinds births rows seat number mail group mail.body
   pub told : (line : OrderLine) (node : NodeState) (r : ReplicaState) → event ≡ Told line → IsOrdered words births rows seat line node r → FindsQuiet words births rows seat line node r
 
--- A row that finds this leaves the stage that stands, or is a step of its group to the next one.
+-- A row that finds this leaves the stage, or leads to the next one by a step of its group.
 abbrev pub FoundOrdersStep : Type 0
 FoundOrdersStep =
     (words : ℕ → ℕ → ℕ × ℕ) (births : List (Seat Player)) (rows : Rows) (seat : Seat Player) (event : Event OrderLine) → IsSeat births seat → AreInTime (players words births) (with_event rows seat event)
     → FindsOrder words births rows seat event → (stage : Stage) → IsAt stage (scene_at births rows) → StageAfter births rows seat event stage
 
--- So it keeps an order under way.
+-- If some stage stands before a row that finds this, some stage stands after it.
 abbrev pub FoundOrdersKeep : Type 0
 FoundOrdersKeep =
     (words : ℕ → ℕ → ℕ × ℕ) (births : List (Seat Player)) (rows : Rows) (seat : Seat Player) (event : Event OrderLine) → IsSeat births seat → AreInTime (players words births) (with_event rows seat event)
     → FindsOrder words births rows seat event → IsUnderWay (scene_at births rows) → IsUnderWay (scene_at births (with_event rows seat event))
 
--- So an order stays under way through a journal of a bounded scenario that comes in time, each of whose rows finds this.
+-- Some stage stands after each journal in time of a bounded scenario, each of whose rows finds this.
 abbrev pub FoundOrdersGoThrough : Type 0
 FoundOrdersGoThrough =
     (words : ℕ → ℕ → ℕ × ℕ) (scenario : Scenario) (journal : Rows) → IsBounded scenario → AreInTime (players words (births as_nodes scenario)) journal

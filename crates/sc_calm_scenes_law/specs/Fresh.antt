@@ -1,4 +1,4 @@
--- Which groups an order has not touched so far, and that these stay as they were in the quiet before it.
+-- Which groups an order has not touched so far, and that these stay as they were in the quiet journal before the order.
 use Rattle.std.specs.Prelude.{◌≡◌, ℕ, true, List, [], ◌∷◌, Some, None, ◌⊎◌}
 use Rattle.sc_base.specs.Definitions.{Each}
 use Rattle.sc_node_table.specs.Values.{Draw, OrderLine, Mail, AnswerBody, Answer, Seat, Deliver}
@@ -17,13 +17,14 @@ use Rattle.sc_calm_scenes_law.specs.Taken.{IsTaking}
 
 -- ---- groups
 
--- the participant that was heard
+-- The name is that of the participant that was heard.
 abbrev pub IsHeard : Turn → Draw → Type 0
 IsHeard First name = ⊥
 IsHeard Lone name = ⊥
 IsHeard (Next part host) name = name ≡ part
 
--- A group that an order at a stage has not touched: neither the one that was told it, nor one that took a question. Where nothing is under way any more, or an outcome is, none is said to be.
+-- The order, at this stage, has not touched the group: it neither took the order nor a question.
+-- At the stages where nothing is under way, or an outcome is, no group counts as untouched.
 abbrev pub IsFresh : Stage → Draw → Type 0
 IsFresh Still name = ⊥
 IsFresh (Ordered group chief work) name = name ≡ group → ⊥
@@ -35,27 +36,28 @@ IsFresh (Recorded deal agreed host) name = (name ≡ deal.coord → ⊥) × (nam
 IsFresh (Closes tx party) name = ⊥
 IsFresh (ClosesBoth tx one two) name = ⊥
 
--- a group has a replica
+-- Some node has a replica of the group.
 abbrev pub IsThere : List (Seat Player) → Rows → Draw → Type 0
 IsThere births rows name = (node : ℕ) × (r : ReplicaState) × (view_at births rows name node ≡ Some r)
 
--- .. or none
+-- No node has a replica of the group.
 abbrev pub IsNowhere : List (Seat Player) → Rows → Draw → Type 0
 IsNowhere births rows name = (node : ℕ) → view_at births rows name node ≡ None
 
--- each group that has a part in a stage is there
+-- Each group that has a part in this stage has a replica.
 abbrev pub AreThere : List (Seat Player) → Rows → Stage → Type 0
 AreThere births rows stage = Each (λ party. IsThere births rows party.0) (parties_of stage)
 
--- a mail is an errand
+-- The mail is an errand.
 abbrev pub IsErrand : Mail → Type 0
 IsErrand mail = (entry : Draw × Errand) × (errand_by mail.from mail.to mail.body ≡ Some entry)
 
--- .. if it is for this group
+-- If the mail is for this group, it is an errand.
 abbrev pub IsErrandFor : Draw → Mail → Type 0
 IsErrandFor name mail = group_of_mail mail.body ≡ Some name → IsErrand mail
 
--- At a stage that stands after some rows, its groups were there in the quiet before them; and each group that was there in the quiet before them and is untouched has the replicas that it had, and all mail under way for it are errands.
+-- This stage stands after these rows, and its groups had replicas in the quiet journal.
+-- Each group that had one there, and is untouched, has the replicas that it had, and all mail under way for it are errands.
 pub record AreUntouched (words : ℕ → ℕ → ℕ × ℕ) (births : List (Seat Player)) (quiet rows : Rows) (stage : Stage) : Type 0 where
   pub stands : IsAt stage (scene_at births rows)
   pub parties : AreThere births quiet stage
@@ -64,7 +66,8 @@ pub record AreUntouched (words : ℕ → ℕ → ℕ × ℕ) (births : List (Sea
 
 -- ---- rows
 
--- A delivery in time that finds what an order needs, and is no answer to a client; a child that it makes is of a group that was nowhere in the quiet before the order, and a group that is asked after it was there.
+-- A delivery in time that finds what an order needs, and is no answer to a client.
+-- Each child that it creates is of a group without replica in the quiet journal, and a group that is asked after it had one there.
 pub record IsDelivered (words : ℕ → ℕ → ℕ × ℕ) (births : List (Seat Player)) (quiet rows : Rows) (seat : Seat Player) (number : ℕ) : Type 0 where
   pub seated : IsSeat births seat
   pub timely : AreInTime (players words births) (with_event rows seat (Deliver number))
@@ -74,17 +77,17 @@ pub record IsDelivered (words : ℕ → ℕ → ℕ × ℕ) (births : List (Seat
       → Each (λ child. IsNowhere births quiet child.core.id) (mailed mail.from mail.body (r, [])).1
   pub asked : (deal : Deal) (to : ℕ) → IsAt (Asks deal to) (scene_at births (with_event rows seat (Deliver number))) → IsThere births quiet deal.asked
 
--- the rows after some deliveries, one after another
+-- The rows, with those of these deliveries appended, one after another.
 abbrev pub after_all : Rows → List (Seat Player × ℕ) → Rows
 after_all rows [] = rows
 after_all rows (turn ∷ turns) = after_all (with_event rows turn.0 (Deliver turn.1)) turns
 
--- each of these is such a delivery
+-- Each of these deliveries is one that `IsDelivered` describes.
 abbrev pub AreDelivered : (ℕ → ℕ → ℕ × ℕ) → List (Seat Player) → Rows → Rows → List (Seat Player × ℕ) → Type 0
 AreDelivered words births quiet rows [] = Unit {0}
 AreDelivered words births quiet rows (turn ∷ turns) = IsDelivered words births quiet rows turn.0 turn.1 × AreDelivered words births quiet (with_event rows turn.0 (Deliver turn.1)) turns
 
--- an order is told in quiet, where nothing is under way
+-- An order is given in a quiet journal, at the stage `Still`, and finds what it needs.
 pub record IsToldInQuiet (words : ℕ → ℕ → ℕ × ℕ) (births : List (Seat Player)) (quiet : Rows) (seat : Seat Player) (line : OrderLine) : Type 0 where
   pub seated : IsSeat births seat
   pub timely : AreInTime (players words births) (with_event quiet seat (Told line))
@@ -92,7 +95,8 @@ pub record IsToldInQuiet (words : ℕ → ℕ → ℕ × ℕ) (births : List (Se
   pub calm : is_quiet (players words births) quiet ≡ true
   pub finds : FindsOrder words births quiet seat (Told line)
 
--- So it is from the order on: after it, after each delivery, which leaves the stage or is a step to the next one, and so after all; what such a group is delivered is an errand; and a group that is asked, and has not taken the question, is one.
+-- `AreUntouched` holds after the order that is given in quiet, after each delivery, which leaves the stage or leads to the next one, and after all.
+-- What such a group is delivered is an errand; and a group that is asked, and has not taken the question, is such a group.
 pub record FreshGroupsStay : Type 0 where
   pub begins : (words : ℕ → ℕ → ℕ × ℕ) (births : List (Seat Player)) (quiet : Rows) (seat : Seat Player) (line : OrderLine) → IsToldInQuiet words births quiet seat line
       → (stage : Stage) × AreUntouched words births quiet (with_event quiet seat (Told line)) stage

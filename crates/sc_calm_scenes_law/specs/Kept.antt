@@ -1,4 +1,4 @@
--- That an order stays under way, row by row: which mail its leader takes, and which comes to one that does not lead.
+-- An order stays under way, row by row: which mail its leader takes, and which comes to a replica that does not lead.
 use Rattle.std.specs.Prelude.{◌≡◌, ℕ, true, false, List, [], Option, Some, None, ◌⊎◌}
 use Rattle.sc_base.specs.Definitions.{Each}
 use Rattle.sc_node_table.specs.Values.{Ballot, Draw, Offer, Watch, Command, Base, OrderLine, Outcome, Past, Vote, Mail, Accept, Prepare, Promise, Nack, Learn, Install, TxPrepare, TxVote, TxOutcome, TxElsewhere, TxWatch, TxWatched, Seat, Event, Deliver, Tick, Go, Crash, Drop, Again}
@@ -15,7 +15,7 @@ use Rattle.sc_calm_scenes_law.specs.Turns.{LeadsAlone}
 use Rattle.sc_calm_scenes_law.specs.Kinds.{IsUnled}
 use Rattle.sc_calm_scenes_law.specs.Taken.{MayBear, IsTaking}
 
--- an event, where these were sent before it, is one of a group: it delivers a mail of it, or tells it an order
+-- The event delivers a mail of this group, where `sent` is all mail sent before it, or gives the group an order.
 abbrev pub IsEventOf : List Mail → Event OrderLine → Draw → Type 0
 IsEventOf sent (Deliver number) group = (mail : Mail) × (numbered sent number ≡ Some mail) × (group_of_mail mail.body ≡ Some group)
 IsEventOf sent (Told line) group = group_of_order line.order ≡ group
@@ -25,7 +25,7 @@ IsEventOf sent Crash group = ⊥
 IsEventOf sent (Drop mail) group = ⊥
 IsEventOf sent (Again mail) group = ⊥
 
--- an order is told
+-- The event gives an order.
 abbrev pub IsTelling : Event OrderLine → Type 0
 IsTelling (Told line) = Unit {0}
 IsTelling (Deliver number) = ⊥
@@ -35,34 +35,35 @@ IsTelling Crash = ⊥
 IsTelling (Drop mail) = ⊥
 IsTelling (Again mail) = ⊥
 
--- from this stage a row goes to another by a step of its group; and only an order leads on from where nothing is under way
+-- The row leads from this stage to a later one by a step of its group; and from the stage `Still` only an order leads on.
 pub record GoesBy (rows : Rows) (event : Event OrderLine) (stage later : Stage) : Type 0 where
   pub group : Draw
   pub step : IsStepOf group stage later
   pub of : IsEventOf (mails rows) event group
   pub begins : stage ≡ Still → IsTelling event
 
--- the stage that stands after a row is that before it, or such a one
+-- After the row the same stage stands as before it, or one that follows by such a step.
 abbrev pub StageAfter : List (Seat Player) → Rows → Seat Player → Event OrderLine → Stage → Type 0
 StageAfter births rows seat event stage = (later : Stage) × IsAt later (scene_at births (with_event rows seat event)) × ((later ≡ stage) ⊎ GoesBy rows event stage later)
 
--- an order that is under way before a row is so after it, at that stage or one that follows
+-- If a stage stands before the row, it stands after it, or one that follows does.
 abbrev pub KeepsStage : List (Seat Player) → Rows → Seat Player → Event OrderLine → Type 0
 KeepsStage births rows seat event = (under : IsUnderWay (scene_at births rows)) → StageAfter births rows seat event under.0
 
--- a mail comes to a node with a replica of its group, and the children that the row makes may be made
+-- A mail comes in time to a node with a replica of its group, and the children that the row creates are as `MayBear` says.
 pub record ComesTo (words : ℕ → ℕ → ℕ × ℕ) (births : List (Seat Player)) (rows : Rows) (seat : Seat Player) (number : ℕ) (mail : Mail) (group : Draw) (r : ReplicaState) : Type 0 where
   pub node : NodeState
   pub taking : IsTaking words births rows seat number mail group node
   pub here : replica_of group node.replicas ≡ Some r
   pub children : Each (MayBear births rows seat) (mailed mail.from mail.body (r, [])).1
 
--- .. that leads it alone
+-- A mail comes to the one replica of its group that leads.
 pub record ComesToLeader (words : ℕ → ℕ → ℕ × ℕ) (births : List (Seat Player)) (rows : Rows) (seat : Seat Player) (number : ℕ) (mail : Mail) (group : Draw) (r : ReplicaState) : Type 0 where
   pub comes : ComesTo words births rows seat number mail group r
   pub leads : LeadsAlone births rows group seat.who r
 
--- What comes to the leader keeps an order under way: a question on which no vote stands, a vote for which it waits, the outcome of the transaction that binds it, and that it is to ask elsewhere; and what is asked for or promised.
+-- Which mails at the leader keep an order under way: a question on which it has cast no vote, a vote for which it waits, the outcome of the transaction in which it is bound,
+-- and `Elsewhere`; an Accept, a Prepare and a Nack for which it does not stop, and a promise without reports.
 pub record LeadersKeep : Type 0 where
   pub offer : (words : ℕ → ℕ → ℕ × ℕ) (births : List (Seat Player)) (rows : Rows) (seat : Seat Player) (number : ℕ) (mail : Mail) (group : Draw) (r : ReplicaState) (tx : Draw) (offer : Offer)
       → ComesToLeader words births rows seat number mail group r → mail.body ≡ TxPrepare tx offer → MayFile r → standing_vote r.group.core tx ≡ None → KeepsStage births rows seat (Deliver number)
@@ -85,23 +86,24 @@ pub record LeadersKeep : Type 0 where
   pub promise : (words : ℕ → ℕ → ℕ × ℕ) (births : List (Seat Player)) (rows : Rows) (seat : Seat Player) (number : ℕ) (mail : Mail) (group : Draw) (r : ReplicaState) (named : Draw) (ballot : Ballot) (work : Option Work)
       → ComesToLeader words births rows seat number mail group r → mail.body ≡ Promise named ballot [] → IsUnbound r → works r ≡ listed work → KeepsStage births rows seat (Deliver number)
 
--- another replica leads alone, and this one does not run by its row; or none runs, and the newest state stays
+-- Another replica leads alone, and this one does not lead after its row; or none leads, and the group's newest states stay bound as they were.
 pub data IsBeside (births : List (Seat Player)) (rows : Rows) (seat : Seat Player) (event : Event OrderLine) (group : Draw) (after : Place) : Type 0 where
   Led : (node : ℕ) (lead : ReplicaState) → LeadsAlone births rows group node lead → (node ≡ seat.who → ⊥) → after.0.running ≡ false → IsBeside births rows seat event group after
   Unled : IsUnled births rows seat event group after.0 → IsBeside births rows seat event group after
 
--- a mail comes to a replica that does not lead
+-- A mail comes to a replica that does not lead.
 pub record ComesBeside (words : ℕ → ℕ → ℕ × ℕ) (births : List (Seat Player)) (rows : Rows) (seat : Seat Player) (number : ℕ) (mail : Mail) (group : Draw) (r : ReplicaState) : Type 0 where
   pub comes : ComesTo words births rows seat number mail group r
   pub beside : IsBeside births rows seat (Deliver number) group (mailed mail.from mail.body (r, [])).0
 
--- a mail comes to a node without a replica of its group
+-- A mail comes to a node without a replica of its group.
 pub record ComesToNone (words : ℕ → ℕ → ℕ × ℕ) (births : List (Seat Player)) (rows : Rows) (seat : Seat Player) (number : ℕ) (mail : Mail) (group : Draw) : Type 0 where
   pub node : NodeState
   pub taking : IsTaking words births rows seat number mail group node
   pub none : replica_of group node.replicas ≡ None
 
--- What comes to another keeps it: a question of its sender, which is sent on, also where there is no replica; what is asked for; an entry that is learnt, and a state that is taken over.
+-- Which mails beside the leader keep an order under way: a question of its sender, which is sent back, also where there is no replica;
+-- an Accept and a Prepare; an entry that is learnt; and a state that is taken over.
 pub record AsidesKeep : Type 0 where
   pub offer : (words : ℕ → ℕ → ℕ × ℕ) (births : List (Seat Player)) (rows : Rows) (seat : Seat Player) (number : ℕ) (mail : Mail) (group : Draw) (r : ReplicaState) (tx : Draw) (offer : Offer)
       → ComesBeside words births rows seat number mail group r → mail.body ≡ TxPrepare tx offer → offer.by ≡ mail.from → r.running ≡ false → standing_vote r.group.core tx ≡ None → KeepsStage births rows seat (Deliver number)

@@ -10,15 +10,15 @@ use Rattle.sc_calm_rows_law.specs.Definitions.{view_at, with_event}
 use Rattle.sc_calm_scenes_law.specs.Scenes.{scene_at, taken_errand}
 use Rattle.sc_calm_scenes_law.specs.Turns.{errands_sent, IsSceneKind, NewestAreBound, IsTablesRow, LeadsAlone, NoneRuns}
 
--- ---- who does not lead
+-- ---- a replica that does not lead
 
--- a row leaves a group's bond, its work and its leader
+-- The row leaves the group's bond, its work and its leader.
 pub record Stays (births : List (Seat Player)) (rows : Rows) (seat : Seat Player) (event : Event OrderLine) (name : Draw) : Type 0 where
   pub bond : ((scene_at births (with_event rows seat event)).at name).bond ≡ ((scene_at births rows).at name).bond
   pub work : ((scene_at births (with_event rows seat event)).at name).work ≡ ((scene_at births rows).at name).work
   pub leads : GoesOn (scene_at births rows) (scene_at births (with_event rows seat event)) name
 
--- a group in which none runs has no work after a row and is bound as before, also where the replica of who acts runs by it: its newest state is bound so
+-- No replica of the group leads before the row, and its newest states have the same bond before and after it. If the acting node's replica leads after the row, it has no work, and its state has that bond.
 pub record IsUnled (births : List (Seat Player)) (rows : Rows) (seat : Seat Player) (event : Event OrderLine) (name : Draw) (after : ReplicaState) : Type 0 where
   pub none : NoneRuns births rows name
   pub bond : Bond
@@ -26,7 +26,8 @@ pub record IsUnled (births : List (Seat Player)) (rows : Rows) (seat : Seat Play
   pub has : NewestAreBound births (with_event rows seat event) name bond
   pub elected : after.running ≡ true → (works after ≡ []) × (bond_of after.group.core ≡ bond)
 
--- What leaves a group as it is: a row at a node without replica that makes none, one of a replica that does not run where another leads, and one where none runs.
+-- What leaves a group as it is: a row that leaves the acting node's replica of it, or its lack of one;
+-- a row of a replica that does not lead after it, where another does; and a row where none leads.
 pub record AsidesStay : Type 0 where
   pub missed : (births : List (Seat Player)) (rows : Rows) (seat : Seat Player) (event : Event OrderLine) (name : Draw)
       → view_at births (with_event rows seat event) name seat.who ≡ view_at births rows name seat.who → Stays births rows seat event name
@@ -35,7 +36,7 @@ pub record AsidesStay : Type 0 where
   pub unled : (births : List (Seat Player)) (rows : Rows) (seat : Seat Player) (event : Event OrderLine) (name : Draw) (r : ReplicaState) (after : Place)
       → IsTablesRow births rows seat event name r after → IsUnled births rows seat event name after.0 → Stays births rows seat event name
 
--- Such a row does nothing of the order if its mail is no errand and it sends none; and it passes a question on.
+-- A row that leaves the group does nothing of the order, if its mail is no errand and it sends none; and it sends a question back, if it takes one and sends `Elsewhere`.
 pub record AsidesAre : Type 0 where
   pub rests : (births : List (Seat Player)) (rows : Rows) (seat : Seat Player) (event : Event OrderLine) (name : Draw) → Stays births rows seat event name
       → taken_errand (mails rows) event ≡ None → IsOnly [] [] (errands_sent rows seat event) → IsSceneKind Rests births rows seat event name
@@ -44,13 +45,13 @@ pub record AsidesAre : Type 0 where
 
 -- ---- the leader
 
--- a row of the leader alone, which has this work after it and sends these errands
+-- A row of the one replica that leads, which has this work after it and sends these errands.
 pub record IsLeadsRow (births : List (Seat Player)) (rows : Rows) (seat : Seat Player) (event : Event OrderLine) (name : Draw) (done : List Work) (sent : List (Draw × List Errand)) (r : ReplicaState) (after : Place) : Type 0 where
   pub leads : LeadsAlone births rows name seat.who r
   pub table : IsTablesRow births rows seat event name r after
   pub works_so : Works done sent r after
 
--- What the leader's row is.
+-- Which kind of row the leader's row is: one that does nothing of the order, takes an order, takes an errand as its work, or asks elsewhere.
 pub record LeadersAre : Type 0 where
   pub rests : (births : List (Seat Player)) (rows : Rows) (seat : Seat Player) (event : Event OrderLine) (name : Draw) (r : ReplicaState) (after : Place) → IsLeadsRow births rows seat event name (works r) [] r after
       → taken_errand (mails rows) event ≡ None → IsSceneKind Rests births rows seat event name
@@ -64,7 +65,8 @@ pub record LeadersAre : Type 0 where
 
 -- ---- entries
 
--- a row in which the leader alone executes a command that was its one work: the group is bound so after it, and it sends these errands; it leads on, or the newest state is its own
+-- A row in which the one leader executes a command that was its one work: the group has this bond after it, and the row sends these errands.
+-- The leader leads on, or the group's newest states have this bond.
 pub record IsEntrysRow (births : List (Seat Player)) (rows : Rows) (seat : Seat Player) (event : Event OrderLine) (name : Draw) (work : Work) (bond : Bond) (sent : List (Draw × List Errand)) (r : ReplicaState) (after : Place) : Type 0 where
   pub leads : LeadsAlone births rows name seat.who r
   pub table : IsTablesRow births rows seat event name r after
@@ -75,7 +77,7 @@ pub record IsEntrysRow (births : List (Seat Player)) (rows : Rows) (seat : Seat 
   pub sends : IsOnly [] sent (λ other. errands_for other after.1)
   pub newest : (after.0.running ≡ false) → NewestAreBound births (with_event rows seat event) name bond
 
--- What such a row is, by the work: where the leader has to lead on, it does.
+-- Which kind of row such a row is, by the work that is executed.
 pub record EntriesAre : Type 0 where
   pub changed : (births : List (Seat Player)) (rows : Rows) (seat : Seat Player) (event : Event OrderLine) (name : Draw) (order : Work) (r : ReplicaState) (after : Place)
       → IsEntrysRow births rows seat event name order (bond_of r.group.core) [] r after → IsOrder order → IsSceneKind Changed births rows seat event name

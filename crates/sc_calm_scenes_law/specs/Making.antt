@@ -1,4 +1,4 @@
--- That an order stays under way where a node makes its replica of a state that it is sent.
+-- An order stays under way where a node creates its replica from a state that it is sent.
 use Rattle.std.specs.Prelude.{◌≡◌, ℕ, true, List, Some}
 use Rattle.sc_node_table.specs.Values.{Draw, Base, OrderLine, Mail, Install, Seat, Event, Deliver}
 use Rattle.sc_base.specs.Definitions.{is_member}
@@ -10,13 +10,14 @@ use Rattle.sc_calm_rows_law.specs.Definitions.{view_at, with_event, IsWholeState
 use Rattle.sc_calm_scenes_law.specs.Turns.{NewestAreBound, LeadsAlone, NoneRuns}
 use Rattle.sc_calm_scenes_law.specs.Kept.{KeepsStage, ComesToNone}
 
--- a group of which a replica is made by a row is led by another alone; or none runs, one has a replica, and the newest state stays
+-- What is needed of a group of which a row creates a replica: another replica leads it alone;
+-- or none leads, some node has a replica, and the newest states have the same bond before and after the row.
 pub data MayJoin (births : List (Seat Player)) (rows : Rows) (seat : Seat Player) (event : Event OrderLine) (group : Draw) : Type 0 where
   Led : (node : ℕ) (lead : ReplicaState) → LeadsAlone births rows group node lead → MayJoin births rows seat event group
   Unled : (bond : Bond) (node : ℕ) (other : ReplicaState) → NoneRuns births rows group → NewestAreBound births rows group bond → NewestAreBound births (with_event rows seat event) group bond
       → view_at births rows group node ≡ Some other → MayJoin births rows seat event group
 
--- So it does where the state is whole, and is sent by one of its members.
+-- A row in which a node creates a replica from a whole state, sent by a member of it, keeps an order under way.
 abbrev pub StatesKeep : Type 0
 StatesKeep =
     (words : ℕ → ℕ → ℕ × ℕ) (births : List (Seat Player)) (rows : Rows) (seat : Seat Player) (number : ℕ) (mail : Mail) (group : Draw) (slot : ℕ) (base : Base) (sets : List (List ℕ))

@@ -1,4 +1,4 @@
--- Rows that are nothing to any order: of clients, of nodes that are told to go, and of nodes that get what is for no group, or not theirs.
+-- Rows that are nothing to any order: those of clients, `Go` at nodes, and mail at nodes that is for no group or that they do not take.
 use Rattle.std.specs.Prelude.{◌≡◌, ℕ, false, List, Some, None}
 use Rattle.sc_node_table.specs.Values.{OrderLine, Draw, Mail, Node, Client, Seat, Event, Deliver, Go}
 use Rattle.sc_actor.specs.declared.rows.Event.TheVariants.{Told}
@@ -13,7 +13,8 @@ use Rattle.sc_calm_rows_law.specs.Definitions.{IsSeat, with_event}
 use Rattle.sc_calm_scenes_law.specs.Scenes.{errand_taken}
 use Rattle.sc_calm_scenes_law.specs.Kept.{KeepsStage, ComesToNone}
 
--- Such a row keeps an order under way: where a client takes what is no errand, or goes; a node goes; it gets mail of no group, mail that may not come from its sender, or, without replica, mail of a group that is no errand and of which it makes none; or it is told an order of a group of which it has no replica.
+-- Which rows keep an order at its stage: a client's, if it takes no errand; a node's `Go`; a node's mail of no group, mail that may not come from its sender,
+-- mail at a node without a replica of its group that is no errand and creates none; and an order for a group of which the node has no replica.
 pub record OthersKeep : Type 0 where
   pub client : (words : ℕ → ℕ → ℕ × ℕ) (births : List (Seat Player)) (rows : Rows) (seat : Seat Player) (event : Event OrderLine) (client : ClientState) → IsSeat births seat → AreInTime (players words births) (with_event rows seat event)
       → value player_table seat rows ≡ Client client → errand_taken (mails rows) event ≡ None → KeepsStage births rows seat event

@@ -1,4 +1,4 @@
--- Who takes a mail or an order: its row is one of its group, and the replica there does what its table says.
+-- Who takes a mail or an order: the row is one of its group, and the replica there does what its table says.
 use Rattle.std.specs.Prelude.{◌≡◌, ℕ, ◌==◌, true, false, List, [], Some, None, ◌⊎◌}
 use Rattle.sc_base.specs.Definitions.{Each}
 use Rattle.sc_node_table.specs.Values.{Draw, Base, Free, OrderLine, Mail, Node, Seat, Deliver}
@@ -13,13 +13,14 @@ use Rattle.sc_calm_rows_law.specs.Definitions.{view_at, IsSeat, with_event}
 use Rattle.sc_calm_scenes_law.specs.Scenes.{scene_at}
 use Rattle.sc_calm_scenes_law.specs.Turns.{NewestAreBound, IsOfGroup, IsTablesRow}
 
--- a child that may be made at a seat: it is free, its newest replicas are, and its own replica there does not run, or none does yet
+-- What is needed of a child that a row creates at a seat: it is free, the newest states of its group, if any, are bound by nothing,
+-- and its first leader is another node, or no replica of it leads yet.
 pub record MayBear (births : List (Seat Player)) (rows : Rows) (seat : Seat Player) (child : Base) : Type 0 where
   pub free : child.core.lock ≡ Free
   pub newest : NewestAreBound births rows child.core.id Unbound
   pub first : ((child.core.first == seat.who) ≡ false) ⊎ ((scene_at births rows).lead child.core.id ≡ None)
 
--- a node at a seat takes a mail in time
+-- The node at this seat takes a mail of this group in time, from one that may send it.
 pub record IsTaking (words : ℕ → ℕ → ℕ × ℕ) (births : List (Seat Player)) (rows : Rows) (seat : Seat Player) (number : ℕ) (mail : Mail) (group : Draw) (node : NodeState) : Type 0 where
   pub seated : IsSeat births seat
   pub timely : AreInTime (players words births) (with_event rows seat (Deliver number))
@@ -29,7 +30,8 @@ pub record IsTaking (words : ℕ → ℕ → ℕ × ℕ) (births : List (Seat Pl
   pub comes : may_come mail.from mail.body ≡ true
   pub named : group_of_mail mail.body ≡ Some group
 
--- Its row is one of the mail's group, and what it does there is what the table of the replica does; where it has none, and the mail is an errand, it answers as one without.
+-- The row of such a mail, or of an order, is one of its group, and the replica there does what its table says.
+-- Where the node has no replica and the mail is an errand, it answers as a node without one.
 pub record RowsAreTaken : Type 0 where
   pub taken : (words : ℕ → ℕ → ℕ × ℕ) (births : List (Seat Player)) (rows : Rows) (seat : Seat Player) (number : ℕ) (mail : Mail) (group : Draw) (node : NodeState) (r : ReplicaState)
       → IsTaking words births rows seat number mail group node → replica_of group node.replicas ≡ Some r → Each (MayBear births rows seat) (mailed mail.from mail.body (r, [])).1

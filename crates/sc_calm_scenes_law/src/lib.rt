@@ -1,3 +1,3 @@
-//! The scene of an order after some rows of players, and which rows of it the rows of a journal
-//! are. Definitions and laws, no logic.
+//! The scene of an order after some rows of players (which part each group has in it), and which
+//! rows of the scene the rows of a journal are. Definitions and laws; no function.
 #![tactic(auto)]

@@ -1,4 +1,4 @@
--- A leader that has counted an entry tells what is told of it, and leads on where it is a member of a group that stands.
+-- A leader that has counted an entry sends what `told_of` says of it, and leads on where it is a member of a group that stands.
 use Rattle.std.proofs.Common.{◌≡◌, ℕ, not, eqb, Bool, true, false, cond, List, [], ◌∷◌, ◌++◌, Option, Some, None, ◌⊎◌, inl, inr, refl, sym, ◌∙◌, ap, subst}
 use Rattle.std.specs.List.{filter}
 use Rattle.sc_node_table.specs.Values.{Command, Route, AnswerBody, Mail}
@@ -140,7 +140,7 @@ module _ (at : Sets) (course : Course) (command : Command) (r : ReplicaState) (m
         subst (λ (p : Place). LeadsPast at course command (r, mails) (looked (left p))) (sym landed_there)
         (ends (LeadsPast at course command (r, mails)) over told.1 ((entered_keeps command r).0 ∙ led.running) is_next.roster goes_on ends_off)
 
-  -- what follows once clients and the desk are told
+  -- what follows once clients and the desk have their answers
   abbrev pub then_on : Place → Place
   then_on place1 = looked (left (landed true (next r) command (welcomed true (members r) (learnt_to true (members r) (next r) command (spoken true (before_of r.group.core) (applied r.group command).1 command place1)))))
 
@@ -156,6 +156,6 @@ module _ (at : Sets) (course : Course) (command : Command) (r : ReplicaState) (m
       (past acts calls said.1 (λ who. (spoken_same (name_of r) who (before_of r.group.core) (applied r.group command).1 command q more).1 ∙ same who)))
       (applied r.group command).1 command
 
--- A leader that has counted an entry sends no other mail of agreement than what is told of it, and leads on where it is a member of a group that stands, with the entry's slot over; else it runs no longer.
+-- A leader that has counted an entry sends no other mail of agreement than what `told_of` says of it, and leads on where it is a member of a group that stands, with the entry's slot over; else it runs no longer.
 pub entries_lead : EntriesLead
 entries_lead at course command (r, mails) led is_next = leads_past at course command r mails led is_next

@@ -1,4 +1,4 @@
--- The least member is elected by an entry that it is told, and asks each node that decides an open slot to promise its ballot.
+-- The least member is elected by an entry that it learns, and asks each node that decides an open slot to promise its ballot.
 use Rattle.std.proofs.Common.{◌≡◌, ℕ, zero, suc, ◌+◌, ◌-◌, ◌*◌, ◌^◌, ◌<◌, ◌&&◌, ◌||◌, not, eqb, Bool, true, false, true≢false, cond, List, [], ◌∷◌, ◌++◌, length, Option, Some, inl, inr, refl, sym, ◌∙◌, ap, subst, arith, append-nil}
 use Rattle.std.specs.Prelude.{nat_le}
 use Rattle.std.specs.List.{filter}
@@ -185,7 +185,7 @@ module _ (command : Command) (r : ReplicaState) (off : r.running ≡ false) (non
       subst (λ (p : Place). ElectsBy slot (entered command r).sets r (pumped (executed_ready p.0.ready p).0)) (sym one_is)
       (subst (ElectsBy slot (entered command r).sets r) (sym (no_pump leading.0 leading.1 (next_ballot last) (next last))) elects)
 
--- The least member that takes no member for the leader elects itself by an entry that it is told: it runs with the next round of its own, and asks each node that decides an open slot to promise it.
+-- The least member that takes no member for the leader elects itself by an entry that it learns: it runs with the next round of its own, and asks each node that decides an open slot to promise it.
 pub tables_elect : TablesElect
 unfolding mailed
 tables_elect from slot command r fit off none low may name = told_is (ElectsBy slot (entered command r).sets r) from slot command r fit.1 low (executed_elects command r off none slot fit.1 may name)

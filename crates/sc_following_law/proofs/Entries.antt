@@ -1,4 +1,4 @@
--- What a leader sends of an entry that it counted: the members before it are told, and those that come are welcomed.
+-- What a leader sends of an entry that it counted: the members before it learn it, and those that join are welcomed.
 use Rattle.std.proofs.Common.{◌≡◌, ℕ, ◌+◌, ◌-◌, ◌<◌, ◌||◌, Some, not, eqb, Bool, true, false, true≢false, cond, List, [], ◌∷◌, ◌++◌, inl, inr, refl, sym, ◌∙◌, ap, arith, append-nil}
 use Rattle.std.specs.List.{All, AllPairs, filter}
 use Rattle.std.proofs.lemmas.Bool.{cases_Bool, cases_eq, cond_both, cond-true, cond-false, eqb-true, eq-eqb, ne_eqb, or_left, or_from, not_from_true, not_from_false}
@@ -139,7 +139,7 @@ module _ (at : Sets) (course : Course) (before : List ℕ) (slot : ℕ) (command
       once (welcome_of r) who newcomers (AllPairs-filter (λ x y. x < y) (λ node. not (is_member before node)) (members r) (AllPairs-from_increasing (members r) l.rosters.1.ascending))
       ∙ ap (λ w. cond (is_member newcomers who) w []) welcomes
 
-  -- by who it is, what is told and what is welcomed
+  -- by which node it is: what it is sent to learn, and the welcome that it is sent
   sent_is : (told : List Mark) → marks_for (name_of r) who told_mails ≡ old ++ told → told ++ cond (is_member newcomers who) (welcome course slot) [] ≡ told_of at course slot who
       → marks_for (name_of r) who (welcomed_all newcomers (r, told_mails)).1 ≡ old ++ told_of at course slot who
   sent_is told first both =
@@ -176,6 +176,6 @@ module _ (at : Sets) (course : Course) (before : List ℕ) (slot : ℕ) (command
         (other ne)
   ]
 
--- What a leader sends of an entry that it counted is what is told of it: the members before the entry learn it, and each that it adds is sent the state, and asked to promise a later ballot.
+-- What a leader sends of an entry that it counted is `told_of`: the members before the entry learn it, and each that it adds is sent the state, and asked to promise a later ballot.
 pub entries_tell : EntriesTell
 entries_tell at course before slot command r mails l who = tells at course before slot command r mails l who

@@ -363,7 +363,7 @@ ready_leads at course (e ∷ es) place led are = by (next_ready place.0) refl ar
 
 -- ---- the whole
 
--- All that a leader executes at once, and the pump after each, tells what is told of so many entries, and then asks for what it offers behind what is in flight, if it leads on.
+-- All that a leader executes at once, and the pump after each, sends what `told_from` says of these entries, and then asks for what it offers behind what is in flight, if it leads on.
 pub executions_lead : ExecutionsLead
 unfolding executed
 executions_lead at course command place led ready is_next are =

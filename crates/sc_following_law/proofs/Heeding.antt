@@ -230,7 +230,7 @@ module _ (at : Sets) (by : Tellers) (now after : Progress) (node : ℕ) (taken :
 begins : (at : Sets) (by : Tellers) (ballot : Ballot) (hints : ℕ → Option ℕ) → ((node : ℕ) → (node ≡ ballot.node → ⊥) → IsOpen at 1 node → hints node ≡ Some ballot.node) → IsHeeding at by (begun (members_at at 1) ballot) hints (λ node. [])
 begins at by ballot hints so = record { heeds = λ node other. tt; ends = λ r node ne o. so node ne o; left = λ off. absurd (true≢false off) }
 
--- Whom each node takes for the leader is kept by each kind of row: while one leads, all others that decide an open slot take it for that once they have taken their mail, and each is told an entry by the one that it takes for the leader then.
+-- Whom each node takes for the leader is kept by each kind of row: while one leads, all others that decide an open slot take it for that once they have taken their mail, and each learns an entry from the one that it takes for the leader then.
 pub hints_are_kept : HintsAreKept
 hints_are_kept = record {
   begin = begins;
@@ -242,7 +242,7 @@ hints_are_kept = record {
 
 -- ---- what follows
 
--- So a node that is told an entry takes a member for the leader after it, or is not the least member, or the entry is the last one and none leads; and then it takes no member for it.
+-- A node that learns an entry takes a member for the leader after it, or is not the least member, or the entry is the last one and none leads; and then it takes no member for it.
 pub nodes_heed : NodesHeed
 nodes_heed = record {
   told = λ at by now hints marks node slot rest h other is.

@@ -29,7 +29,7 @@ module _ (at : Sets) (by : Tellers) where
     heeded-change promise hint [] f = tt
     heeded-change promise hint (mark ∷ marks) f = (one_change hint mark f.0, heeded-change (promise_by promise mark) (hint_by at by promise hint mark) marks f.1)
 
-  -- where a node is taken no further, it is told nothing
+  -- where a node is taken no further, it learns nothing
   pub no_more : (course : Course) (node next : ℕ) (promise : Ballot) (marks : List Mark) → AreFit next promise marks → reached next marks ≤ next → (hint : Option ℕ) → AreHeeded at by course node promise hint marks
   no_more course node next promise [] f le hint = tt
   no_more course node next promise (Asks ballot slot ∷ marks) f le hint = (tt, no_more course node next promise marks f.1 le (Some ballot.node))
@@ -79,7 +79,7 @@ module _ (at : Sets) (by : Tellers) where
   offers-hinted course from who promise hint (Prepares ballot ∷ marks) e is = absurd e.0
   offers-hinted course from who promise hint (Promises n ballot ∷ marks) e is = absurd e.0
 
-  -- ---- what is told
+  -- ---- what is learnt
 
   module _ (now after : Course) (who : ℕ) (apart : who ≡ now.ballot.node → ⊥) where
     abbrev lead : ℕ

@@ -112,7 +112,7 @@ counts_of node promise (Asks ballot slot) who = cond_both (eqb who ballot.node) 
 counts_of node promise (Prepares ballot) who = cond_both (eqb who ballot.node && below promise ballot) (Promises node ballot ∷ []) [] (Each IsCount) (λ _. (tt, tt)) (λ _. tt)
 counts_of node promise _ who = tt
 
--- .. at a slot that is known
+-- what a node sends for a mail is at a slot that is known
 known_of : (course : Course) (node : ℕ) (promise : Ballot) (mark : Mark) (who : ℕ) → IsKnown course mark → Each (IsKnown course) (answered node promise mark who)
 known_of course node promise (Asks ballot slot) who k = cond_both (eqb who ballot.node) (Votes node ballot slot ∷ []) [] (Each (IsKnown course)) (λ _. (k, tt)) (λ _. tt)
 known_of course node promise (Prepares ballot) who k = cond_both (eqb who ballot.node && below promise ballot) (Promises node ballot ∷ []) [] (Each (IsKnown course)) (λ _. (tt, tt)) (λ _. tt)

@@ -69,7 +69,7 @@ none_taken r slot e = by (flight_at slot r.leader.flights) refl (at_slot r.ready
     by None i (Some c) j k = cc
     by (Some f) i p j k = cc
 
--- .. and where something is, but not ready, it is in flight
+-- what is in flight or ready at a slot, but not ready, is in flight
 pub taken_flies : (r : ReplicaState) (slot : ℕ) → is_some (taken_at r slot) ≡ true → at_slot r.ready slot ≡ None → (flight : Flight Command) × (flight_at slot r.leader.flights ≡ Some flight)
 taken_flies r slot t none = by (flight_at slot r.leader.flights) refl (ap (λ p. is_some (either (flying r slot) p)) (sym none) ∙ t)
   where

@@ -1,4 +1,4 @@
--- A replica that does not run takes an entry that it is told as its mark says, and so the table follows.
+-- A replica that does not run takes an entry that it learns as the entry's mark says, and so the table follows.
 use Rattle.std.proofs.Common.{◌≡◌, ℕ, max, ◌≤◌, eqb, ltb, Bool, true, false, true≢false, cond, List, [], Option, Some, None, inl, inr, refl, sym, ◌∙◌, ap, subst, arith}
 use Rattle.std.specs.Option.{option_map}
 use Rattle.std.proofs.lemmas.Bool.{eqb-true, eq-eqb, le-ltb}
@@ -13,7 +13,7 @@ use Rattle.sc_following_law.specs.Definitions.{Tells, marks_for, StepsBy, IsInTi
 use Rattle.sc_following_law.proofs.Nodes.{marks-push, floor_low, accept_steps, prepare_steps, install_steps}
 use Rattle.sc_law_lemmas.proofs.Lemmas.{entered_next, idle_ready, idle_pump}
 
--- ---- what the desk is told is nothing to a group
+-- ---- what the desk is sent is nothing to a group
 
 module _ (name : Draw) (who : ℕ) where
   pub desk_marks : (me number : ℕ) (result : ToldResult) (mails : List Mail) → marks_for name who (told_order me number result mails) ≡ marks_for name who mails
@@ -48,7 +48,7 @@ module _ (name : Draw) (who : ℕ) where
   unfolding spoken spoken_mails
   spoken_marks before effect command r mails = (refl, begun_marks r.me before effect command mails)
 
--- ---- the parts of an entry that is told
+-- ---- the parts of an entry that is learnt
 
 learnt_same : (before : List ℕ) (slot : ℕ) (command : Command) (r : ReplicaState) (mails : List Mail) → learnt_to false before slot command (r, mails) ≡ (r, mails)
 unfolding learnt_to
@@ -156,7 +156,7 @@ module _ (command : Command) (r : ReplicaState) (off : r.running ≡ false) (non
         let same : pumped (executed_ready place.0.ready place).0 ≡ place = ap (λ (step : Executed). pumped step.0) (idle_ready place.0.ready place still) ∙ idle_pump place still in
         subst (StepsBy (Tells slot) r) (sym same) entry_steps
 
--- an entry that is told at its slot is executed
+-- an entry that is learnt at its slot is executed
 pub told_is : (P : Place → Type 0) (from slot : ℕ) (command : Command) (r : ReplicaState) → slot ≡ next r → slot ≤ last_slot → P (executed false command (r, [])).0 → P (learn_row from slot command (r, [])).0
 unfolding learn_row
 told_is P from slot command r at low p =

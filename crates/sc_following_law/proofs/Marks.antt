@@ -248,10 +248,10 @@ offers-each P at course from who f (Installs slot ∷ marks) e = absurd e.0
 offers-each P at course from who f (Prepares ballot ∷ marks) e = absurd e.0
 offers-each P at course from who f (Promises node ballot ∷ marks) e = absurd e.0
 
--- ---- what is told where entries are executed
+-- ---- what is sent where entries are executed
 
 module _ (at : Sets) (course : Course) (who : ℕ) where
-  -- it tells, has a state, or asks to promise the ballot
+  -- it is an entry to be learnt, a state, or a request to promise the ballot
   pub told-each : (P : Mark → Type 0) → ((slot : ℕ) → P (Tells slot)) → ((slot : ℕ) → P (Installs slot)) → P (Prepares course.ballot) → (more slot : ℕ) → Each P (told_from at course slot more who)
   told-each P tells installs prepares zero slot = tt
   told-each P tells installs prepares (suc more) slot = Each-append P (told_of at course slot who) (told_from at course (slot + 1) more who) one (told-each P tells installs prepares more (slot + 1))
@@ -265,7 +265,7 @@ module _ (at : Sets) (course : Course) (who : ℕ) where
           (λ _. cond_both (is_member (members_at at slot) who) (Tells slot ∷ []) (cond (is_member (members_at at (slot + 1)) who) (welcome course slot) []) (Each P) (λ _. (tells slot, tt))
           (λ _. cond_both (is_member (members_at at (slot + 1)) who) (welcome course slot) [] (Each P) (λ _. welcomed_each) (λ _. tt)))
 
-  -- the one that leads is told nothing
+  -- the one that leads is sent nothing
   pub told-own : who ≡ course.ballot.node → (more slot : ℕ) → told_from at course slot more who ≡ []
   told-own is zero slot = refl
   told-own is (suc more) slot =
@@ -273,7 +273,7 @@ module _ (at : Sets) (course : Course) (who : ℕ) where
       (cond-true (eqb who course.ballot.node) [] (cond (is_member (members_at at slot) who) (Tells slot ∷ []) (cond (is_member (members_at at (slot + 1)) who) (welcome course slot) [])) (eq-eqb who course.ballot.node is))
       ∙ told-own is more (slot + 1)
 
-  -- where a node is that is told from a slot on, once this one is next: no further than that, a member there, and one that decides an open slot has a replica and promised the ballot
+  -- where a node is that is sent all entries from a slot on, once this one is next: no further than that, a member there, and one that decides an open slot has a replica and promised the ballot
   pub record IsTold (from slot next : ℕ) (promise : Ballot) : Type 0 where
     pub low : next ≤ slot
     pub member : is_member (members_at at slot) who ≡ true → next ≡ slot
@@ -281,12 +281,12 @@ module _ (at : Sets) (course : Course) (who : ℕ) where
     pub first : course.is_first ≡ true → promise ≡ course.ballot
     pub opens : (other : ℕ) → from ≤ other → other < slot + slots_ahead → is_member (at other) who ≡ true → (1 ≤ next) × (promise ≡ course.ballot)
 
-  -- what is told comes in time, and takes it there
+  -- what is sent comes in time, and takes it there
   abbrev IsToldBy : ℕ → ℕ → ℕ → Ballot → List Mark → Type 0
   IsToldBy from slot next promise marks = AreFit next promise marks × IsTold from slot (reached next marks) (pledged promise marks)
 
   module _ (apart : who ≡ course.ballot.node → ⊥) where
-    -- a member is told, one that comes is welcomed, and others are sent nothing
+    -- a member is sent the entry, one that joins is welcomed, and others are sent nothing
     pub told-cases : (P : List Mark → Type 0) (slot : ℕ) → (is_member (members_at at slot) who ≡ true → P (Tells slot ∷ []))
         → (is_member (members_at at slot) who ≡ false → is_member (members_at at (slot + 1)) who ≡ true → P (welcome course slot))
         → (is_member (members_at at slot) who ≡ false → is_member (members_at at (slot + 1)) who ≡ false → P []) → P (told_of at course slot who)

@@ -62,7 +62,7 @@ saw_either P ballot r mails goes p q = by (below r.top ballot)
     by true = subst P (sym (stays (record r { top = ballot }))) p
     by false = subst P (sym (stays r)) q
 
--- .. and whatever it takes for the leader
+-- a property holds after `hinted`, if it holds with the old hint and with the ballot's node as hint
 hinted_either : (P : ReplicaState → Type 0) (ballot : Ballot) (r : ReplicaState) → P r → P (record r { hint = Some ballot.node }) → P (hinted ballot r)
 hinted_either P ballot r p q = by r.running
   where

@@ -1,4 +1,4 @@
--- Marks under way to one that leads or is to lead: what asks to promise, what promises, and what tells the last entry.
+-- Marks under way to one that leads or is to lead: what asks to promise, what promises, and the last entry to be learnt.
 use Rattle.std.proofs.Common.{◌≡◌, ℕ, zero, suc, ◌+◌, ◌<◌, ◌≤◌, eqb, cond, List, [], ◌∷◌, ◌++◌, Option, Some, None, refl, sym, ap, subst, arith}
 use Rattle.std.proofs.lemmas.Bool.{cond_both}
 use Rattle.sc_base.specs.Definitions.{Each, is_member}

@@ -59,7 +59,7 @@ more_pass p q (y ∷ xs) f =
       | inr n ↦ (let a = none (p y) n in omega (arith, c, d, rest, a))
     ]
 
--- .. and one more element passes
+-- where one more element passes, the count is higher by one at least
 one_more : (p q : ℕ → Bool) (x : ℕ) (xs : List ℕ) → ((y : ℕ) → p y ≡ true → q y ≡ true) → p x ≡ false → q x ≡ true → is_member xs x ≡ true → count_by p xs + 1 ≤ count_by q xs
 one_more p q x [] f out in_ m = cc
 one_more p q x (y ∷ xs) f out in_ m =

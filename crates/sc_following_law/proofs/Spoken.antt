@@ -158,7 +158,7 @@ module _ (name : Draw) (R : List Mail → List Mail → Type 0) (same : (mails :
   ended_kept hint answer r mails =
       then_ _ _ _ (answered_kept r.me (name_of r) answer (under_way r) mails) (dismissed_kept r.me (name_of r) hint answer r.calls (answered_all r.me (name_of r) answer (under_way r) mails))
 
-  -- ---- what clients and the desk are told, but for queues
+  -- ---- what is sent to clients and the desk, but for queues
 
   module _ (P : Place → Type 0) (r : ReplicaState) (mails : List Mail) (p : (acts calls : List Command) (more : List Mail) → R mails more → P (record r { acts = acts; calls = calls }, more)) where
     call_kept : (o : Option AnswerBody) (command : Command) → P (told_call o command (r, mails))

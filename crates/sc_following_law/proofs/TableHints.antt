@@ -139,7 +139,7 @@ kept_after : (command : Command) (r : ReplicaState) → ((entered command r).hin
 unfolding entered forgotten
 kept_after command r = (refl, refl, refl)
 
--- So a replica that is told an entry by which it is to lead next elects itself, if it has a later round, and by any other entry it does not.
+-- A replica that learns an entry by which it is to lead next elects itself, if it has a later round, and by any other entry it does not.
 pub heirs_elect : HeirsElect
 heirs_elect at by now hints marks slot rest command r h is told = elim (nodes_heed.told at by now hints marks r.me slot rest h told.other is) [
   | inl m ↦ inl (inl (hinted ∙ m))

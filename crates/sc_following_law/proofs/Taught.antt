@@ -1,4 +1,4 @@
--- Each kind of row keeps it that members learn all entries, and nobody else is told one.
+-- Each kind of row keeps it that members learn all entries, and nobody else learns one.
 use Rattle.std.proofs.Common.{◌≡◌, ℕ, zero, suc, ◌+◌, ◌-◌, ◌<◌, ◌≤◌, Bool, true, false, cond, List, [], ◌∷◌, ◌++◌, Option, inl, inr, refl, sym, ◌∙◌, ap, subst, arith, append-nil}
 use Rattle.std.proofs.lemmas.Bool.{cases_eq, cases_lt, cond_both, cond-true}
 use Rattle.sc_base.specs.Definitions.{Among, Each, IsRoster, is_member}
@@ -22,7 +22,7 @@ fit_behind next promise (mark ∷ xs) ys f = fit_behind (next_by next mark) (pro
 more_reached : (next : ℕ) (promise : Ballot) (xs ys : List Mark) → AreFit next promise (xs ++ ys) → reached next xs ≤ reached next (xs ++ ys)
 more_reached next promise xs ys f = subst (λ n. reached next xs ≤ n) (sym (reached-append next xs ys)) (reached-least (reached next xs) (pledged promise xs) ys (fit_behind next promise xs ys f))
 
--- an entry that is told is learnt
+-- an entry that is taken to be learnt is learnt
 told_reached : (next : ℕ) (promise : Ballot) (marks : List Mark) (slot : ℕ) → AreFit next promise marks → Among (Tells slot) marks → slot < reached next marks
 told_reached next promise [] slot f a = absurd a
 told_reached next promise (mark ∷ marks) slot f (inl is) =
@@ -37,7 +37,7 @@ count_member at node (Promises other ballot) c = tt
 count_member at node _ c = absurd c
 
 module _ (at : Sets) (course : Course) (who : ℕ) (apart : who ≡ course.ballot.node → ⊥) where
-  -- each member of a state is told the entry after it
+  -- each member of a state is sent the entry after it
   told_among : (more slot j : ℕ) → j < more → is_member (members_at at (slot + j)) who ≡ true → Among (Tells (slot + j)) (told_from at course slot more who)
   told_among zero slot j low is = absurd (omega (arith, low))
   told_among (suc more) slot zero low is =
@@ -53,7 +53,7 @@ module _ (at : Sets) (course : Course) (who : ℕ) (apart : who ≡ course.ballo
       among-right (Tells (slot + suc j)) (told_of at course slot who) (told_from at course (slot + 1) more who)
       (subst (λ s. Among (Tells s) (told_from at course (slot + 1) more who)) (sym e) (told_among more (slot + 1) j (omega (arith, low)) (subst (λ s. is_member (members_at at s) who ≡ true) e is)))
 
-  -- and nobody else is told
+  -- nobody else is sent one
   one_member : (slot : ℕ) → Each (IsForMember at who) (told_of at course slot who)
   one_member slot =
       let e : slot + 1 ≡ suc slot = omega arith in
@@ -234,7 +234,7 @@ module _ (at : Sets) (by : Tellers) (now after : Progress) (node : ℕ) (taken :
       learnt = λ who slot is. elim (cases_eq who node) [ inl own ↦ subst (λ n. IsMemberBy at n slot) (sym own) (last_learnt slot (subst (λ n. after.next n ≡ suc slot) own is)) | inr ne ↦ others_learnt who ne slot is ];
     }
 
--- Each kind of row keeps it that each member of a state learns the entry after it, and that nobody else is told one.
+-- Each kind of row keeps it that each member of a state learns the entry after it, and that nobody else is sent one.
 pub taught_is_kept : TaughtIsKept
 taught_is_kept = record {
   begin = begin_taught;

@@ -1,4 +1,4 @@
--- The definitions of this crate that others cite, under one name.
+-- The definitions of this crate that other crates cite, in one module.
 pub use Rattle.sc_following_law.specs.Counted.{IsLed, IsNext, IsOn, IsOff, LeadsPast, led_on, led_off, EntriesLead}
 pub use Rattle.sc_following_law.specs.Dated.{Dated, marks_in, IsLow, AreLow, IsDatedRow, dated_for, from_slot_of, IsNoPrepare, dated_of, AsksLow, IsAskedLow, RowsAskNext, AsksFromNext, SlotsAreKept, PreparesAreKnown, ElectionsAskNext}
 pub use Rattle.sc_following_law.specs.Electing.{LeadersBegin, MayLeadNext, elected_by, ElectsInto, ElectionsLead, StepsTake}

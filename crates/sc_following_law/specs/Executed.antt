@@ -1,4 +1,4 @@
--- What a leader's table does by all that it executes at once, and by what it then offers, as the marks of it say.
+-- What a leader's table does by all entries that it executes at once, and by what it then offers, in terms of marks.
 use Rattle.std.specs.Prelude.{◌≡◌, ℕ, suc, ◌+◌, ◌<◌, ◌≤◌, true, false, List, [], ◌∷◌, ◌++◌, Some, None, is_some, ◌⊎◌}
 use Rattle.sc_base.specs.Definitions.{Among, Each, is_member}
 use Rattle.sc_node_table.specs.Values.{Command, Route, Flight}
@@ -11,28 +11,29 @@ use Rattle.sc_following_law.specs.Tables.{marks_for}
 use Rattle.sc_following_law.specs.Offers.{IsBegun, to_bound}
 use Rattle.sc_following_law.specs.Rows.{IsOffer, told_from}
 
--- the entries that are ready, so many at most, one after another
+-- The entries that are ready from the replica's next slot on, at most as many as this list is long, are each one that `IsNext` allows.
 abbrev pub AreNext : Sets → List (ℕ × Command) → Place → Type 0
 AreNext at [] place = Unit {0}
 AreNext at (e ∷ es) place = IfThere (λ command. IsNext at command place.0 × AreNext at es (executed_one true command place)) (Unit {0}) (next_ready place.0)
 
--- what is in flight from a slot on stays so, and what comes begins to fly at a slot from one bound to another
+-- From `slot` on, each flight stays in flight, and each new one begins without votes at a slot from `from` up to, but not including, `to`.
 pub record FliesOn (from to slot : ℕ) (flights after : List (Flight Command)) : Type 0 where
   pub kept : (at : ℕ) (flight : Flight Command) → slot ≤ at → flight_at at flights ≡ Some flight → flight_at at after ≡ Some flight
   pub grown : (at : ℕ) (flight : Flight Command) → slot ≤ at → flight_at at after ≡ Some flight → (flight_at at flights ≡ Some flight) ⊎ IsBegun from to flight
 
--- it leads on, up to another bound
+-- The replica leads on, with the course's bound moved to `bound`; it has counted the same promises, and keeps what is in flight from its next slot on.
 pub record IsStill (at : Sets) (course : Course) (bound : ℕ) (r after : ReplicaState) : Type 0 where
   pub led : IsLed at (to_bound bound course) after
   pub promisers : after.leader.promisers ≡ r.leader.promisers
   pub flies : FliesOn course.bound bound (next after) r.leader.flights after.leader.flights
 
--- .. or runs no longer, since its group is gone or it is no member any more
+-- The replica leads no longer: its group is gone, or it is no member any more.
 pub record IsStopped (after : ReplicaState) : Type 0 where
   pub running : after.running ≡ false
   pub over : ((into : Route) × (after.group.core.gone ≡ Some into)) ⊎ ((after.group.core.gone ≡ None) × (is_member (members after) after.me ≡ false))
 
--- It executes so many entries, each of which was ready, and after each but the last of which it is a member, tells what is told of them, and then offers at the slots from the bound to another one, if it leads on.
+-- A leader executes a number of entries that were ready, and is a member after each but the last.
+-- It sends what `told_from` says of them; if it leads on, it then offers at the slots from the bound up to a new bound.
 pub record LeadsBy (at : Sets) (course : Course) (place after : Place) : Type 0 where
   pub executed : ℕ
   pub within : next place.0 + executed ≤ course.bound
@@ -52,7 +53,7 @@ pub record LeadsBy (at : Sets) (course : Course) (place after : Place) : Type 0 
   pub asked : (slot node : ℕ) → course.bound ≤ slot → slot < bound → is_member (at slot) node ≡ true → Among (Asks course.ballot slot) (offers node)
   pub state : IsStill at course bound place.0 after.0 ⊎ (IsStopped after.0 × (1 ≤ executed) × (bound ≡ course.bound))
 
--- a table does so by a command that is ready at its next slot, and all that follows it
+-- A leader's table does what `LeadsBy` says, by a command that is ready at its next slot and all that follow it.
 abbrev pub ExecutionsLead : Type 0
 ExecutionsLead =
     (at : Sets) (course : Course) (command : Command) (place : Place) → IsLed at course place.0 → at_slot place.0.ready (next place.0) ≡ Some command → IsNext at command place.0

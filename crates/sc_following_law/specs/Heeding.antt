@@ -1,4 +1,4 @@
--- Whom a replica's table takes for the leader, and so which replica elects itself by an entry that it is told.
+-- Whom a replica's table takes for the leader, and so which replica elects itself when it learns an entry.
 use Rattle.std.specs.Prelude.{◌≡◌, ℕ, suc, ◌+◌, ◌-◌, ◌^◌, ◌<◌, ◌≤◌, false, List, [], ◌∷◌, length, Option, None, is_some, true, ◌⊎◌}
 use Rattle.sc_node_table.specs.Values.{Ballot, Draw, Command, Base, Prepare, Accept, Learn, Install}
 use Rattle.sc_base.specs.Definitions.{is_member}
@@ -9,7 +9,8 @@ use Rattle.sc_following_law.specs.Hints.{Tellers, hint_by, IsOther, IsHeeding, L
 use Rattle.sc_following_law.specs.Leading.{IsLeadOf, progress_by, LeadsInto}
 use Rattle.sc_following_law.specs.Tables.{IsInTime, Stays, MayElect}
 
--- one that does not run takes for the leader whom the mark of a mail that comes in time says: of an entry that leaves the group standing, and by which it does not elect itself, and of a state that a member sends
+-- A replica that does not lead takes for the leader whom `hint_by` says of the mark of a mail that comes in time.
+-- Of an entry this holds where the group stands after it and the replica does not elect itself; of a state, where its sender is a member.
 pub record HintsFollow : Type 0 where
   pub accept : (at : Sets) (by : Tellers) (ballot : Ballot) (slot : ℕ) (command : Command) (r : ReplicaState) → IsInTime (Asks ballot slot) r → GoesOn ballot r → r.acceptor.floor < next r → r.running ≡ false
       → (mailed ballot.node (Accept (name_of r) ballot slot command) (r, [])).0.0.hint ≡ hint_by at by r.acceptor.promised r.hint (Asks ballot slot)
@@ -23,27 +24,29 @@ pub record HintsFollow : Type 0 where
   pub made : (at : Sets) (by : Tellers) (promise : Ballot) (hint : Option ℕ) (me : ℕ) (group : Draw) (slot : ℕ) (base : Base) (sets : List (List ℕ)) → is_member base.core.members (by slot) ≡ true
       → (made_by me (by slot) group slot base sets).0.hint ≡ hint_by at by promise hint (Installs slot)
 
--- a replica that does not lead is told the entry of its next slot: it is where its group's progress says, and takes for the leader whom that says, and the entry leaves the members of its slot, and the group gone if it is the last one of such
+-- The replica that learns this entry does not lead, and agrees with its group's progress:
+-- whom it takes for the leader, the members after the entry, and, if the entry is the last one, whether the group is gone after it.
 pub record IsTold (at : Sets) (now : Progress) (hints : ℕ → Option ℕ) (slot : ℕ) (command : Command) (r : ReplicaState) : Type 0 where
   pub other : IsOther now.course r.me
   pub hint : r.hint ≡ hints r.me
   pub members_are : members_at at (slot + 1) ≡ members (entered command r)
   pub ends : suc slot ≡ now.course.newest → is_some (entered command r).group.core.gone ≡ now.course.gone
 
--- it is the one that is to lead next: the entry is the last one, none leads, the group stands, and it may elect itself while it has a later round
+-- The replica is to lead next: the entry is the last one, no node leads, and the group stands. It may elect itself while it has a later round.
 pub record IsHeir (now : Progress) (slot : ℕ) (command : Command) (r : ReplicaState) : Type 0 where
   pub idle : now.course.runs ≡ false
   pub stands : now.course.gone ≡ false
   pub last : suc slot ≡ now.course.newest
   pub may : r.top.round < 2 ^ 32 - 1 → MayElect (entered command r)
 
--- so a replica that is told an entry elects itself where it is to lead next, and else does not
+-- A replica that learns an entry does not elect itself, or it is the one that is to lead next.
 abbrev pub HeirsElect : Type 0
 HeirsElect =
     (at : Sets) (by : Tellers) (now : Progress) (hints : ℕ → Option ℕ) (marks : ℕ → List Mark) (slot : ℕ) (rest : List Mark) (command : Command) (r : ReplicaState)
     → IsHeeding at by now hints marks → marks r.me ≡ Tells slot ∷ rest → IsTold at now hints slot command r → Stays (entered command r) ⊎ IsHeir now slot command r
 
--- a leader's row in the table is one after each entry of which but the last it is a member; so where it counts those entries, and nobody comes by one by which it goes, it leaves last
+-- A leader's row in the table satisfies `LeavesLast`, if the leader counted each entry that it executes,
+-- and nobody joins by the entry by which the leader leaves.
 abbrev pub LeadersLeaveLast : Type 0
 LeadersLeaveLast =
     (at : Sets) (by : Tellers) (now : Progress) (taken : Option Mark) (r : ReplicaState) (after : Place) → IsLeadOf at now r → (l : LeadsInto at now taken r after)

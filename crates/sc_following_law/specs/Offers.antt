@@ -1,4 +1,4 @@
--- What a leader's table offers at its open slots, as the marks of it say.
+-- What a leader's table offers at its open slots, in terms of marks.
 use Rattle.std.specs.Prelude.{◌≡◌, ℕ, ◌+◌, ◌<◌, ◌≤◌, true, List, [], ◌∷◌, ◌++◌, length, None, is_some}
 use Rattle.sc_base.specs.Definitions.{Among, Each, is_member}
 use Rattle.sc_node_table.specs.Values.{Command, Flight}
@@ -7,12 +7,12 @@ use Rattle.sc_following_law.specs.Following.{Mark, Asks, Course, Sets}
 use Rattle.sc_following_law.specs.Tables.{marks_for}
 use Rattle.sc_following_law.specs.Rows.{IsOffer}
 
--- these are the members of the slots from one on
+-- These lists are the members of the slots from this one on.
 abbrev pub AreAt : Sets → ℕ → List (List ℕ) → Type 0
 AreAt at slot [] = Unit {0}
 AreAt at slot (set ∷ sets) = (at slot ≡ set) × AreAt at (slot + 1) sets
 
--- a replica's part in a group's course, as far as it offers: something is in flight or ready at each slot from its next one to the bound, and nothing from there on
+-- The replica agrees with its group's course about what was offered: something is in flight or ready at each slot from its next one up to the bound, and nothing from the bound on.
 pub record MayOffer (at : Sets) (course : Course) (r : ReplicaState) : Type 0 where
   pub ballot : r.leader.ballot ≡ course.ballot
   pub sets : AreAt at (next r) r.sets
@@ -21,17 +21,18 @@ pub record MayOffer (at : Sets) (course : Course) (r : ReplicaState) : Type 0 wh
   pub taken : (slot : ℕ) → next r ≤ slot → slot < course.bound → is_some (taken_at r slot) ≡ true
   pub free : (slot : ℕ) → course.bound ≤ slot → taken_at r slot ≡ None
 
--- one begins to fly, without votes, at a slot from one bound to another
+-- The flight has no votes, and is at a slot from `from` up to, but not including, `to`.
 pub record IsBegun (from to : ℕ) (flight : Flight Command) : Type 0 where
   pub least : from ≤ flight.slot
   pub most : flight.slot < to
   pub none : flight.voters ≡ None
 
--- the course with another bound
+-- The course with another bound.
 abbrev pub to_bound : ℕ → Course → Course
 to_bound bound course = record course { bound = bound }
 
--- It offers at the slots from the bound to another one: more is in flight, the queues are shorter, and nothing else changes; all that decide such a slot are asked, and nobody else.
+-- The replica offers at the slots from the course's bound up to a new one: more is in flight, the queues may change, and nothing else does.
+-- All nodes that decide such a slot are asked to accept, and no others.
 pub record OffersBy (at : Sets) (course : Course) (place after : Place) : Type 0 where
   pub bound : ℕ
   pub up : course.bound ≤ bound
@@ -46,6 +47,6 @@ pub record OffersBy (at : Sets) (course : Course) (place after : Place) : Type 0
   pub asks : (who : ℕ) → Each (IsOffer at (to_bound bound course) course.bound who) (offers who)
   pub asked : (slot node : ℕ) → course.bound ≤ slot → slot < bound → is_member (at slot) node ≡ true → Among (Asks course.ballot slot) (offers node)
 
--- a pump does so
+-- A pump, which offers queued commands at open slots, does what `OffersBy` says.
 abbrev pub PumpsOffer : Type 0
 PumpsOffer = (at : Sets) (course : Course) (place : Place) → MayOffer at course place.0 → OffersBy at course place (pumped place)

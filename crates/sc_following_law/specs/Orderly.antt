@@ -1,4 +1,4 @@
--- What a leader has in flight and ready: one command at a slot, and anything but a call or a filler alone.
+-- What a leader has in flight and ready: one command at a slot, and any command but a call or a filler alone.
 use Rattle.std.specs.Prelude.{◌≡◌, ℕ, ◌≤◌, Bool, true, List, [], ◌∷◌, Some, None, is_some, ◌⊎◌}
 use Rattle.sc_base.specs.Definitions.{Drawer, IsRoster, is_member}
 use Rattle.sc_node_table.specs.Values.{Ballot, Command, OrderLine, MailBody, Promise, Accepted, Flight}
@@ -9,16 +9,17 @@ use Rattle.sc_following_law.specs.Following.{Course, Progress, Sets}
 use Rattle.sc_following_law.specs.Counted.{IsLed}
 use Rattle.sc_following_law.specs.Leading.{IsLeadOf, IsAside, DecidesNext, ActsAlone}
 
--- no two commands are in flight at one slot
+-- No two of these flights are at the same slot.
 abbrev pub AreApart : List (Flight Command) → Type 0
 AreApart [] = Unit {0}
 AreApart (flight ∷ flights) = (flight_at flight.slot flights ≡ None) × AreApart flights
 
--- anything may be offered in the group's first ballot, and else once a promise is counted
+-- The replica may offer in its ballot: the ballot is the group's first, or at least one promise of it was counted.
 abbrev pub HasBallot : ReplicaState → Type 0
 HasBallot r = (r.leader.is_first ≡ true) ⊎ ((who : ℕ) × (is_member r.leader.promisers who ≡ true))
 
--- nor is one in flight where one is ready; where anything but a call or a filler is in flight or ready, nothing else is; no promise that is counted had reports; and what is in flight or ready was offered in a ballot that may be
+-- What a replica has in flight and ready is in order: one command at a slot, and a command other than a call or a filler is alone.
+-- No counted promise had reports, and whatever is in flight or ready was offered in a ballot in which the replica may offer.
 pub record IsOrderly (r : ReplicaState) : Type 0 where
   pub apart : AreApart r.leader.flights
   pub single : (slot : ℕ) → next r ≤ slot → is_some (at_slot r.ready slot) ≡ true → flight_at slot r.leader.flights ≡ None
@@ -26,7 +27,7 @@ pub record IsOrderly (r : ReplicaState) : Type 0 where
   pub plain : r.leader.reports ≡ []
   pub asked : (slot : ℕ) → next r ≤ slot → is_some (taken_at r slot) ≡ true → HasBallot r
 
--- so it is at one that leads in a course, and after each row of one that leads and leads on
+-- A leading replica that is in order satisfies `ActsAlone`, and each of its rows after which it leads on keeps `IsOrderly`.
 pub record OrderIsKept : Type 0 where
   pub alone : (at : Sets) (course : Course) (r : ReplicaState) → IsLed at course r → IsOrderly r → ActsAlone course r
   pub votes : (at : Sets) (now : Progress) (from : ℕ) (ballot : Ballot) (slot : ℕ) (r : ReplicaState) → ((s : ℕ) → IsRoster (at s)) → IsLeadOf at now r → DecidesNext at from ballot slot r → IsOrderly r

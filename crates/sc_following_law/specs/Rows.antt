@@ -1,4 +1,4 @@
--- What one row does to what stands between the leader of a group and its nodes, and that each row keeps it.
+-- What one row does between the leader of a group and its nodes, and that each kind of row keeps `IsFollowing`.
 use Rattle.std.specs.Prelude.{◌≡◌, ℕ, zero, suc, ◌+◌, ◌<◌, ◌≤◌, ◌==◌, ◌&&◌, true, false, List, [], ◌∷◌, ◌++◌, Option, Some, None, ◌⊎◌, if◌then◌else◌}
 use Rattle.sc_base.specs.Definitions.{Among, Each, IsRoster, is_member, least_of}
 use Rattle.sc_node_table.specs.Values.{Ballot}
@@ -6,7 +6,7 @@ use Rattle.sc_node_table.specs.Definitions.{listed, slots_ahead}
 use Rattle.sc_paxos_words.specs.Definitions.{below}
 use Rattle.sc_following_law.specs.Following.{Mark, Asks, Votes, Tells, Installs, Prepares, Promises, next_by, promise_by, Course, Progress, Sets, members_at, IsOpen, IsInFlight, IsFollowing}
 
--- A row of a node that takes a mail, or none of the group: the others stay where they are, and what is sent to each comes behind its mail.
+-- A row of a node that takes a mail of the group, or none: the other nodes stay where they are, and what the row sends to each node is appended to its mail.
 pub record IsRow (now after : Progress) (node : ℕ) (taken : Option Mark) (sent marks marks_after : ℕ → List Mark) : Type 0 where
   pub left : List Mark
   pub takes : marks node ≡ listed taken ++ left
@@ -15,7 +15,7 @@ pub record IsRow (now after : Progress) (node : ℕ) (taken : Option Mark) (sent
   pub next : (who : ℕ) → (who ≡ node → ⊥) → after.next who ≡ now.next who
   pub promise : (who : ℕ) → (who ≡ node → ⊥) → after.promise who ≡ now.promise who
 
--- A row that does nothing in the group.
+-- The row does nothing in the group.
 pub record IsIdle (now after : Progress) (node : ℕ) (taken : Option Mark) (sent : ℕ → List Mark) : Type 0 where
   pub takes : taken ≡ None
   pub next : after.next node ≡ now.next node
@@ -23,7 +23,7 @@ pub record IsIdle (now after : Progress) (node : ℕ) (taken : Option Mark) (sen
   pub course : after.course ≡ now.course
   pub sends : (who : ℕ) → sent who ≡ []
 
--- what a node sends for a mail: its vote, and its promise of a ballot that it has not promised, to the ballot's node
+-- What a node sends to each node for a mail: to the ballot's node its vote (phase 2b), or its promise (phase 1b) of a ballot that it has not promised yet.
 abbrev pub answered : ℕ → Ballot → Mark → ℕ → List Mark
 answered node promise (Asks ballot slot) who = if who == ballot.node then Votes node ballot slot ∷ [] else []
 answered node promise (Prepares ballot) who = if (who == ballot.node) && below promise ballot then Promises node ballot ∷ [] else []
@@ -32,7 +32,7 @@ answered node promise (Tells slot) who = []
 answered node promise (Installs slot) who = []
 answered node promise (Promises other ballot) who = []
 
--- a vote or a promise
+-- The mark is a vote or a promise.
 abbrev pub IsCount : Mark → Type 0
 IsCount (Votes node ballot slot) = Unit {0}
 IsCount (Promises node ballot) = Unit {0}
@@ -41,7 +41,8 @@ IsCount (Tells slot) = ⊥
 IsCount (Installs slot) = ⊥
 IsCount (Prepares ballot) = ⊥
 
--- A node takes a mail: it accepts, promises, executes what it is told, or takes the state that it is sent. It is no vote or promise where it leads, and not the last entry where it is to lead next.
+-- A node takes a mail: it accepts, promises, executes an entry that it learns, or takes over a state.
+-- The mail is no vote or promise where the node leads, and not the last entry where the node is to lead next.
 pub record Takes (at : Sets) (now after : Progress) (node : ℕ) (taken : Option Mark) (sent : ℕ → List Mark) : Type 0 where
   pub mark : Mark
   pub takes : taken ≡ Some mark
@@ -52,11 +53,11 @@ pub record Takes (at : Sets) (now after : Progress) (node : ℕ) (taken : Option
   pub counts : now.course.runs ≡ true → node ≡ now.course.ballot.node → IsCount mark → ⊥
   pub waits : now.course.runs ≡ false → now.course.gone ≡ false → node ≡ least_of (members_at at now.course.newest) → after.next node < now.course.newest
 
--- what is sent to a node that an entry adds: the state after it, and to promise the ballot, unless that is the first
+-- What is sent to a node that the entry at a slot adds: the state after the entry, and a Prepare unless the ballot is the group's first.
 abbrev pub welcome : Course → ℕ → List Mark
 welcome course slot = Installs slot ∷ (if course.is_first then [] else Prepares course.ballot ∷ [])
 
--- .. to each node of the entry at a slot: a member before it is told
+-- What a leader sends to a node because of the entry at a slot: the entry to a member before it, `welcome` to a node that it adds, nothing to itself and to others.
 abbrev pub told_of : Sets → Course → ℕ → ℕ → List Mark
 told_of at course slot who =
     if who == course.ballot.node then []
@@ -64,12 +65,12 @@ told_of at course slot who =
     else if is_member (members_at at (slot + 1)) who then welcome course slot
     else []
 
--- .. of so many entries from a slot on
+-- What a leader sends to a node because of `more` entries, from a slot on.
 abbrev pub told_from : Sets → Course → ℕ → ℕ → ℕ → List Mark
 told_from at course slot zero who = []
 told_from at course slot (suc more) who = told_of at course slot who ++ told_from at course (slot + 1) more who
 
--- a node is asked to accept something at a slot that it decides, at which nothing was offered before
+-- The mark is an accept request in the group's ballot, at a slot that the node decides and at which nothing was offered before.
 abbrev pub IsOffer : Sets → Course → ℕ → ℕ → Mark → Type 0
 IsOffer at course from who (Asks ballot slot) = (ballot ≡ course.ballot) × (from ≤ slot) × (slot < course.bound) × (is_member (at slot) who ≡ true)
 IsOffer at course from who (Votes node ballot slot) = ⊥
@@ -78,7 +79,7 @@ IsOffer at course from who (Installs slot) = ⊥
 IsOffer at course from who (Prepares ballot) = ⊥
 IsOffer at course from who (Promises node ballot) = ⊥
 
--- a slot whose vote is not taken
+-- The mark is no vote at this slot.
 abbrev pub IsElsewhere : Mark → ℕ → Type 0
 IsElsewhere (Votes node ballot slot) other = other ≡ slot → ⊥
 IsElsewhere (Promises node ballot) other = Unit {0}
@@ -87,25 +88,27 @@ IsElsewhere (Tells slot) other = Unit {0}
 IsElsewhere (Installs slot) other = Unit {0}
 IsElsewhere (Prepares ballot) other = Unit {0}
 
--- what is in flight at a slot was offered in this row, and all that decide it are asked
+-- What is in flight at this slot was offered in this row: it has no votes, and all nodes that decide the slot are asked to accept it.
 pub record IsOffered (at : Sets) (now : Course) (sent : ℕ → List Mark) (slot : ℕ) (voters : List ℕ) : Type 0 where
   pub from : now.bound ≤ slot
   pub none : voters ≡ []
   pub asks : (node : ℕ) → is_member (at slot) node ≡ true → Among (Asks now.ballot slot) (sent node)
 
--- .. or it was in flight before, and the vote that is taken is counted
+-- What is in flight at this slot was so before the row: its votes are kept, and the vote that the row takes is counted.
 pub record IsCounted (at : Sets) (now : Course) (taken : Option Mark) (slot : ℕ) (voters : List ℕ) : Type 0 where
   pub before : List ℕ
   pub flew : now.voters slot ≡ Some before
   pub keeps : (node : ℕ) → is_member before node ≡ true → is_member voters node ≡ true
   pub counts : (node : ℕ) → taken ≡ Some (Votes node now.ballot slot) → is_member (at slot) node ≡ true → is_member voters node ≡ true
 
--- what is in flight at a slot whose vote is not taken is not executed, and stays in flight where the node leads on
+-- What is in flight at this slot is not executed, and keeps its votes if the node leads on.
 pub record IsKept (now after : Course) (slot : ℕ) (voters : List ℕ) : Type 0 where
   pub from : after.newest ≤ slot
   pub same : after.runs ≡ true → after.voters slot ≡ Some voters
 
--- A leader counts a vote or a promise, or takes a request: it executes so many entries, by which members come and go, tells the members and welcomes those that come, and offers at new slots. It stops where it is no member any more or the group is gone; then nothing else is offered.
+-- A leader counts a vote or a promise, or takes a request: it executes a number of entries, by which members may come and go,
+-- sends them to the members, sends the state to those that join, and offers at new slots.
+-- It stops where it is no member any more or the group is gone; then all that was offered is executed.
 pub record Leads (at : Sets) (now after : Progress) (node : ℕ) (taken : Option Mark) (sent : ℕ → List Mark) : Type 0 where
   pub runs : now.course.runs ≡ true
   pub mine : node ≡ now.course.ballot.node
@@ -132,11 +135,12 @@ pub record Leads (at : Sets) (now after : Progress) (node : ℕ) (taken : Option
   pub counted : after.course.runs ≡ true → (who : ℕ) → now.course.counted who ≡ true → after.course.counted who ≡ true
   pub counts : after.course.runs ≡ true → (who : ℕ) → taken ≡ Some (Promises who now.course.ballot) → after.course.counted who ≡ true
 
--- the last entry of the newest state, told or with the state
+-- The mark is the last entry of the newest state, to be learnt, or that state itself.
 abbrev pub IsLast : ℕ → Mark → Type 0
 IsLast newest mark = (slot : ℕ) × (suc slot ≡ newest) × ((mark ≡ Tells slot) ⊎ (mark ≡ Installs slot))
 
--- Where none leads, the least member elects itself by the last entry, with a later ballot: it asks all that decide an open slot to promise that.
+-- Where no node leads, the least member elects itself by the last entry, with a later ballot.
+-- It sends a Prepare to each node that decides an open slot (Paxos Made Simple, section 2.2, phase 1a).
 pub record Elects (at : Sets) (now after : Progress) (node : ℕ) (taken : Option Mark) (sent : ℕ → List Mark) : Type 0 where
   pub mark : Mark
   pub takes : taken ≡ Some mark
@@ -157,7 +161,7 @@ pub record Elects (at : Sets) (now after : Progress) (node : ℕ) (taken : Optio
   pub sends : (who : ℕ) → (sent who ≡ []) ⊎ (IsOpen at now.course.newest who × (sent who ≡ Prepares after.course.ballot ∷ []))
   pub asks : (who : ℕ) → IsOpen at now.course.newest who → sent who ≡ Prepares after.course.ballot ∷ []
 
--- how a group begins: its members have replicas with nothing executed, and one of them leads with the first ballot
+-- How a group begins: its members have replicas that have executed nothing, and the node of the first ballot leads.
 abbrev pub begun : List ℕ → Ballot → Progress
 begun members ballot = record {
   next = λ node. if is_member members node then 1 else 0;
@@ -165,19 +169,21 @@ begun members ballot = record {
   course = record { newest = 1; bound = 1; ballot = ballot; is_first = true; runs = true; gone = false; voters = λ slot. None; counted = λ node. false };
 }
 
--- such a row keeps what stands between a leader and its nodes, where some decide each slot
+-- Each row of this kind keeps `IsFollowing`, if one to nine nodes decide each slot.
 abbrev pub Keeps : (Sets → Progress → Progress → ℕ → Option Mark → (ℕ → List Mark) → Type 0) → Type 0
 Keeps Kind =
     (at : Sets) (now after : Progress) (node : ℕ) (taken : Option Mark) (sent marks marks_after : ℕ → List Mark)
     → ((slot : ℕ) → IsRoster (at slot)) → IsRow now after node taken sent marks marks_after → Kind at now after node taken sent
     → IsFollowing at now marks → IsFollowing at after marks_after
 
--- .. of each kind
+-- Rows that do nothing in the group keep `IsFollowing`.
 abbrev pub IdleRowsKeep : Type 0
 IdleRowsKeep = Keeps (λ at. IsIdle)
 
+-- Rows of nodes that take a mail keep `IsFollowing`.
 abbrev pub TakersKeep : Type 0
 TakersKeep = Keeps Takes
 
+-- Rows of leaders keep `IsFollowing`.
 abbrev pub LeadersKeep : Type 0
 LeadersKeep = Keeps Leads

@@ -1,4 +1,4 @@
--- That a replica's table takes the mail of its group as the marks of it say.
+-- A replica's table takes the Paxos mail of its group as the marks of the mail say.
 use Rattle.std.specs.Prelude.{◌≡◌, ℕ, suc, ◌+◌, ◌-◌, ◌^◌, ◌<◌, ◌≤◌, ◌==◌, true, false, List, [], ◌∷◌, ◌++◌, length, filter, if◌then◌else◌, Some, None, ◌⊎◌}
 use Rattle.sc_node_table.specs.Values.{Ballot, Draw, Command, Base, Route, Mail, Prepare, Accept, Learn, Install}
 use Rattle.sc_base.specs.Definitions.{IsRoster, is_member, least_of}
@@ -8,11 +8,12 @@ use Rattle.sc_following_law.specs.Following.{Mark, Asks, Tells, Installs, Prepar
 use Rattle.sc_following_law.specs.Rows.{answered, told_of}
 use Rattle.sc_law_lemmas.specs.Definitions.{GoesOn}
 
--- the marks, for a group, of the mail for an actor
+-- The marks, for a group, of the mails to one node.
 abbrev pub marks_for : Draw → ℕ → List Mail → List Mark
 marks_for name who mails = marks_of name (filter (λ mail. mail.to == who) mails)
 
--- a replica takes a mail as its mark says: its next slot and its promise go on by it, it answers it, what it leads stays as it is, and what its acceptor has forgotten stays below its next slot
+-- A replica takes a mail as its mark says: its next slot and its promise change by it, and it sends the answer.
+-- What it leads stays as it is, and what its acceptor has forgotten stays below its next slot.
 pub record StepsBy (mark : Mark) (r : ReplicaState) (after : Place) : Type 0 where
   pub reaches : next after.0 ≡ next_by (next r) mark
   pub promises : after.0.acceptor.promised ≡ promise_by r.acceptor.promised mark
@@ -21,15 +22,16 @@ pub record StepsBy (mark : Mark) (r : ReplicaState) (after : Place) : Type 0 whe
   pub answers : (who : ℕ) → marks_for (name_of r) who after.1 ≡ answered r.me r.acceptor.promised mark who
   pub low : r.acceptor.floor < next r → after.0.acceptor.floor < next after.0
 
--- mail comes in time to a replica
+-- A mail with this mark comes in time to the replica (`IsFit`).
 abbrev pub IsInTime : Mark → ReplicaState → Type 0
 IsInTime mark r = IsFit (next r) r.acceptor.promised mark
 
--- one takes a member for the leader, or is not the least member, or its group is gone: so it does not elect itself
+-- The replica does not elect itself: it takes a member for the leader, or is not the least member, or its group is gone.
 abbrev pub Stays : ReplicaState → Type 0
 Stays r = (is_among (members r) r.hint ≡ true) ⊎ ((least_of (members r) ≡ r.me → ⊥) ⊎ ((into : Route) × (r.group.core.gone ≡ Some into)))
 
--- mail that comes in time is taken so: what is asked for where no leader stops for its ballot, above what the acceptor has forgotten; an entry and a state by one that does not run
+-- A replica's table takes each mail that comes in time as its mark says.
+-- An Accept or a Prepare must not stop a leader, and must be above what the acceptor has forgotten; an entry and a state are taken by a replica that does not run.
 pub record TablesFollow : Type 0 where
   pub accept : (ballot : Ballot) (slot : ℕ) (command : Command) (r : ReplicaState) → IsInTime (Asks ballot slot) r → GoesOn ballot r → r.acceptor.floor < next r
       → StepsBy (Asks ballot slot) r (mailed ballot.node (Accept (name_of r) ballot slot command) (r, [])).0
@@ -40,7 +42,7 @@ pub record TablesFollow : Type 0 where
   pub install : (from slot : ℕ) (base : Base) (sets : List (List ℕ)) (r : ReplicaState) → IsInTime (Installs slot) r → r.running ≡ false → slot ≤ last_slot → length sets ≡ length r.sets
       → is_member base.core.members from ≡ true → StepsBy (Installs slot) r (mailed from (Install (name_of r) slot base sets) (r, [])).0
 
--- .. and one that a node makes of a state that it is sent has executed what the state says, has promised the first ballot, and sends nothing
+-- A replica that a node creates from a state has executed what the state says, has promised the group's first ballot, does not run, and sends nothing.
 pub record StatesMake : Type 0 where
   pub reaches : (me from : ℕ) (group : Draw) (slot : ℕ) (base : Base) (sets : List (List ℕ)) → is_member base.core.members from ≡ true → next (made_by me from group slot base sets).0 ≡ next_by 0 (Installs slot)
   pub promises : (me from : ℕ) (group : Draw) (slot : ℕ) (base : Base) (sets : List (List ℕ)) → is_member base.core.members from ≡ true → (made_by me from group slot base sets).0.acceptor.promised ≡ first_ballot base.core
@@ -48,18 +50,18 @@ pub record StatesMake : Type 0 where
   pub low : (me from : ℕ) (group : Draw) (slot : ℕ) (base : Base) (sets : List (List ℕ)) → is_member base.core.members from ≡ true → (made_by me from group slot base sets).0.acceptor.floor < next (made_by me from group slot base sets).0
   pub sends : (me from : ℕ) (group : Draw) (slot : ℕ) (base : Base) (sets : List (List ℕ)) → is_member base.core.members from ≡ true → (made_by me from group slot base sets).1 ≡ []
 
--- one that does not run elects itself after an entry: it is the least member, takes none for the leader, and has a later round
+-- What lets a replica elect itself after an entry: its group stands, it is the least member, it takes no member for the leader, and it has a later round.
 pub record MayElect (r : ReplicaState) : Type 0 where
   pub stands : r.group.core.gone ≡ None
   pub hint : is_among (members r) r.hint ≡ false
   pub least : least_of (members r) ≡ r.me
   pub round : r.top.round < 2 ^ 32 - 1
 
--- the ballot with which it does
+-- The ballot with which the replica elects itself: the round after that of its `top`, and its own number.
 abbrev pub next_ballot : ReplicaState → Ballot
 next_ballot r = record { round = r.top.round + 1; node = r.me }
 
--- it runs with that ballot, with nothing in flight or ready and no promise counted, and asks each node that decides an open slot, of those that there may be, to promise it
+-- The replica runs with its next ballot, with nothing in flight or ready and no promise counted, and sends a Prepare to each node that decides an open slot.
 pub record ElectsBy (slot : ℕ) (open_sets : List (List ℕ)) (r : ReplicaState) (after : Place) : Type 0 where
   pub reaches : next after.0 ≡ suc slot
   pub promises : after.0.acceptor.promised ≡ r.acceptor.promised
@@ -69,13 +71,13 @@ pub record ElectsBy (slot : ℕ) (open_sets : List (List ℕ)) (r : ReplicaState
   pub low : r.acceptor.floor < next r → after.0.acceptor.floor < next after.0
   pub asks : (who : ℕ) → marks_for (name_of r) who after.1 ≡ (if is_member (open_nodes open_sets) who then Prepares (next_ballot r) ∷ [] else [])
 
--- a table does so where it is told the last entry, which leaves the group its name
+-- A replica's table elects the replica when it learns an entry after which `MayElect` holds and the group has the same name.
 abbrev pub TablesElect : Type 0
 TablesElect =
     (from slot : ℕ) (command : Command) (r : ReplicaState) → IsInTime (Tells slot) r → r.running ≡ false → r.leader.flights ≡ [] → slot ≤ last_slot → MayElect (entered command r) → name_of (entered command r) ≡ name_of r
     → ElectsBy slot (entered command r).sets r (mailed from (Learn (name_of r) slot command) (r, [])).0
 
--- a replica that leads in a group's course, after the entry at a slot, before which these were the members
+-- A replica that leads in a group's course, after the entry at a slot, before which `before` were the members.
 pub record IsLeader (at : Sets) (course : Course) (before : List ℕ) (slot : ℕ) (r : ReplicaState) : Type 0 where
   pub executed : next r ≡ slot + 1
   pub ballot : r.leader.ballot ≡ course.ballot
@@ -86,7 +88,7 @@ pub record IsLeader (at : Sets) (course : Course) (before : List ℕ) (slot : �
   pub is : members_at at (slot + 1) ≡ members r
   pub rosters : IsRoster before × IsRoster (members r)
 
--- what it sends of an entry that it counted is what is told of it, to each
+-- What a leader sends because of an entry that it counted is `told_of`, for each receiver.
 abbrev pub EntriesTell : Type 0
 EntriesTell =
     (at : Sets) (course : Course) (before : List ℕ) (slot : ℕ) (command : Command) (r : ReplicaState) (mails : List Mail) → IsLeader at course before slot r

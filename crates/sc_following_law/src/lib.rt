@@ -1,4 +1,4 @@
-//! What stands between a group's leader and its nodes while members come and go: said of marks,
-//! apart from tables, kept by each kind of row, and what of a replica's table is such a row.
-//! Definitions and laws, no logic.
+//! What holds between a group's leader and its nodes while members come and go. It is stated of
+//! marks (`Mark`: a mail of Paxos without its contents), apart from tables; each kind of row keeps
+//! it, and the rows of a replica's table are of these kinds. Definitions and laws; no function.
 #![tactic(auto)]

@@ -159,7 +159,7 @@ module _ {A M O : Type 0} (s : System A M O) where
   one_of_three rows who (Told order) fine = refl
   one_of_three rows who _ fine = absurd fine
 
-  -- each row delivers, tells to go or tells an order
+  -- each row delivers, tells to go or gives an order
   pub rows_of_all : (journal : List (Row M O)) → AreInTime s journal → length journal ≡ deliveries journal + goes journal + orders journal
   rows_of_all journal timely =
       by_time s (λ rows. length rows ≡ deliveries rows + goes rows + orders rows) refl

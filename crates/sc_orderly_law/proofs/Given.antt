@@ -1,4 +1,4 @@
--- A lawful journal of calm lines tells no more orders than these give, and only such ones.
+-- A lawful journal of calm lines gives no more orders than these, and only such ones.
 use Rattle.std.proofs.Common.{◌≡◌, ℕ, ◌+◌, ◌≤◌, List, [], ◌∷◌, ◌++◌, Bool, true, false, true≢false, cond, ◌||◌, refl, sym, ap, subst, arith, Option, None, Some}
 use Rattle.std.specs.List.{flat_map}
 use Rattle.std.proofs.lemmas.Bool.{cond_both}
@@ -67,7 +67,7 @@ unless-some true o y e = cc
 unless-some false o y e = e
 
 module _ {A M O : Type 0} (s : System A M O) where
-  -- the tasks that are passed over tell no more
+  -- the tasks that are passed over give no more orders
   onward_told : (rows : List (Row M O)) (tasks : List (Task O)) (skipped : ℕ) (cut : Bool) → tasks_told (onward s rows tasks skipped cut).tasks ≤ tasks_told tasks
   onward_told rows [] skipped cut = omega arith
   onward_told rows (task ∷ tasks) skipped cut =
@@ -76,7 +76,7 @@ module _ {A M O : Type 0} (s : System A M O) where
       (λ _. omega (arith, more))
       (λ _. omega arith)
 
-  -- a delivery tells no order
+  -- a delivery gives no order
   delivered_so : (allowed : ℕ → O → Bool) (who : ℕ) (event : Event O) → is_delivery event ≡ true → IsToldSo allowed who event
   delivered_so allowed who (Told order) d = absurd (true≢false (sym d))
   delivered_so allowed who _ d = tt
@@ -89,7 +89,7 @@ module _ {A M O : Type 0} (s : System A M O) where
   calm_so allowed [] calm so = tt
   calm_so allowed (line ∷ lines) calm so = ((calm.0, so.0), calm_so allowed lines calm.1 so.1)
 
-  -- what a row tells: an order as it may be, and its task tells one less
+  -- what a row gives: an order as it may be, and its task gives one less
   record IsTaught (allowed : ℕ → O → Bool) (row : Row M O) (tasks : List (Task O)) : Type 0 where
     so : IsToldSo allowed row.who row.event
     fewer : one_if (is_told row.event) + tasks_told (rest_of_all tasks) ≤ tasks_told tasks
@@ -132,7 +132,7 @@ module _ {A M O : Type 0} (s : System A M O) where
     row_taught allowed so rows row lawful =
         taught allowed rows row (place_after s lines rows).tasks (tasks_after (IsCalmSo allowed) (λ line p. p.0) s lines rows (calm_so allowed lines calm so)) (lawful-last s lines rows row lawful)
 
-    -- each order is told as orders may be, where lines give only such ones
+    -- each order of a row is one that may be given to its actor, where lines give only such ones
     pub told_so : (allowed : ℕ → O → Bool) → AreGivenSo allowed lines → (journal : List (Row M O)) → IsLawful s lines journal → AreToldSo allowed journal
     told_so allowed so journal lawful =
         by_rows s lines (AreToldSo allowed) tt (λ rows row l such. Each-append (λ (r : Row M O). IsToldSo allowed r.who r.event) rows (row ∷ []) such ((row_taught allowed so rows row l).so, tt)) journal lawful
@@ -150,7 +150,7 @@ module _ {A M O : Type 0} (s : System A M O) where
     all_so (CrashLine who ∷ others) p = absurd p.0
     all_so (Storm number most ∷ others) p = absurd p.0
 
-    -- what is told, and what tasks tell still, is no more than lines give
+    -- the orders that rows give, and that tasks still give, are no more than lines give
     left_row : (rows : List (Row M O)) (row : Row M O) → IsLawful s lines (rows ++ row ∷ []) → orders rows + tasks_told (place_after s lines rows).tasks ≤ orders_given lines → orders (rows ++ row ∷ []) + tasks_told (place_after s lines (rows ++ row ∷ [])).tasks ≤ orders_given lines
     left_row rows row lawful now =
         let place = place_after s lines rows in
@@ -161,7 +161,7 @@ module _ {A M O : Type 0} (s : System A M O) where
         let count = count_push (λ (r : Row M O). is_told r.event) rows row (is_told row.event) refl in
         omega (arith, left, passed, fewer, count, now)
 
-    -- no more orders are told than lines give
+    -- rows give no more orders than lines do
     pub few_told : (journal : List (Row M O)) → IsLawful s lines journal → orders journal ≤ orders_given lines
     few_told journal lawful =
         let passed = onward_told [] (flat_map (tasks_of s.words) lines) 0 false in

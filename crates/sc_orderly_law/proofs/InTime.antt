@@ -61,7 +61,7 @@ module _ {A M O : Type 0} (s : System A M O) where
   in_time_tidy journal timely =
       by_time IsTidy (record { copies = tt; alive = λ who. refl }) (λ rows row t tidy. tidy-row s rows row tidy (last_in_time rows row t).0) journal timely
 
-  -- a delivery tells no order, and comes in time
+  -- a delivery gives no order, and comes in time
   pub delivery_untold : (event : Event O) → is_delivery event ≡ true → is_told event ≡ false
   delivery_untold (Told order) e = cc
   delivery_untold _ e = refl

@@ -55,7 +55,7 @@ module _ {A M O : Type 0} (s : System A M O) where
       by false e' more = e'
 
   module _ (who : ℕ) (seat : Seat A) (born : find (λ other. eqb other.who who) s.births ≡ Some seat) where
-    -- a task of many deliveries is still to come, and who is to go has gone, or is told so before it
+    -- a task of many deliveries is still to come, and who is to go has gone, or is to go by a task before it
     record IsAhead (rows : List (Row M O)) (tasks : List (Task O)) : Type 0 where
       front : List (Task O)
       many : Task O

@@ -10,7 +10,7 @@ use Rattle.sc_actor.specs.declared.schedules.Line.{Line}
 use Rattle.sc_actor.specs.declared.schedules.Line.TheVariants.{Go as GoLine, Deliver as DeliverLine, Drop as DropLine, Again as AgainLine, Tick as TickLine, Crash as CrashLine, Told as ToldLine, Settle, Free, Storm}
 use Rattle.sc_actor.specs.Definitions.{mails, copies, has_crashed, is_delivery, System, numbers_of, row_of, waiting, kth, has_gone, is_go}
 
--- a line that tells a client to go, or only delivers
+-- A plain line: it tells an actor to go, or only delivers.
 abbrev pub IsPlainLine : {O : Type 0} → Line O → Type 0
 IsPlainLine (GoLine who) = Unit {0}
 IsPlainLine (Settle most) = Unit {0}
@@ -23,7 +23,7 @@ IsPlainLine (CrashLine who) = ⊥
 IsPlainLine (ToldLine who order) = ⊥
 IsPlainLine (Storm number most) = ⊥
 
--- a line that tells a client to go, gives an order, or only delivers
+-- A calm line: it tells an actor to go, gives an order, or only delivers.
 abbrev pub IsCalmLine : {O : Type 0} → Line O → Type 0
 IsCalmLine (GoLine who) = Unit {0}
 IsCalmLine (ToldLine who order) = Unit {0}
@@ -36,7 +36,7 @@ IsCalmLine (TickLine who) = ⊥
 IsCalmLine (CrashLine who) = ⊥
 IsCalmLine (Storm number most) = ⊥
 
--- The actor goes, which it did not before, or takes the first mail that is pending for it.
+-- The event is in order after these rows: an actor goes that has not gone, or an actor takes its pending mail with the lowest number.
 abbrev pub IsInOrder : {A M O : Type 0} → System A M O → List (Row M O) → ℕ → Event O → Type 0
 IsInOrder s rows who Go = has_gone rows who ≡ false
 IsInOrder s rows who (Deliver number) = kth (waiting s rows (Some who)) 1 ≡ Some number
@@ -46,7 +46,7 @@ IsInOrder s rows who Crash = ⊥
 IsInOrder s rows who (Drop mail) = ⊥
 IsInOrder s rows who (Again mail) = ⊥
 
--- A row that comes in order after others: it sends what the table gives.
+-- A row that is in order after these rows, and sends what the actor's table gives.
 pub record IsOrderly {A M O : Type 0} (s : System A M O) (rows : List (Row M O)) (row : Row M O) : Type 0 where
   pub seat : Seat A
   pub born : find (λ other. other.who == seat.who) s.births ≡ Some seat
@@ -54,7 +54,7 @@ pub record IsOrderly {A M O : Type 0} (s : System A M O) (rows : List (Row M O))
   pub row_is : row ≡ row_of s.table seat rows event
   pub in_order : IsInOrder s rows seat.who event
 
--- The actor goes or takes mail in order, or it is told an order.
+-- The event is calm after these rows: it is in order, or it gives an order.
 abbrev pub IsCalmEvent : {A M O : Type 0} → System A M O → List (Row M O) → ℕ → Event O → Type 0
 IsCalmEvent s rows who Go = has_gone rows who ≡ false
 IsCalmEvent s rows who (Deliver number) = kth (waiting s rows (Some who)) 1 ≡ Some number
@@ -64,7 +64,7 @@ IsCalmEvent s rows who Crash = ⊥
 IsCalmEvent s rows who (Drop mail) = ⊥
 IsCalmEvent s rows who (Again mail) = ⊥
 
--- A row that comes in order after others or tells an order: it sends what the table gives.
+-- A row that is in order after these rows or gives an order, and sends what the actor's table gives.
 pub record IsCalmRow {A M O : Type 0} (s : System A M O) (rows : List (Row M O)) (row : Row M O) : Type 0 where
   pub seat : Seat A
   pub born : find (λ other. other.who == seat.who) s.births ≡ Some seat
@@ -72,7 +72,7 @@ pub record IsCalmRow {A M O : Type 0} (s : System A M O) (rows : List (Row M O))
   pub row_is : row ≡ row_of s.table seat rows event
   pub calm : IsCalmEvent s rows seat.who event
 
--- whether an event tells an order
+-- Whether an event gives an order.
 abbrev pub is_told : {O : Type 0} → Event O → Bool
 is_told (Told order) = true
 is_told (Deliver mail) = false
@@ -82,41 +82,41 @@ is_told Crash = false
 is_told (Drop mail) = false
 is_told (Again mail) = false
 
--- no mail has more than one copy, and no actor has crashed
+-- No mail has more than one copy under way, and no actor has crashed.
 pub record IsTidy {M O : Type 0} (rows : List (Row M O)) : Type 0 where
   pub copies : Each (λ count. count ≤ 1) (copies rows)
   pub alive : (who : ℕ) → has_crashed rows who ≡ false
 
--- the mail that passes the test, each as often as it has copies
+-- The mails that pass the test, each repeated once for each of its copies under way.
 abbrev pub mail_with : {M : Type 0} → (M → Bool) → List M → List ℕ → List M
 mail_with test [] counts = []
 mail_with test (mail ∷ sent) [] = []
 mail_with test (mail ∷ sent) (count ∷ counts) = (if test mail then replicate count mail else []) ++ mail_with test sent counts
 
--- the mail that an actor has not taken yet, in the order of its numbers
+-- The mails under way to an actor, in ascending order of number.
 abbrev pub rest : {A M O : Type 0} → System A M O → List (Row M O) → ℕ → List M
 rest s rows who = mail_with (λ mail. s.receiver mail == who) (mails rows) (copies rows)
 
--- the mail that a row sends to an actor
+-- Those of the mails sent whose receiver is this actor.
 abbrev pub mail_for : {A M O : Type 0} → System A M O → ℕ → List M → List M
 mail_for s who sent = filter (λ mail. s.receiver mail == who) sent
 
--- whether an actor has this number
+-- Whether the system has an actor with this number.
 abbrev pub is_born : {A M O : Type 0} → System A M O → ℕ → Bool
 is_born s who = list_any (λ actor. actor == who) (numbers_of s.births)
 
--- how many of its mail an actor takes by a row: one, where the row delivers to it
+-- How many mails an actor takes by a row: 1 where the row delivers to it, else 0.
 abbrev pub taken : {M O : Type 0} → ℕ → Row M O → ℕ
 taken who row = if row.who == who && is_delivery row.event then 1 else 0
 
--- how many rows deliver
+-- How many rows are deliveries.
 abbrev pub deliveries : {M O : Type 0} → List (Row M O) → ℕ
 deliveries rows = count_by (λ row. is_delivery row.event) rows
 
--- how many rows tell an actor to go
+-- How many rows tell an actor to go.
 abbrev pub goes : {M O : Type 0} → List (Row M O) → ℕ
 goes rows = count_by (λ row. is_go row.event) rows
 
--- how many rows tell an order
+-- How many rows give an order.
 abbrev pub orders : {M O : Type 0} → List (Row M O) → ℕ
 orders rows = count_by (λ row. is_told row.event) rows

@@ -10,29 +10,29 @@ use Rattle.sc_actor.specs.declared.schedules.Line.TheVariants.{Go as GoLine, Del
 use Rattle.sc_actor.specs.Definitions.{mails, copies, numbered, value, System, row_of, IsLawful}
 use Rattle.sc_orderly_law.specs.Orderly.{mail_with, is_born}
 
--- How much an actor, and how much a mail, owes.
+-- How many deliveries an actor, and a mail, may still cause.
 pub record Owing (A M : Type 0) : Type 0 where
   pub actor : A → ℕ
   pub mail : M → ℕ
 
--- the mail to actors of which copies are under way
+-- The mails under way to actors of the system, each repeated once for each of its copies.
 abbrev pub under_way : {A M O : Type 0} → System A M O → List (Row M O) → List M
 under_way s rows = mail_with (λ mail. is_born s (s.receiver mail)) (mails rows) (copies rows)
 
--- what all actors owe at their births
+-- The sum of what all actors owe at birth.
 abbrev pub owed_at_birth : {A M O : Type 0} → System A M O → Owing A M → ℕ
 owed_at_birth s owing = sum_by (λ seat. owing.actor seat.actor) s.births
 
--- what is owed after these rows: by the actors, and by the mail that is under way
+-- What is owed after these rows: by all actors, and by the mail under way to actors.
 abbrev pub owed : {A M O : Type 0} → System A M O → Owing A M → List (Row M O) → ℕ
 owed s owing rows =
     sum_by (λ seat. owing.actor (value s.table seat rows)) s.births + sum_by owing.mail (under_way s rows)
 
--- what an actor and the mail that it sends owe together
+-- What an actor and the mails that it sends owe together.
 abbrev pub owed_by : {A M : Type 0} → Owing A M → A × List M → ℕ
 owed_by owing acted = owing.actor acted.0 + sum_by owing.mail acted.1
 
--- In each lawful journal of these lines each delivery lowers what is owed by at least one, no actor that goes raises it, and each mail owes something.
+-- In each lawful journal of these lines, each delivery lowers what is owed by at least one, an actor that goes does not raise it, and each mail owes at least one.
 pub record Lowers {A M O : Type 0} (s : System A M O) (owing : Owing A M) (lines : List (Line O)) : Type 0 where
   pub delivery : (rows : List (Row M O)) (seat : Seat A) (number : ℕ) (mail : M) →
       find (λ other. other.who == seat.who) s.births ≡ Some seat →
@@ -45,11 +45,11 @@ pub record Lowers {A M O : Type 0} (s : System A M O) (owing : Owing A M) (lines
       owed_by owing (s.table (value s.table seat rows) GoInput) ≤ owing.actor (value s.table seat rows)
   pub mail : (rows : List (Row M O)) → IsLawful s lines rows → Each (λ mail. 1 ≤ owing.mail mail) (mails rows)
 
--- each mail of each lawful journal of these lines goes to an actor
+-- Each mail in each lawful journal of these lines has an actor of the system as its receiver.
 abbrev pub SendsToActors : {A M O : Type 0} → System A M O → List (Line O) → Type 0
 SendsToActors {A} {M} {O} s lines = (rows : List (Row M O)) → IsLawful s lines rows → Each (λ mail. is_born s (s.receiver mail) ≡ true) (mails rows)
 
--- a line of many deliveries may make so many
+-- A `settle` or `free` line may make at least this many deliveries; nothing is asked of other lines.
 abbrev pub HasRoom : {O : Type 0} → ℕ → Line O → Type 0
 HasRoom deliveries (Settle most) = deliveries ≤ most
 HasRoom deliveries (Free most workers) = deliveries ≤ most

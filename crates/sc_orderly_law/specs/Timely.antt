@@ -1,4 +1,4 @@
--- Orders that begin where nothing is under way, and what is owed between them.
+-- Orders that are given where no mail is pending, and what is owed between them.
 use Rattle.std.specs.Prelude.{◌≡◌, ℕ, ◌+◌, ◌≤◌, ◌++◌, List, [], ◌∷◌, Bool, true, false, count_by, if◌then◌else◌}
 use Rattle.sc_base.specs.Definitions.{Each}
 use Rattle.sc_actor.specs.declared.rows.Event.{Event}
@@ -9,25 +9,25 @@ use Rattle.sc_actor.specs.declared.schedules.Line.TheVariants.{Go as GoLine, Del
 use Rattle.sc_actor.specs.Definitions.{is_delivery, System, IsLawful, is_quiet}
 use Rattle.sc_orderly_law.specs.Orderly.{IsCalmRow, is_told, deliveries}
 
--- What lines said since the last line of deliveries: nothing, that actors go, or an order.
+-- What the lines since the last line of deliveries (`settle` or `free`) did: nothing, told actors to go, or gave an order.
 pub data Said : Type 0 where
   Nothing : Said
   Goes : Said
   AnOrder : Said
 
--- an actor may be told to go where no order was given
+-- An actor may be told to go, unless an order was given since the last line of deliveries.
 abbrev pub MayGo : Said → Type 0
 MayGo Nothing = Unit {0}
 MayGo Goes = Unit {0}
 MayGo AnOrder = ⊥
 
--- an order may be given where nothing was said
+-- An order may be given, if there was no line since the last line of deliveries.
 abbrev pub MayOrder : Said → Type 0
 MayOrder Nothing = Unit {0}
 MayOrder Goes = ⊥
 MayOrder AnOrder = ⊥
 
--- Calm lines in which a line of deliveries stands between each order and every other order or line that tells to go.
+-- Calm lines, with a line of deliveries between each order and every other order or `go` line; the first argument says what stands before them.
 abbrev pub AreSpaced : {O : Type 0} → Said → List (Line O) → Type 0
 AreSpaced said [] = Unit {0}
 AreSpaced said (Settle most ∷ lines) = AreSpaced Nothing lines
@@ -41,7 +41,7 @@ AreSpaced said (TickLine who ∷ lines) = ⊥
 AreSpaced said (CrashLine who ∷ lines) = ⊥
 AreSpaced said (Storm number most ∷ lines) = ⊥
 
--- It was quiet since the last order.
+-- The journal was quiet (no mail pending) after some prefix of these rows, and no row since then gives an order.
 pub record IsClear {A M O : Type 0} (s : System A M O) (rows : List (Row M O)) : Type 0 where
   pub before : List (Row M O)
   pub after : List (Row M O)
@@ -49,7 +49,7 @@ pub record IsClear {A M O : Type 0} (s : System A M O) (rows : List (Row M O)) :
   pub quiet : is_quiet s before ≡ true
   pub untold : Each (λ row. is_told row.event ≡ false) after
 
--- an order is told where nothing is under way, and an actor goes where no order is
+-- The event comes in time after these rows: an order is given only in a quiet journal, and an actor goes only where no order is under way.
 abbrev pub ComesInTime : {A M O : Type 0} → System A M O → List (Row M O) → Event O → Type 0
 ComesInTime s rows (Told order) = is_quiet s rows ≡ true
 ComesInTime s rows Go = IsClear s rows
@@ -59,13 +59,13 @@ ComesInTime s rows Crash = Unit {0}
 ComesInTime s rows (Drop mail) = Unit {0}
 ComesInTime s rows (Again mail) = Unit {0}
 
--- each row is calm and came in time after those before it
+-- Each row is calm and comes in time after the rows before it.
 abbrev pub AreInTime : {A M O : Type 0} → System A M O → List (Row M O) → Type 0
 AreInTime {A} {M} {O} s rows =
     (before : List (Row M O)) (row : Row M O) (after : List (Row M O)) → rows ≡ before ++ row ∷ after
     → IsCalmRow s before row × ComesInTime s before row.event
 
--- whether a line gives an order
+-- Whether a line gives an order.
 abbrev pub gives_order : {O : Type 0} → Line O → Bool
 gives_order (ToldLine who order) = true
 gives_order (GoLine who) = false
@@ -78,11 +78,11 @@ gives_order (TickLine who) = false
 gives_order (CrashLine who) = false
 gives_order (Storm number most) = false
 
--- how many lines give an order
+-- How many lines give an order.
 abbrev pub orders_given : {O : Type 0} → List (Line O) → ℕ
 orders_given lines = count_by gives_order lines
 
--- an order is told, to an actor, as orders may be
+-- If the event gives an order, this order may be given to this actor; nothing is asked of other events.
 abbrev pub IsToldSo : {O : Type 0} → (ℕ → O → Bool) → ℕ → Event O → Type 0
 IsToldSo allowed who (Told order) = allowed who order ≡ true
 IsToldSo allowed who (Deliver number) = Unit {0}
@@ -92,11 +92,11 @@ IsToldSo allowed who Crash = Unit {0}
 IsToldSo allowed who (Drop mail) = Unit {0}
 IsToldSo allowed who (Again mail) = Unit {0}
 
--- .. each of some rows
+-- Each order that one of these rows gives is one that may be given to its actor.
 abbrev pub AreToldSo : {M O : Type 0} → (ℕ → O → Bool) → List (Row M O) → Type 0
 AreToldSo allowed rows = Each (λ row. IsToldSo allowed row.who row.event) rows
 
--- a line gives an order, to an actor, as orders may be
+-- If the line gives an order, this order may be given to this actor; nothing is asked of other lines.
 abbrev pub IsGivenSo : {O : Type 0} → (ℕ → O → Bool) → Line O → Type 0
 IsGivenSo allowed (ToldLine who order) = allowed who order ≡ true
 IsGivenSo allowed (GoLine who) = Unit {0}
@@ -109,11 +109,13 @@ IsGivenSo allowed (TickLine who) = Unit {0}
 IsGivenSo allowed (CrashLine who) = Unit {0}
 IsGivenSo allowed (Storm number most) = Unit {0}
 
--- .. each of some lines
+-- Each order that one of these lines gives is one that may be given to its actor.
 abbrev pub AreGivenSo : {O : Type 0} → (ℕ → O → Bool) → List (Line O) → Type 0
 AreGivenSo allowed lines = Each (IsGivenSo allowed) lines
 
--- What is owed after a lawful journal of rows in time, with so many deliveries at most: each delivery lowers it by one at least, an order raises it by so much at most, and no other row raises it; something is owed where mail is pending, and in quiet journals no more than so much.
+-- `owed` measures what is owed after each lawful journal of rows in time that has at most `most` deliveries.
+-- Each delivery lowers it by at least 1, an order raises it by at most `raise`, and no other row raises it.
+-- It is at least 1 where mail is pending, and at most `still` where none is.
 pub record IsMeasure {A M O : Type 0} (s : System A M O) (lines : List (Line O)) (most : ℕ) (owed : List (Row M O) → ℕ) (still raise : ℕ) : Type 0 where
   pub lowers : (rows : List (Row M O)) (row : Row M O) → IsLawful s lines (rows ++ row ∷ []) → AreInTime s (rows ++ row ∷ []) → deliveries rows ≤ most →
       owed (rows ++ row ∷ []) + (if is_delivery row.event then 1 else 0) ≤ owed rows + (if is_told row.event then raise else 0)

@@ -1,12 +1,13 @@
-//! Journals whose deliveries come in order, and how many deliveries there can be. Laws for any
-//! actors. Definitions and laws, no logic.
+//! Laws of journals whose deliveries come in order, and of how many deliveries there can be. They
+//! hold for any actors. Definitions and laws: no function here has a body.
 //!
-//! A schedule is plain where each line tells an actor to go, or only delivers, and calm where lines
-//! give orders besides. In such a journal each actor takes its mail in ascending order of number,
-//! whatever the line and the number of workers. And where each delivery lowers what is owed by at
-//! least one, what is owed at birth bounds all deliveries, so a line with room for so many ends
-//! with nothing pending. With orders each line has to have room for what is owed in quiet journals
-//! and what one order raises, if a line of deliveries stands between each order and every other.
+//! A schedule is plain where each line tells an actor to go, or only delivers. It is calm where
+//! lines may give orders besides. In a journal of such a schedule each actor takes its mail in
+//! ascending order of number, whatever the line and the number of workers. If each delivery lowers
+//! what is owed by at least one, what is owed at birth bounds the number of all deliveries. So a
+//! line of deliveries with room for that number ends with no mail pending. With orders, and a line
+//! of deliveries between each order and every other order or `go` line, each such line has to have
+//! room for what is owed in quiet journals and what one order raises.
 #![tactic(auto)]
 
 ghost use Rattle.std.specs.Prelude.{◌≡◌, ℕ, ◌+◌, ◌*◌, ◌≤◌, List, [], ◌∷◌, ◌++◌, length, drop, Bool, true, false, Some, slice_get};
@@ -24,8 +25,9 @@ ghost use Rattle.sc_orderly_law.specs.Timely.{AreSpaced, Nothing, AreInTime, Are
 
 use sc_actor::Actor;
 
-/// In a lawful journal of a plain schedule each row comes in order: an actor goes that did not, or
-/// takes the first mail that is pending for it. No mail ever has two copies, and nobody crashes.
+/// Proves that in a lawful journal of a plain schedule each row comes in order: an actor goes that
+/// has not gone, or an actor takes its pending mail with the lowest number. No mail has two copies
+/// under way, and no actor crashes.
 pub fn plain_journals_are_orderly<A: Actor>()
     ensures row { (words : ℕ → ℕ → ℕ × ℕ) (births : List (Seat A)) (lines : List (Line A.Order))
         (rows : List (Row A.Mail A.Order)) (row : Row A.Mail A.Order) →
@@ -38,8 +40,9 @@ pub fn plain_journals_are_orderly<A: Actor>()
         IsLawful (system A.table A.Mail.receiver words births) lines rows → IsTidy rows }
 {}
 
-/// In a lawful journal of a calm schedule each row is calm: as in plain ones, or it tells an order.
-/// Here too no mail ever has two copies, and nobody crashes.
+/// Proves that in a lawful journal of a calm schedule each row gives an order, or an actor goes
+/// that has not gone, or an actor takes its pending mail with the lowest number. No mail has two
+/// copies under way, and no actor crashes.
 pub fn calm_journals_are_orderly<A: Actor>()
     ensures row { (words : ℕ → ℕ → ℕ × ℕ) (births : List (Seat A)) (lines : List (Line A.Order))
         (rows : List (Row A.Mail A.Order)) (row : Row A.Mail A.Order) →
@@ -52,9 +55,9 @@ pub fn calm_journals_are_orderly<A: Actor>()
         IsLawful (system A.table A.Mail.receiver words births) lines rows → IsTidy rows }
 {}
 
-/// What is left of an actor's mail after a row of such a journal: without its first, where the row
-/// delivers to the actor, and with what the row sends to it behind. A journal is quiet exactly
-/// where nothing is left of the mail of any actor.
+/// Proves what a row of a lawful journal of a calm schedule leaves of an actor's untaken mail: the
+/// first one is gone where the row delivers to the actor, and what the row sends to the actor is
+/// appended. A journal is quiet exactly where no actor has untaken mail.
 pub fn mail_is_taken_in_order<A: Actor>()
     ensures rest { (words : ℕ → ℕ → ℕ × ℕ) (births : List (Seat A)) (lines : List (Line A.Order))
         (rows : List (Row A.Mail A.Order)) (row : Row A.Mail A.Order) (who : ℕ) →
@@ -81,10 +84,11 @@ pub fn mail_is_taken_in_order<A: Actor>()
         ((who : ℕ) → is_born s who ≡ true → rest s rows who ≡ []) → is_quiet s rows ≡ true }
 {}
 
-/// Where each delivery of a plain schedule's journals lowers what is owed by at least one, and no
-/// actor that goes raises it, the deliveries made and what is owed still are no more than what was
-/// owed at birth. So no line with room for so many is cut off, there is no more mail than so many,
-/// and no more rows than so many and one for each actor.
+/// Proves a bound for plain schedules, where in each lawful journal each delivery lowers what is
+/// owed by at least one, and no actor that goes raises it: the deliveries made and what is still
+/// owed are together at most what was owed at birth. So no line of deliveries with room for that
+/// is cut off, and the number of mails is at most the deliveries made and what is still owed. The
+/// number of rows is that of the deliveries and of the actors that have gone.
 pub fn deliveries_are_owed<A: Actor>()
     ensures deliveries { (words : ℕ → ℕ → ℕ × ℕ) (births : List (Seat A))
         (lines : List (Line A.Order)) (owing : Owing A A.Mail)
@@ -114,13 +118,15 @@ pub fn deliveries_are_owed<A: Actor>()
         (length journal ≡ deliveries journal + goes journal) × (goes journal ≤ length births) }
 {}
 
-/// Where each delivery lowers what is owed by at least one, an order raises it by so much at most,
-/// and in quiet journals no more than so much is owed: if lines of deliveries stand between orders
-/// and whatever else is said, and each has room for both together, then each order begins where
-/// nothing is under way, each actor goes where no order is, no line is cut off, and the deliveries
-/// made and what is owed still are no more than is owed in quiet and what the orders raised. What
-/// is owed may be any number that rows determine, and is asked of lawful journals alone, with no
-/// more deliveries than these. No journal tells more orders than its lines give, nor others.
+/// Proves a bound for calm schedules with a line of deliveries between each order and every other
+/// order or `go` line. What is owed is any number that the rows determine, as `IsMeasure` says:
+/// each delivery lowers it by at least one, an order raises it by at most `raise`, and it is at
+/// most `still` in quiet journals. `IsMeasure` asks this only of lawful journals with at most
+/// `most` deliveries, where `most` is at least `still` and `raise` for each order given. If each
+/// line of deliveries has room for `still + raise`, each order is given in a quiet journal, each
+/// actor goes where no order is under way, and no line is cut off. The deliveries made and what is
+/// still owed are together at most `still` and `raise` for each order. A journal gives no more
+/// orders than its lines, and no others.
 pub fn orders_begin_in_quiet<A: Actor>()
     ensures timely { (words : ℕ → ℕ → ℕ × ℕ) (births : List (Seat A))
         (lines : List (Line A.Order)) (most : ℕ)
