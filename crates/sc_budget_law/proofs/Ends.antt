@@ -25,7 +25,7 @@ lines_plain budget [] at = tt
 lines_plain budget (Go client ∷ lines) at = (tt, lines_plain budget lines at.1)
 lines_plain budget (Settle most ∷ lines) at = (tt, lines_plain budget lines at.1)
 lines_plain budget (Free most workers ∷ lines) at = (tt, lines_plain budget lines at.1)
-lines_plain budget (Deliver who k ∷ lines) at = absurd at.0
+lines_plain budget (Deliver who k ∷ lines) at = (at.0.0, lines_plain budget lines at.1)
 lines_plain budget (Drop who k ∷ lines) at = absurd at.0
 lines_plain budget (Again mail ∷ lines) at = absurd at.0
 lines_plain budget (Tick who ∷ lines) at = absurd at.0
@@ -39,7 +39,7 @@ lines_roomy budget total [] low at = tt
 lines_roomy budget total (Go client ∷ lines) low at = (tt, lines_roomy budget total lines low at.1)
 lines_roomy budget total (Settle most ∷ lines) low at = (let room = at.0 in omega (arith, low, room), lines_roomy budget total lines low at.1)
 lines_roomy budget total (Free most workers ∷ lines) low at = (let room = at.0 in omega (arith, low, room), lines_roomy budget total lines low at.1)
-lines_roomy budget total (Deliver who k ∷ lines) low at = absurd at.0
+lines_roomy budget total (Deliver who k ∷ lines) low at = (tt, lines_roomy budget total lines low at.1)
 lines_roomy budget total (Drop who k ∷ lines) low at = absurd at.0
 lines_roomy budget total (Again mail ∷ lines) low at = absurd at.0
 lines_roomy budget total (Tick who ∷ lines) low at = absurd at.0

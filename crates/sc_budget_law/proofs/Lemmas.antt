@@ -1,7 +1,7 @@
 -- The lemmas of this crate that others cite, under one name.
 pub use Rattle.sc_budget_law.proofs.Lists.{map_among, some_is}
 pub use Rattle.sc_budget_law.proofs.Sums.{shares, sum_mapped, none_together}
-pub use Rattle.sc_budget_law.proofs.Spaced.{calm_spaced as calm_lines_are_spaced}
+pub use Rattle.sc_budget_law.proofs.Spaced.{calm_spaced as calm_lines_are_spaced, roomy_calm as roomy_scenarios_are_calm}
 pub use Rattle.sc_budget_law.proofs.BetweenWhole.{of_player}
 pub use Rattle.sc_budget_law.proofs.BetweenSteps.{node_born, node_number, in_numbers, to_numbers, client_number, value_others, gone_others, gone_still, each_numbered, one_of_sum}
 pub use Rattle.sc_budget_law.proofs.BetweenDoes.{taken_once}

@@ -102,7 +102,7 @@ some_or_goes nodes clients budget [] at b = inr tt
 some_or_goes nodes clients budget (sched.Go client ∷ lines) at b = elim (some_or_goes nodes clients budget lines at.1 b.1) [ inl low ↦ inl low | inr all ↦ inr (tt, all) ]
 some_or_goes nodes clients budget (sched.Settle most ∷ lines) at b = (let room = at.0 in let high = b.0.1 in inl (omega (arith, room, high)))
 some_or_goes nodes clients budget (sched.Free most workers ∷ lines) at b = (let room = at.0 in let high = b.0.0.1 in inl (omega (arith, room, high)))
-some_or_goes nodes clients budget (sched.Deliver who k ∷ lines) at b = absurd at.0
+some_or_goes nodes clients budget (sched.Deliver who k ∷ lines) at b = inl at.0.1
 some_or_goes nodes clients budget (sched.Drop who k ∷ lines) at b = absurd at.0
 some_or_goes nodes clients budget (sched.Again mail ∷ lines) at b = absurd at.0
 some_or_goes nodes clients budget (sched.Tick who ∷ lines) at b = absurd at.0

@@ -218,8 +218,8 @@ all_answered all_bounded end_quiet words scenario journal valid at lawful whole 
     let lines : schedule scenario ≡ start ++ map line_of served.after =
     ap (map line_of) served.lines_are ∙ (map-append line_of served.before (Go asks.client ∷ served.after) ∙ sym (append_assoc (map line_of served.before) (line.Go (client_actor asks.client) ∷ []) (map line_of served.after))) in
     let rest_is : map line_of served.after ≡ map line_of d.0 ++ line_of d.1 ∷ map line_of d.2 = ap (map line_of) d.3 ∙ map-append line_of d.0 (d.1 ∷ d.2) in
-    let was = was_quiet sys (client_actor asks.client) seat born (schedule scenario) (λ rows l. end_quiet words scenario rows valid at l) start (map line_of served.after) lines
-    (Among-right (line.Go (client_actor asks.client)) (map line_of served.before) (line.Go (client_actor asks.client) ∷ []) (inl refl)) (map line_of d.0) (line_of d.1) (map line_of d.2) rest_is (many_line d.1 d.4) journal lawful whole in
+    let was = was_quiet sys (client_actor asks.client) seat born (schedule scenario) start (map line_of served.after) lines
+    (Among-right (line.Go (client_actor asks.client)) (map line_of served.before) (line.Go (client_actor asks.client) ∷ []) (inl refl)) (map line_of d.0) (line_of d.1) (map line_of d.2) rest_is (many_line d.1 d.4) journal lawful (end_quiet words scenario journal valid at lawful) whole in
     let begins : IsLawful sys (schedule scenario) was.before = lawful-prefix sys (schedule scenario) was.before was.after (subst (λ l. IsLawful sys (schedule scenario) l) was.rows_are lawful) in
     let then_ = all_replies words scenario s few (round scenario bounded) (schedule scenario) plain birth was.before begins was.quiet asks a was.gone in
     let more = replies_more seat was.before was.after in

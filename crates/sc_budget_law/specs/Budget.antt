@@ -3,6 +3,7 @@ use Rattle.std.specs.Prelude.{◌≡◌, ℕ, ◌+◌, ◌*◌, ◌≤◌, Bool,
 use Rattle.std.specs.List.{list_any}
 use Rattle.sc_base.specs.Definitions.{Among, Each}
 use Rattle.sc_node_table.specs.Values.{Base, OrderLine, Mail, Row}
+use Rattle.sc_scenario.specs.Definitions.{most_deliveries}
 use Rattle.sc_scenario.specs.declared.scenarios.Asks.{Asks}
 use Rattle.sc_scenario.specs.declared.scenarios.Scenario.{Scenario}
 use Rattle.sc_scenario.specs.declared.scenarios.SchedLine.{SchedLine}
@@ -17,12 +18,12 @@ requests_of scenario = sum_by (λ asks. length asks.ops) scenario.clients
 abbrev pub budget_of : Scenario → ℕ
 budget_of scenario = requests_of scenario * (32 + 4 * length scenario.groups)
 
--- a `go` line, or a `settle` or `free` line that allows at least `budget` deliveries
+-- A plain line has room for a number of deliveries: it starts a client, or delivers pending mail of all actors at least so often, or the first pending mail of one actor where the number is one that a line can allow.
 abbrev pub AllowsDeliveries : ℕ → SchedLine → Type 0
 AllowsDeliveries budget (Go client) = Unit {0}
 AllowsDeliveries budget (Settle most) = budget ≤ most
 AllowsDeliveries budget (Free most workers) = budget ≤ most
-AllowsDeliveries budget (Deliver who k) = ⊥
+AllowsDeliveries budget (Deliver who k) = (k ≡ 1) × (budget ≤ most_deliveries)
 AllowsDeliveries budget (Drop who k) = ⊥
 AllowsDeliveries budget (Again mail) = ⊥
 AllowsDeliveries budget (Tick who) = ⊥
@@ -30,7 +31,7 @@ AllowsDeliveries budget (Crash node) = ⊥
 AllowsDeliveries budget (Told node order) = ⊥
 AllowsDeliveries budget (Storm number most) = ⊥
 
--- a plain scenario at its budget: its schedule has `go`, `settle` and `free` lines alone, and each `settle` and `free` line allows at least the budget's deliveries
+-- A plain scenario at its budget: its lines start clients and deliver mail, and each that delivers pending mail of all actors has room for the budget.
 abbrev pub IsAtBudget : Scenario → Type 0
 IsAtBudget scenario = Each (AllowsDeliveries (budget_of scenario)) scenario.lines
 

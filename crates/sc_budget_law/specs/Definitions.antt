@@ -7,7 +7,7 @@ pub use Rattle.sc_budget_law.specs.Between.{Mark, Asks, Votes, Tells, Other, mar
 pub use Rattle.sc_budget_law.specs.BetweenJournal.{replica_at, next_in, voters_in, votes_in, view_at, marks_at, IsGroupAt, marks_for, replicas_of}
 pub use Rattle.sc_budget_law.specs.BetweenRows.{IsOther, IsTaken, MovesBy, How, IsNew, IsCount, IsElsewhere, Leads, IsIdle, Accepts, Learns, IsOffered, IsCounted, Moves}
 pub use Rattle.sc_budget_law.specs.Budget.{requests_of, budget_of, AllowsDeliveries, delivers, IsAtBudget, IsServed, AreAnswered}
-pub use Rattle.sc_budget_law.specs.Calm.{gives_order, starts, are_parted, calm_budget_of, AllowsCalmly, CalmLinesAreSpaced, IsCalmAtBudget, orders_of}
+pub use Rattle.sc_budget_law.specs.Calm.{gives_order, starts, are_parted, calm_budget_of, AllowsCalmly, CalmLinesAreSpaced, IsCalmWith, IsCalm, IsCalmAtBudget, RoomyScenariosAreCalm, orders_of}
 pub use Rattle.sc_budget_law.specs.CalmAsking.{CanBeAsked, IsCalmClient, IsLinkedSetting, BeginsBy, StaysCalm, Knows, ClientsStayCalm, IsRingOf}
 pub use Rattle.sc_budget_law.specs.CalmClient.{start_known, FollowedBy, AreRoundRing, start_of, KnowsFirst, ClientsLearnInTurn}
 pub use Rattle.sc_budget_law.specs.CalmNode.{Setting, IsHome, IsSetting, KnowsBetter, IsCalmNode, IsCalmMail, IsAsideBody, ComesInTime, HasGoneTo, IsNearer, IsAsideAnswer, NodesStayCalm}

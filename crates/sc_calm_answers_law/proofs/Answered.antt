@@ -7,7 +7,7 @@ use Rattle.std.proofs.lemmas.Option.{slice_get_within, slice_get_cases}
 use Rattle.sc_base.specs.Definitions.{Among, client_actor}
 use Rattle.sc_node_table.specs.Values.{Reply, Base, OrderLine, Mail, Seat, Row, Line}
 use Rattle.sc_actor.specs.declared.schedules.Line.TheVariants as line
-use Rattle.sc_actor.specs.Definitions.{value, System, has_gone, IsLawful}
+use Rattle.sc_actor.specs.Definitions.{value, System, has_gone, IsLawful, is_quiet, unsettled}
 use Rattle.sc_actor.proofs.Lemmas.{lawful-prefix}
 use Rattle.sc_client_table.specs.Definitions.{Client as ClientState}
 use Rattle.sc_node_table.specs.Definitions.{numbers_from}
@@ -20,7 +20,7 @@ use Rattle.sc_scenario.specs.declared.scenarios.Scenario.{Scenario}
 use Rattle.sc_scenario.specs.declared.scenarios.SchedLine.TheVariants.{Go}
 use Rattle.sc_sound.specs.Definitions.{Player, player_table, node_seat, client_seat, route_of, births, line_of, schedule, system_of, as_nodes, replies_of, Lawful, Whole, kept_replies}
 use Rattle.sc_whole_law.specs.Definitions.{ValidJournalsAreSound}
-use Rattle.sc_budget_law.specs.Definitions.{AreAnswered, orders_of, IsCalmAtBudget}
+use Rattle.sc_budget_law.specs.Definitions.{AreAnswered, IsQuietJournal}
 use Rattle.sc_budget_law.proofs.Lemmas.{IsStage, stage, map_among, replies_more, first_delivery, many_line}
 use Rattle.sc_calm_law.specs.Definitions.{IsAnswered}
 use Rattle.sc_calm_answers_law.specs.Definitions.{CalmLinesSettle, CalmJournalsRest}
@@ -56,10 +56,12 @@ module _ (sound_law : ValidJournalsAreSound) (words : ℕ → ℕ → ℕ × ℕ
     | inr few ↦ few
   ]
 
--- in a whole journal each request is answered of a client whose `go` line is followed by a line of deliveries, where an order is given
-pub answered_calmly : ValidScenariosAreBounded → ValidJournalsAreSound → CalmLinesSettle → CalmJournalsRest → (words : ℕ → ℕ → ℕ × ℕ) (scenario : Scenario) (journal : Rows) → IsValid scenario → IsCalmAtBudget scenario → 1 ≤ orders_of scenario
-    → Lawful as_nodes words scenario journal → Whole as_nodes words scenario journal → AreAnswered scenario journal
-answered_calmly all_bounded sound_law settle_law rest_law words scenario journal valid at some lawful whole first others groups asks a served =
+-- each request of a client that has started before a line of deliveries is answered in a whole journal in which no line was cut off, where its quiet prefixes rest
+pub answered_calmly : ValidScenariosAreBounded → ValidJournalsAreSound → (words : ℕ → ℕ → ℕ × ℕ) (scenario : Scenario) (journal : Rows) → IsValid scenario
+    → Lawful as_nodes words scenario journal → Whole as_nodes words scenario journal → unsettled (system_of as_nodes words scenario) (schedule scenario) journal ≡ false
+    → ((first : Base) (others : List Base) (rows more : Rows) → journal ≡ rows ++ more → Lawful as_nodes words scenario rows → scenario.groups ≡ first ∷ others → is_quiet (system_of as_nodes words scenario) rows ≡ true → IsQuietJournal words scenario first rows)
+    → AreAnswered scenario journal
+answered_calmly all_bounded sound_law words scenario journal valid lawful whole uncut rest_law first others groups asks a served =
     let bounded = all_bounded scenario valid in
     let s = stage scenario bounded in
     let sys : System Player Mail OrderLine = system_of as_nodes words scenario in
@@ -73,10 +75,10 @@ answered_calmly all_bounded sound_law settle_law rest_law words scenario journal
     ap (map line_of) served.lines_are ∙ (map-append line_of served.before (Go asks.client ∷ served.after) ∙ sym (append_assoc (map line_of served.before) (line.Go (client_actor asks.client) ∷ []) (map line_of served.after))) in
     let rest_is : map line_of served.after ≡ map line_of d.0 ++ line_of d.1 ∷ map line_of d.2 = ap (map line_of) d.3 ∙ map-append line_of d.0 (d.1 ∷ d.2) in
     let was : WasQuiet sys (client_actor asks.client) seat born journal =
-    was_quiet sys (client_actor asks.client) seat born (schedule scenario) (λ rows l. settle_law words scenario rows valid at l) start (map line_of served.after) lines
-    (Among-right (line.Go (client_actor asks.client)) (map line_of served.before) (line.Go (client_actor asks.client) ∷ []) (inl refl)) (map line_of d.0) (line_of d.1) (map line_of d.2) rest_is (many_line d.1 d.4) journal lawful whole in
+    was_quiet sys (client_actor asks.client) seat born (schedule scenario) start (map line_of served.after) lines
+    (Among-right (line.Go (client_actor asks.client)) (map line_of served.before) (line.Go (client_actor asks.client) ∷ []) (inl refl)) (map line_of d.0) (line_of d.1) (map line_of d.2) rest_is (many_line d.1 d.4) journal lawful uncut whole in
     let begins : IsLawful sys (schedule scenario) was.before = lawful-prefix sys (schedule scenario) was.before was.after (subst (λ l. IsLawful sys (schedule scenario) l) was.rows_are lawful) in
-    let quiet = rest_law words scenario s.first s.others was.before valid at some s.groups_are begins was.quiet in
+    let quiet = rest_law s.first s.others was.before was.after was.rows_are begins s.groups_are was.quiet in
     let player = quiet.players asks a in
     let answer = Each-among (λ (client : Bool × ClientState). IsAnswered client.0 (route_of s.first) client.1) quiet.clients (has_gone was.before (client_actor asks.client), player.0) quiet.quiet.answered player.4 in
     let all = (subst (λ b. IsAnswered b (route_of s.first) player.0) was.gone answer).1 in

@@ -46,5 +46,5 @@ given_so scenario (Storm number most ∷ lines) bounded = (tt, given_so scenario
 
 pub orders_so : ValidScenariosAreBounded → CalmLinesAreSpaced → OrdersMayBeGiven
 orders_so all_bounded spaced words scenario journal valid calm lawful =
-    told_so (system_of as_nodes words scenario) (schedule scenario) (spaced_are_calm Nothing (schedule scenario) (spaced scenario calm).0) (may_be_given scenario)
+    told_so (system_of as_nodes words scenario) (schedule scenario) (spaced_are_calm Nothing (schedule scenario) (spaced 0 scenario calm).0) (may_be_given scenario)
     (given_so scenario scenario.lines (Each-from_All (IsBoundedLine scenario.nodes scenario.clients) scenario.lines (all_bounded scenario valid).lines)) journal lawful

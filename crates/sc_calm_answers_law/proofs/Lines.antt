@@ -58,7 +58,7 @@ plain_by less more le (Go client ∷ lines) none calm = (tt, plain_by less more 
 plain_by less more le (Settle most ∷ lines) none calm = (let room = calm.0 in omega (arith, le, room), plain_by less more le lines none calm.1)
 plain_by less more le (Free most workers ∷ lines) none calm = (let room = calm.0 in omega (arith, le, room), plain_by less more le lines none calm.1)
 plain_by less more le (Told node order ∷ lines) none calm = (let one = one_more gives_order (Told node order) lines refl in absurd (omega (arith, none, one)))
-plain_by less more le (Deliver who k ∷ lines) none calm = absurd calm.0
+plain_by less more le (Deliver who k ∷ lines) none calm = (let low = calm.0.1 in (calm.0.0, omega (arith, le, low)), plain_by less more le lines none calm.1)
 plain_by less more le (Drop who k ∷ lines) none calm = absurd calm.0
 plain_by less more le (Again mail ∷ lines) none calm = absurd calm.0
 plain_by less more le (Tick who ∷ lines) none calm = absurd calm.0
@@ -91,7 +91,7 @@ module _ (all_bounded : ValidScenariosAreBounded) (spaced : CalmLinesAreSpaced) 
   pub calm_end_quiet : CalmLinesEndQuiet
   calm_end_quiet words scenario charts journal valid calm charted lawful = elim (cases_lt 0 (orders_of scenario)) [
     | inl some ↦ (
-        let lines = spaced scenario calm in
+        let lines = spaced (calm_budget_of scenario) scenario calm in
         let given = orders_same scenario.lines in
         let still = births_owe (charts []) (births as_nodes scenario) in
         let raise : ℕ = 242 + 4 * (charts []).ways.most in

@@ -88,7 +88,7 @@ module _ (all_bounded : ValidScenariosAreBounded) (spaced : CalmLinesAreSpaced) 
       let s = system_of as_nodes words scenario in
       let rows = rows_of_all s journal timely in
       let goes = goes_in_time s (all_apart scenario bounded) journal timely in
-      let told = few_told s (schedule scenario) (spaced_are_calm Nothing (schedule scenario) (spaced scenario calm).0) journal lawful in
+      let told = few_told s (schedule scenario) (spaced_are_calm Nothing (schedule scenario) (spaced (calm_budget_of scenario) scenario calm).0) journal lawful in
       let same = orders_same scenario.lines in
       let both = length-append (map (node_seat as_nodes scenario.groups scenario.policy) (numbers_from 1 scenario.nodes)) (client_seats scenario.groups scenario.clients) in
       let nodes = length-map (numbers_from 1 scenario.nodes) (node_seat as_nodes scenario.groups scenario.policy) in

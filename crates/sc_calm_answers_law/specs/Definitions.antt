@@ -1,7 +1,7 @@
 -- The definitions of this crate that other crates cite, under one name.
 pub use Rattle.sc_calm_answers_law.specs.Above.{IsAbove, top_by, AreAbove, HasBelow, IsAskedOn}
 pub use Rattle.sc_calm_answers_law.specs.Along.{RowsAreGuided}
-pub use Rattle.sc_calm_answers_law.specs.Answered.{CalmLinesSettle, CalmJournalsRest, charts_of, CalmJournalsAreCharted, CalmJournalsGoOn, CalmRequestsAreAnswered}
+pub use Rattle.sc_calm_answers_law.specs.Answered.{CalmLinesSettle, CalmJournalsRest, SettledJournalsRest, SettledRequestsAreAnswered, charts_of, CalmJournalsAreCharted, CalmJournalsGoOn, CalmRequestsAreAnswered}
 pub use Rattle.sc_calm_answers_law.specs.Arcs.{FreeGroupsHaveArcs}
 pub use Rattle.sc_calm_answers_law.specs.AskedSince.{RestingFrontsAreKnown, SentNodesMayPump, RequestsBeginAsked, RequestsStayAsked, AskedRowsGoOn, AskedRowsFindCalm, RequestsKeepGroups, RequestsRestAgain, IsAskedSince}
 pub use Rattle.sc_calm_answers_law.specs.Bearing.{IsBirth, EntriesBearChildren}

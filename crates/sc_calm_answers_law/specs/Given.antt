@@ -6,7 +6,7 @@ use Rattle.sc_orderly_law.specs.Definitions.{AreToldSo}
 use Rattle.sc_scenario.specs.declared.scenarios.Scenario.{Scenario}
 use Rattle.sc_scenario.specs.Definitions.{IsValid}
 use Rattle.sc_sound.specs.Definitions.{as_nodes, Lawful}
-use Rattle.sc_budget_law.specs.Definitions.{IsCalmAtBudget}
+use Rattle.sc_budget_law.specs.Definitions.{IsCalm}
 
 -- whether an order names nodes of a scenario with this number of nodes, and positions of the circle
 abbrev pub names_nodes : ℕ → Order → Bool
@@ -25,4 +25,4 @@ may_be_given scenario node line = (nat_le 1 node && nat_le node scenario.nodes) 
 abbrev pub OrdersMayBeGiven : Type 0
 OrdersMayBeGiven =
     (words : ℕ → ℕ → ℕ × ℕ) (scenario : Scenario) (journal : List (Row Mail OrderLine))
-    → IsValid scenario → IsCalmAtBudget scenario → Lawful as_nodes words scenario journal → AreToldSo (may_be_given scenario) journal
+    → IsValid scenario → IsCalm scenario → Lawful as_nodes words scenario journal → AreToldSo (may_be_given scenario) journal

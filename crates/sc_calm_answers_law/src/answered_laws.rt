@@ -1,5 +1,5 @@
-//! Calm scenarios at their budget are answered. Definitions and laws, no logic.
-ghost use Rattle.sc_calm_answers_law.specs.Answered.{CalmJournalsGoOn, CalmLinesSettle, CalmRequestsAreAnswered};
+//! Calm scenarios are answered, at their budget or where no line was cut off. Definitions and laws, no logic.
+ghost use Rattle.sc_calm_answers_law.specs.Answered.{CalmJournalsGoOn, CalmLinesSettle, CalmRequestsAreAnswered, SettledRequestsAreAnswered};
 
 use sc_budget_law::{plain_journals_are_answered, plain_lines_end_quiet};
 use sc_scenario::valid_scenarios_are_bounded;
@@ -36,4 +36,15 @@ pub fn calm_requests_are_answered()
     calm_lines_settle();
     calm_journals_go_on();
     plain_journals_are_answered();
+}
+
+/// In each whole journal of a valid calm scenario in which no line of deliveries was cut off, and
+/// that has at most 2^28 rows, every request of a client whose go line is followed by a line of
+/// deliveries is answered: the client kept a reply to each. No line needs room for a budget.
+pub fn settled_requests_are_answered()
+    ensures { SettledRequestsAreAnswered }
+{
+    valid_scenarios_are_bounded();
+    valid_journals_are_sound();
+    calm_journals_go_on();
 }

@@ -14,7 +14,7 @@ use Rattle.sc_actor.proofs.Lemmas.{lawful-last}
 use Rattle.sc_orderly_law.specs.Definitions.{IsCalmLine, is_told, orders, Said, Nothing, Goes, AnOrder, AreSpaced, gives_order, orders_given, IsToldSo, AreToldSo, IsGivenSo, AreGivenSo}
 use Rattle.sc_orderly_law.proofs.Ordering.{Each-append, IsTaskOf, tasks_after, by_rows}
 use Rattle.sc_orderly_law.proofs.Paying.{count_push}
-use Rattle.sc_orderly_law.proofs.Settling.{acts-event, acts-who, delivery-event, free-event}
+use Rattle.sc_orderly_law.proofs.Settling.{acts-event, acts-who, delivery-event, free-event, deliver-event}
 use Rattle.sc_orderly_law.proofs.InTime.{delivery_untold, one_if}
 
 -- spaced lines are calm
@@ -24,7 +24,7 @@ spaced_are_calm said (Settle most ∷ lines) apart = (tt, spaced_are_calm Nothin
 spaced_are_calm said (Free most workers ∷ lines) apart = (tt, spaced_are_calm Nothing lines apart)
 spaced_are_calm said (GoLine who ∷ lines) apart = (tt, spaced_are_calm Goes lines apart.1)
 spaced_are_calm said (ToldLine who order ∷ lines) apart = (tt, spaced_are_calm AnOrder lines apart.1)
-spaced_are_calm said (DeliverLine who k ∷ lines) apart = absurd apart
+spaced_are_calm said (DeliverLine who k ∷ lines) apart = (apart.0, spaced_are_calm said lines apart.1)
 spaced_are_calm said (DropLine who k ∷ lines) apart = absurd apart
 spaced_are_calm said (AgainLine mail ∷ lines) apart = absurd apart
 spaced_are_calm said (TickLine who ∷ lines) apart = absurd apart
@@ -55,7 +55,7 @@ lines_told words (Settle most ∷ lines) calm = let more = lines_told words line
 lines_told words (Free most workers ∷ lines) calm = let more = lines_told words lines calm.1 in let c = given_cons (Free most workers) lines in omega (arith, more, c)
 lines_told words (GoLine who ∷ lines) calm = let more = lines_told words lines calm.1 in let c = given_cons (GoLine who) lines in omega (arith, more, c)
 lines_told words (ToldLine who order ∷ lines) calm = let more = lines_told words lines calm.1 in let c = given_cons (ToldLine who order) lines in omega (arith, more, c)
-lines_told words (DeliverLine who k ∷ lines) calm = absurd calm.0
+lines_told words (DeliverLine who k ∷ lines) calm = let more = lines_told words lines calm.1 in let c = given_cons (DeliverLine who k) lines in omega (arith, more, c)
 lines_told words (DropLine who k ∷ lines) calm = absurd calm.0
 lines_told words (AgainLine mail ∷ lines) calm = absurd calm.0
 lines_told words (TickLine who ∷ lines) calm = absurd calm.0
@@ -117,7 +117,7 @@ module _ {A M O : Type 0} (s : System A M O) where
     taught (Frees left ∷ tasks) is may = by_delivery (Frees left ∷ tasks) (free-event s rows left row may) (omega arith)
     taught (Once (Settle most) ∷ tasks) is may = cc
     taught (Once (Free most workers) ∷ tasks) is may = cc
-    taught (Once (DeliverLine who k) ∷ tasks) is may = absurd is.0.0
+    taught (Once (DeliverLine who k) ∷ tasks) is may = by_delivery (Once (DeliverLine who k) ∷ tasks) (deliver-event s rows who k row may) (omega arith)
     taught (Once (DropLine who k) ∷ tasks) is may = absurd is.0.0
     taught (Once (AgainLine mail) ∷ tasks) is may = absurd is.0.0
     taught (Once (TickLine who) ∷ tasks) is may = absurd is.0.0
@@ -143,7 +143,7 @@ module _ {A M O : Type 0} (s : System A M O) where
     all_so (Free most workers ∷ others) p = (tt, all_so others p.1)
     all_so (GoLine who ∷ others) p = (tt, all_so others p.1)
     all_so (ToldLine who order ∷ others) p = (refl, all_so others p.1)
-    all_so (DeliverLine who k ∷ others) p = absurd p.0
+    all_so (DeliverLine who k ∷ others) p = (tt, all_so others p.1)
     all_so (DropLine who k ∷ others) p = absurd p.0
     all_so (AgainLine mail ∷ others) p = absurd p.0
     all_so (TickLine who ∷ others) p = absurd p.0

@@ -1,9 +1,12 @@
 -- Rows that come in time: they are tidy, and what is pending is owed.
-use Rattle.std.proofs.Common.{◌≡◌, ℕ, List, [], ◌∷◌, ◌++◌, Bool, true, false, cond, refl, sym, ◌∙◌, ap, subst, append_assoc, append-nil, ◌⊎◌, inl, inr}
+use Rattle.std.proofs.Common.{◌≡◌, ℕ, List, [], ◌∷◌, ◌++◌, Bool, true, false, true≢false, cond, Some, refl, sym, ◌∙◌, ap, subst, append_assoc, append-nil, ◌⊎◌, inl, inr}
 use Rattle.sc_actor.specs.declared.rows.Row.{Row}
 use Rattle.sc_actor.specs.declared.rows.Event.{Event}
-use Rattle.sc_actor.specs.declared.rows.Event.TheVariants.{Go, Told}
-use Rattle.sc_actor.specs.Definitions.{is_delivery, System, is_quiet}
+use Rattle.sc_actor.specs.declared.rows.Event.TheVariants.{Deliver, Go, Told}
+use Rattle.sc_actor.specs.declared.schedules.Line.TheVariants.{Deliver as DeliverLine}
+use Rattle.sc_actor.specs.Definitions.{is_delivery, System, acts, waiting, kth, Once, Allows, is_quiet}
+use Rattle.sc_actor.proofs.Lemmas.{some_waits}
+use Rattle.sc_base.proofs.Lemmas.{and_then-some}
 use Rattle.sc_orderly_law.specs.Definitions.{IsCalmRow, IsTidy, is_told, IsClear, ComesInTime, AreInTime}
 use Rattle.sc_orderly_law.proofs.Ordering.{Each-append}
 use Rattle.sc_orderly_law.proofs.Resting.{tidy-row}
@@ -70,6 +73,12 @@ module _ {A M O : Type 0} (s : System A M O) where
   delivery_in_time rows Go e = cc
   delivery_in_time rows (Told order) e = cc
   delivery_in_time rows _ e = tt
+
+  -- no mail is delivered to one where none is pending
+  pub never_quiet : (rows : List (Row M O)) (who k : ℕ) (row : Row M O) → k ≡ 1 → Allows s rows (Once (DeliverLine who k)) row → is_quiet s rows ≡ true → ⊥
+  never_quiet rows who k row one may quiet =
+      let q = and_then-some (λ mail. acts s rows who (Deliver mail)) (kth (waiting s rows (Some who)) k) row may in
+      true≢false (sym quiet ∙ some_waits s rows who q.0 (subst (λ (n : ℕ). kth (waiting s rows (Some who)) n ≡ Some q.0) one q.1))
 
   -- ---- since the last order
 

@@ -9,3 +9,5 @@ pub use Rattle.sc_orderly_law.proofs.Rests.{filter_sum, less_at}
 pub use Rattle.sc_orderly_law.proofs.Seats.{seat_found, one_changes}
 pub use Rattle.sc_orderly_law.proofs.Settling.{never_cut_by}
 pub use Rattle.sc_orderly_law.proofs.Timing.{rows_in_time, deliveries_and_orders, ends_quiet}
+pub use Rattle.sc_orderly_law.proofs.SettledInTime.{settled_in_time}
+pub use Rattle.sc_orderly_law.proofs.UncutPrefixes.{uncut_before}

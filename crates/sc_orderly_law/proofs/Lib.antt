@@ -7,6 +7,9 @@ pub mod Paying
 pub mod Resting
 pub mod Rests
 pub mod Seats
+pub mod SettledInTime
 pub mod Settling
+pub mod SpacedTasks
 pub mod Timing
+pub mod UncutPrefixes
 pub mod Lemmas

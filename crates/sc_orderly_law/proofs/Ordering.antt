@@ -23,6 +23,7 @@ pub plain_is_calm : {O : Type 0} (line : Line O) → IsPlainLine line → IsCalm
 plain_is_calm (GoLine who) p = tt
 plain_is_calm (Settle most) p = tt
 plain_is_calm (Free most workers) p = tt
+plain_is_calm (DeliverLine who k) p = p
 plain_is_calm _ p = absurd p
 
 pub plain_are_calm : {O : Type 0} (lines : List (Line O)) → Each IsPlainLine lines → Each IsCalmLine lines
@@ -90,7 +91,9 @@ module _ {A M O : Type 0} (s : System A M O) where
     allows_orderly (Once (GoLine who)) row p e = let q = unless-some (has_gone rows who) (acts s rows who Go) row e in acts_orderly who Go row q.0 q.1
     allows_orderly (Once (Settle most)) row p e = cc
     allows_orderly (Once (Free most workers)) row p e = cc
-    allows_orderly (Once (DeliverLine who k)) row p e = absurd p
+    allows_orderly (Once (DeliverLine who k)) row p e =
+        let q = and_then-some (λ mail. acts s rows who (Deliver mail)) (kth (waiting s rows (Some who)) k) row e in
+        acts_orderly who (Deliver q.0) row (subst (λ (n : ℕ). kth (waiting s rows (Some who)) n ≡ Some q.0) p q.1) q.2
     allows_orderly (Once (DropLine who k)) row p e = absurd p
     allows_orderly (Once (AgainLine mail)) row p e = absurd p
     allows_orderly (Once (TickLine who)) row p e = absurd p
@@ -134,7 +137,7 @@ module _ {A M O : Type 0} (s : System A M O) where
     allows_calm (Once (ToldLine who order)) row p e = acts_told who order row (unless-some (has_crashed rows who) (acts s rows who (Told order)) row e).1
     allows_calm (Once (Settle most)) row p e = cc
     allows_calm (Once (Free most workers)) row p e = cc
-    allows_calm (Once (DeliverLine who k)) row p e = absurd p
+    allows_calm (Once (DeliverLine who k)) row p e = orderly_is_calm row (allows_orderly (Once (DeliverLine who k)) row p e)
     allows_calm (Once (DropLine who k)) row p e = absurd p
     allows_calm (Once (AgainLine mail)) row p e = absurd p
     allows_calm (Once (TickLine who)) row p e = absurd p

@@ -17,6 +17,7 @@ use Rattle.sc_actor.specs.declared.schedules.Line.TheVariants.{Go as GoLine, Del
 use Rattle.sc_actor.specs.Definitions.{System, acts, row_of, has_gone, is_go, Task, Once, Settles, Frees, Storms, WalkPlace, MayAdd, IsLawful, IsWhole, onward, is_over, is_quiet, cuts, skips, after_row, place_after, rest_of_task, rest_of_all, tasks_of, line_row, unsettled}
 use Rattle.sc_actor.proofs.Lemmas.{find-who, lawful-last, place_after-rows}
 use Rattle.sc_orderly_law.proofs.Ordering.{by_rows}
+use Rattle.sc_orderly_law.proofs.UncutPrefixes.{onward_cut, uncut_before}
 
 -- a task of many deliveries
 abbrev IsMany : {O : Type 0} → Task O → Type 0
@@ -39,21 +40,6 @@ IsManyLine (ToldLine who order) = ⊥
 IsManyLine (Storm number most) = ⊥
 
 module _ {A M O : Type 0} (s : System A M O) where
-  -- ---- what was cut off stays so
-
-  onward_cut : (rows : List (Row M O)) (tasks : List (Task O)) (skipped : ℕ) (cut : Bool) → (onward s rows tasks skipped cut).unsettled ≡ false → cut ≡ false
-  onward_cut rows [] skipped cut e = e
-  onward_cut rows (task ∷ tasks) skipped cut e = by (is_over s rows task) e (onward_cut rows tasks (skipped + skips task) (cut || cuts s rows task))
-    where
-      none : (a b : Bool) → (a || b) ≡ false → a ≡ false
-      none true b e = e
-      none false b e = refl
-
-      by : (b : Bool) → (cond b (onward s rows tasks (skipped + skips task) (cut || cuts s rows task)) (record { tasks = task ∷ tasks; rows = rows; skipped = skipped; unsettled = cut })).unsettled ≡ false
-          → ((onward s rows tasks (skipped + skips task) (cut || cuts s rows task)).unsettled ≡ false → (cut || cuts s rows task) ≡ false) → cut ≡ false
-      by true e' more = none cut (cuts s rows task) (more e')
-      by false e' more = e'
-
   module _ (who : ℕ) (seat : Seat A) (born : find (λ other. eqb other.who who) s.births ≡ Some seat) where
     -- a task of many deliveries is still to come, and who is to go has gone, or is to go by a task before it
     record IsAhead (rows : List (Row M O)) (tasks : List (Task O)) : Type 0 where
@@ -108,7 +94,7 @@ module _ {A M O : Type 0} (s : System A M O) where
       where
         by : (b : Bool) → (cond b (onward s rows back (skipped + skips many) (cut || cuts s rows many)) (record { tasks = many ∷ back; rows = rows; skipped = skipped; unsettled = cut })).unsettled ≡ false
             → IsAhead rows (cond b (onward s rows back (skipped + skips many) (cut || cuts s rows many)) (record { tasks = many ∷ back; rows = rows; skipped = skipped; unsettled = cut })).tasks ⊎ ((is_quiet s rows ≡ true) × (has_gone rows who ≡ true))
-        by true e = inr (quiet_over rows many is (right_none cut (cuts s rows many) (onward_cut rows back (skipped + skips many) (cut || cuts s rows many) e)), gone)
+        by true e = inr (quiet_over rows many is (right_none cut (cuts s rows many) (onward_cut s rows back (skipped + skips many) (cut || cuts s rows many) e)), gone)
         by false e = inl (record { front = []; many = many; back = back; is_many = is; tasks_are = refl; goes = inl gone })
     passes rows (task ∷ front) many back skipped cut is goes settled = by (is_over s rows task) refl settled (passes rows front many back (skipped + skips task) (cut || cuts s rows task) is)
       where
@@ -179,16 +165,16 @@ module _ {A M O : Type 0} (s : System A M O) where
 
     -- ---- whole journals
 
-    module _ (lines : List (Line O)) (settled : (rows : List (Row M O)) → IsLawful s lines rows → unsettled s lines rows ≡ false) where
+    module _ (lines : List (Line O)) where
       abbrev Stage : List (Row M O) → Type 0
-      Stage rows = IsAhead rows (place_after s lines rows).tasks ⊎ WasQuiet rows
+      Stage rows = unsettled s lines rows ≡ false → IsAhead rows (place_after s lines rows).tasks ⊎ WasQuiet rows
 
       now_quiet : (rows : List (Row M O)) → (is_quiet s rows ≡ true) × (has_gone rows who ≡ true) → WasQuiet rows
       now_quiet rows q = record { before = rows; after = []; rows_are = sym (append-nil rows); quiet = q.0; gone = q.1 }
 
-      stage_row : (rows : List (Row M O)) (row : Row M O) → IsLawful s lines (rows ++ row ∷ []) → Stage rows → Stage (rows ++ row ∷ [])
-      stage_row rows row lawful (inr was) = inr (record { before = was.before; after = was.after ++ row ∷ []; rows_are = ap (λ l. l ++ row ∷ []) was.rows_are ∙ append_assoc was.before was.after (row ∷ []); quiet = was.quiet; gone = was.gone })
-      stage_row rows row lawful (inl a) =
+      stage_by : (rows : List (Row M O)) (row : Row M O) → IsLawful s lines (rows ++ row ∷ []) → unsettled s lines (rows ++ row ∷ []) ≡ false → IsAhead rows (place_after s lines rows).tasks ⊎ WasQuiet rows → IsAhead (rows ++ row ∷ []) (place_after s lines (rows ++ row ∷ [])).tasks ⊎ WasQuiet (rows ++ row ∷ [])
+      stage_by rows row lawful settled (inr was) = inr (record { before = was.before; after = was.after ++ row ∷ []; rows_are = ap (λ l. l ++ row ∷ []) was.rows_are ∙ append_assoc was.before was.after (row ∷ []); quiet = was.quiet; gone = was.gone })
+      stage_by rows row lawful settled (inl a) =
           let place = place_after s lines rows in
           let may : MayAdd s rows (a.front ++ a.many ∷ a.back) row = subst (λ tasks. MayAdd s rows tasks row) a.tasks_are (lawful-last s lines rows row lawful) in
           let left = ahead_row rows row a.front a.many a.back a.is_many a.goes may in
@@ -197,11 +183,14 @@ module _ {A M O : Type 0} (s : System A M O) where
           let rest : rest_of_all place.tasks ≡ left.front ++ left.many ∷ left.back = ap rest_of_all a.tasks_are ∙ left.tasks_are in
           let same : place_after s lines (rows ++ row ∷ []) ≡ onward s (rows ++ row ∷ []) (left.front ++ left.many ∷ left.back) place.skipped place.unsettled =
           step ∙ (ap (λ xs. onward s (xs ++ row ∷ []) (rest_of_all place.tasks) place.skipped place.unsettled) there ∙ ap (λ tasks. onward s (rows ++ row ∷ []) tasks place.skipped place.unsettled) rest) in
-          let ends = ap (λ (p : WalkPlace M O). p.unsettled) (sym same) ∙ settled (rows ++ row ∷ []) lawful in
+          let ends = ap (λ (p : WalkPlace M O). p.unsettled) (sym same) ∙ settled in
           elim (passes (rows ++ row ∷ []) left.front left.many left.back place.skipped place.unsettled left.is_many left.goes ends) [
             | inl ahead ↦ inl (subst (λ (p : WalkPlace M O). IsAhead (rows ++ row ∷ []) p.tasks) (sym same) ahead)
             | inr q ↦ inr (now_quiet (rows ++ row ∷ []) q)
           ]
+
+      stage_row : (rows : List (Row M O)) (row : Row M O) → IsLawful s lines (rows ++ row ∷ []) → Stage rows → Stage (rows ++ row ∷ [])
+      stage_row rows row lawful now settled = stage_by rows row lawful settled (now (uncut_before s lines rows (row ∷ []) settled))
 
       -- the tasks of lines that tell it to go and then deliver
       lines_ahead : (first rest : List (Line O)) → Among (GoLine who) first → (front : List (Line O)) (many : Line O) (back : List (Line O)) → rest ≡ front ++ many ∷ back → IsManyLine many → IsAhead [] (flat_map (tasks_of s.words) (first ++ rest))
@@ -244,13 +233,12 @@ module _ {A M O : Type 0} (s : System A M O) where
 
       -- a whole journal of such lines was quiet after it had gone
       pub was_quiet : (first rest : List (Line O)) → lines ≡ first ++ rest → Among (GoLine who) first → (front : List (Line O)) (many : Line O) (back : List (Line O)) → rest ≡ front ++ many ∷ back → IsManyLine many
-          → (journal : List (Row M O)) → IsLawful s lines journal → IsWhole s lines journal → WasQuiet journal
-      was_quiet first rest are goes front many back e is journal lawful whole =
+          → (journal : List (Row M O)) → IsLawful s lines journal → unsettled s lines journal ≡ false → IsWhole s lines journal → WasQuiet journal
+      was_quiet first rest are goes front many back e is journal lawful settled whole =
           let a : IsAhead [] (flat_map (tasks_of s.words) lines) = subst (λ l. IsAhead [] (flat_map (tasks_of s.words) l)) (sym are) (lines_ahead first rest goes front many back e is) in
           let same : place_after s lines [] ≡ onward s [] (a.front ++ a.many ∷ a.back) 0 false = ap (λ tasks. onward s [] tasks 0 false) a.tasks_are in
-          let ends = ap (λ (p : WalkPlace M O). p.unsettled) (sym same) ∙ settled [] tt in
-          let begins : Stage [] = elim (passes [] a.front a.many a.back 0 false a.is_many a.goes ends) [ inl ahead ↦ inl (subst (λ (p : WalkPlace M O). IsAhead [] p.tasks) (sym same) ahead) | inr q ↦ inr (now_quiet [] q) ] in
-          elim (by_rows s lines Stage begins stage_row journal lawful) [
+          let begins : Stage [] = λ none. (let ends = ap (λ (p : WalkPlace M O). p.unsettled) (sym same) ∙ none in elim (passes [] a.front a.many a.back 0 false a.is_many a.goes ends) [ inl ahead ↦ inl (subst (λ (p : WalkPlace M O). IsAhead [] p.tasks) (sym same) ahead) | inr q ↦ inr (now_quiet [] q) ]) in
+          elim (by_rows s lines Stage begins stage_row journal lawful settled) [
             | inr was ↦ was
             | inl ahead ↦ absurd (never ahead.front ahead.many ahead.back (sym ahead.tasks_are ∙ whole))
           ]

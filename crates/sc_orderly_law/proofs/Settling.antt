@@ -10,7 +10,7 @@ use Rattle.sc_actor.specs.declared.rows.Row.{Row}
 use Rattle.sc_actor.specs.declared.rows.Event.{Event}
 use Rattle.sc_actor.specs.declared.rows.Event.TheVariants.{Deliver}
 use Rattle.sc_actor.specs.declared.schedules.Line.{Line}
-use Rattle.sc_actor.specs.declared.schedules.Line.TheVariants.{Go as GoLine, Settle, Free}
+use Rattle.sc_actor.specs.declared.schedules.Line.TheVariants.{Go as GoLine, Deliver as DeliverLine, Settle, Free}
 use Rattle.sc_actor.specs.Definitions.{mails, numbered, is_delivery, System, acts, row_of, waiting, kth, are_apart, Task, Once, Settles, Frees, Storms, WalkPlace, Allows, MayAdd, IsLawful, onward, is_over, is_quiet, cuts, skips, after_row, place_after, rest_of_all, tasks_of, delivery, unsettled}
 use Rattle.sc_actor.proofs.Lemmas.{find-who, waiting_any, lawful-last, place_after-rows}
 use Rattle.sc_orderly_law.specs.Definitions.{IsPlainLine, is_born, deliveries, Owing, Lowers, HasRoom, owed, owed_at_birth}
@@ -34,6 +34,7 @@ line_room : {O : Type 0} (words : ℕ → ℕ → ℕ × ℕ) (total : ℕ) (lin
 line_room words total (GoLine who) p room = (tt, tt)
 line_room words total (Settle most) p room = (omega arith, tt)
 line_room words total (Free most workers) p room = (omega arith, tt)
+line_room words total (DeliverLine who k) p room = (tt, tt)
 line_room words total _ p room = absurd p
 
 lines_room : {O : Type 0} (words : ℕ → ℕ → ℕ × ℕ) (total : ℕ) (lines : List (Line O)) → Each IsPlainLine lines → Each (HasRoom total) lines → Each (HasRoomLeft total 0) (flat_map (tasks_of words) lines)
@@ -68,6 +69,11 @@ module _ {A M O : Type 0} (s : System A M O) where
   free-event rows left row e =
       let q = and_then-some (λ mail. acts s rows row.who (Deliver mail)) (kth (waiting s rows (Some row.who)) 1) row e in
       sym (ap (λ (e' : Event O). is_delivery e') (acts-event rows row.who (Deliver q.0) row q.2))
+
+  pub deliver-event : (rows : List (Row M O)) (who k : ℕ) (row : Row M O) → Allows s rows (Once (DeliverLine who k)) row → is_delivery row.event ≡ true
+  deliver-event rows who k row e =
+      let q = and_then-some (λ mail. acts s rows who (Deliver mail)) (kth (waiting s rows (Some who)) k) row e in
+      sym (ap (λ (e' : Event O). is_delivery e') (acts-event rows who (Deliver q.0) row q.2))
 
   made_by : (total : ℕ) (rows : List (Row M O)) (row : Row M O) (tasks : List (Task O)) → MayAdd s rows tasks row → Each (HasRoomLeft total (deliveries rows)) tasks → Each (HasRoomLeft total (deliveries (rows ++ row ∷ []))) (rest_of_all tasks)
   made_by total rows row [] e all = absurd e

@@ -12,42 +12,13 @@ use Rattle.sc_actor.specs.declared.schedules.Line.{Line}
 use Rattle.sc_actor.specs.declared.schedules.Line.TheVariants.{Go as GoLine, Deliver as DeliverLine, Drop as DropLine, Again as AgainLine, Tick as TickLine, Crash as CrashLine, Told as ToldLine, Settle, Free, Storm}
 use Rattle.sc_actor.specs.Definitions.{has_crashed, is_delivery, System, acts, has_gone, Task, Once, Settles, Frees, Storms, WalkPlace, Allows, MayAdd, IsLawful, onward, is_over, is_quiet, after_row, place_after, rest_of_all, tasks_of, unsettled}
 use Rattle.sc_actor.proofs.Lemmas.{lawful-last, lawful-prefix, place_after-rows}
-use Rattle.sc_orderly_law.specs.Definitions.{IsCalmRow, is_told, deliveries, orders, HasRoom, Said, Nothing, Goes, AnOrder, MayGo, MayOrder, AreSpaced, IsClear, ComesInTime, AreInTime, orders_given, IsMeasure}
+use Rattle.sc_orderly_law.specs.Definitions.{IsCalmRow, is_told, deliveries, orders, HasRoom, Said, Nothing, Goes, AnOrder, AreSpaced, IsClear, ComesInTime, AreInTime, orders_given, IsMeasure}
 use Rattle.sc_orderly_law.proofs.Ordering.{allows_calm, by_rows}
 use Rattle.sc_orderly_law.proofs.Paying.{count_push}
-use Rattle.sc_orderly_law.proofs.Settling.{acts-event, delivery-event, free-event}
+use Rattle.sc_orderly_law.proofs.Settling.{acts-event, delivery-event, free-event, deliver-event}
 use Rattle.sc_orderly_law.proofs.Given.{spaced_are_calm, few_told}
-use Rattle.sc_orderly_law.proofs.InTime.{in_time_row, clear_row, clear_quiet, delivery_untold, delivery_in_time, none_in_time, one_if}
-
--- where so much may be owed, tasks are spaced and each of many deliveries has room
-abbrev AreTasksSpaced : {O : Type 0} → ℕ → Said → List (Task O) → Type 0
-AreTasksSpaced total said [] = Unit {0}
-AreTasksSpaced total said (Settles left ∷ tasks) = (total ≤ left) × AreTasksSpaced total Nothing tasks
-AreTasksSpaced total said (Frees left ∷ tasks) = (total ≤ left) × AreTasksSpaced total Nothing tasks
-AreTasksSpaced total said (Once (GoLine who) ∷ tasks) = MayGo said × AreTasksSpaced total Goes tasks
-AreTasksSpaced total said (Once (ToldLine who order) ∷ tasks) = MayOrder said × AreTasksSpaced total AnOrder tasks
-AreTasksSpaced total said (Once (Settle most) ∷ tasks) = ⊥
-AreTasksSpaced total said (Once (Free most workers) ∷ tasks) = ⊥
-AreTasksSpaced total said (Once (DeliverLine who k) ∷ tasks) = ⊥
-AreTasksSpaced total said (Once (DropLine who k) ∷ tasks) = ⊥
-AreTasksSpaced total said (Once (AgainLine mail) ∷ tasks) = ⊥
-AreTasksSpaced total said (Once (TickLine who) ∷ tasks) = ⊥
-AreTasksSpaced total said (Once (CrashLine who) ∷ tasks) = ⊥
-AreTasksSpaced total said (Once (Storm number most) ∷ tasks) = ⊥
-AreTasksSpaced total said (Storms words ∷ tasks) = ⊥
-
-lines_spaced : {O : Type 0} (words : ℕ → ℕ → ℕ × ℕ) (total : ℕ) (said : Said) (lines : List (Line O)) → AreSpaced said lines → Each (HasRoom total) lines → AreTasksSpaced total said (flat_map (tasks_of words) lines)
-lines_spaced words total said [] apart room = tt
-lines_spaced words total said (Settle most ∷ lines) apart room = (room.0, lines_spaced words total Nothing lines apart room.1)
-lines_spaced words total said (Free most workers ∷ lines) apart room = (room.0, lines_spaced words total Nothing lines apart room.1)
-lines_spaced words total said (GoLine who ∷ lines) apart room = (apart.0, lines_spaced words total Goes lines apart.1 room.1)
-lines_spaced words total said (ToldLine who order ∷ lines) apart room = (apart.0, lines_spaced words total AnOrder lines apart.1 room.1)
-lines_spaced words total said (DeliverLine who k ∷ lines) apart room = absurd apart
-lines_spaced words total said (DropLine who k ∷ lines) apart room = absurd apart
-lines_spaced words total said (AgainLine mail ∷ lines) apart room = absurd apart
-lines_spaced words total said (TickLine who ∷ lines) apart room = absurd apart
-lines_spaced words total said (CrashLine who ∷ lines) apart room = absurd apart
-lines_spaced words total said (Storm number most ∷ lines) apart room = absurd apart
+use Rattle.sc_orderly_law.proofs.InTime.{in_time_row, clear_row, delivery_untold, delivery_in_time, none_in_time, one_if}
+use Rattle.sc_orderly_law.proofs.SpacedTasks.{AreTasksSpaced, lines_spaced, Knows, Stands, may_go, may_order, knows_delivery}
 
 raised : (raise : ℕ) (b : Bool) (n m : ℕ) → m ≡ n + cond b 1 0 → m * raise ≡ n * raise + cond b raise 0
 raised raise true n m e = ap (λ k. k * raise) e ∙ one_more n
@@ -60,42 +31,9 @@ raised raise false n m e = ap (λ k. k * raise) e ∙ none_more n
     none_more k = grind arith
 
 module _ {A M O : Type 0} (s : System A M O) (lines : List (Line O)) (most : ℕ) (owed : List (Row M O) → ℕ) (still raise : ℕ) (measure : IsMeasure s lines most owed still raise) where
-  -- what is known of the rows by what lines said since the last deliveries
-  abbrev Knows : Said → List (Row M O) → Type 0
-  Knows Nothing rows = is_quiet s rows ≡ true
-  Knows Goes rows = IsClear s rows
-  Knows AnOrder rows = Unit {0}
-
-  -- where the walk stands: an order is next in a quiet journal, and a line of many deliveries has room for what is owed
-  abbrev Stands : List (Row M O) → List (Task O) → Type 0
-  Stands rows [] = Unit {0}
-  Stands rows (Once (GoLine who) ∷ tasks) = IsClear s rows × AreTasksSpaced (still + raise) Goes tasks
-  Stands rows (Once (ToldLine who order) ∷ tasks) = (is_quiet s rows ≡ true) × AreTasksSpaced (still + raise) AnOrder tasks
-  Stands rows (Settles left ∷ tasks) = (owed rows ≤ left) × AreTasksSpaced (still + raise) Nothing tasks
-  Stands rows (Frees left ∷ tasks) = (owed rows ≤ left) × AreTasksSpaced (still + raise) Nothing tasks
-  Stands rows (Once (Settle most) ∷ tasks) = ⊥
-  Stands rows (Once (Free most workers) ∷ tasks) = ⊥
-  Stands rows (Once (DeliverLine who k) ∷ tasks) = ⊥
-  Stands rows (Once (DropLine who k) ∷ tasks) = ⊥
-  Stands rows (Once (AgainLine mail) ∷ tasks) = ⊥
-  Stands rows (Once (TickLine who) ∷ tasks) = ⊥
-  Stands rows (Once (CrashLine who) ∷ tasks) = ⊥
-  Stands rows (Once (Storm number most) ∷ tasks) = ⊥
-  Stands rows (Storms words ∷ tasks) = ⊥
-
   -- the walk stands so, and no line was cut off
   abbrev IsFine : List (Row M O) → WalkPlace M O → Type 0
-  IsFine rows place = Stands rows place.tasks × (place.unsettled ≡ false)
-
-  may_go : (said : Said) (rows : List (Row M O)) → MayGo said → Knows said rows → IsClear s rows
-  may_go Nothing rows may known = clear_quiet s rows known
-  may_go Goes rows may known = known
-  may_go AnOrder rows may known = absurd may
-
-  may_order : (said : Said) (rows : List (Row M O)) → MayOrder said → Knows said rows → is_quiet s rows ≡ true
-  may_order Nothing rows may known = known
-  may_order Goes rows may known = absurd may
-  may_order AnOrder rows may known = absurd may
+  IsFine rows place = Stands s (owed rows) (still + raise) rows place.tasks × (place.unsettled ≡ false)
 
   module _ (rows : List (Row M O)) (lawful : IsLawful s lines rows) (timely : AreInTime s rows) (low : deliveries rows ≤ most) (bound : owed rows ≤ still + raise) where
     -- a line of deliveries with room is over only where it is quiet
@@ -111,17 +49,17 @@ module _ {A M O : Type 0} (s : System A M O) (lines : List (Line O)) (most : ℕ
     uncut true e = refl
     uncut false e = absurd (true≢false (sym e))
 
-    passes : (said : Said) (tasks : List (Task O)) (skipped : ℕ) → AreTasksSpaced (still + raise) said tasks → Knows said rows → IsFine rows (onward s rows tasks skipped false)
+    passes : (said : Said) (tasks : List (Task O)) (skipped : ℕ) → AreTasksSpaced (still + raise) said tasks → Knows s said rows → IsFine rows (onward s rows tasks skipped false)
     passes said [] skipped apart known = (tt, refl)
     passes said (Once (GoLine who) ∷ tasks) skipped apart known =
-        let clear = may_go said rows apart.0 known in
+        let clear = may_go s said rows apart.0 known in
         by (is_over s rows (Once (GoLine who))) clear (passes Goes tasks (skipped + 1) apart.1 clear)
       where
         by : (b : Bool) → IsClear s rows → IsFine rows (onward s rows tasks (skipped + 1) false) → IsFine rows (cond b (onward s rows tasks (skipped + 1) (false || false)) (record { tasks = Once (GoLine who) ∷ tasks; rows = rows; skipped = skipped; unsettled = false }))
         by true clear more = more
         by false clear more = ((clear, apart.1), refl)
     passes said (Once (ToldLine who order) ∷ tasks) skipped apart known =
-        let quiet = may_order said rows apart.0 known in
+        let quiet = may_order s said rows apart.0 known in
         by (is_over s rows (Once (ToldLine who order))) quiet (passes AnOrder tasks (skipped + 1) apart.1 tt)
       where
         by : (b : Bool) → is_quiet s rows ≡ true → IsFine rows (onward s rows tasks (skipped + 1) false) → IsFine rows (cond b (onward s rows tasks (skipped + 1) (false || false)) (record { tasks = Once (ToldLine who order) ∷ tasks; rows = rows; skipped = skipped; unsettled = false }))
@@ -145,7 +83,12 @@ module _ {A M O : Type 0} (s : System A M O) (lines : List (Line O)) (most : ℕ
         by false over more = ((let room = apart.0 in omega (arith, room, bound), apart.1), refl)
     passes said (Once (Settle most) ∷ tasks) skipped apart known = absurd apart
     passes said (Once (Free most workers) ∷ tasks) skipped apart known = absurd apart
-    passes said (Once (DeliverLine who k) ∷ tasks) skipped apart known = absurd apart
+    passes said (Once (DeliverLine who k) ∷ tasks) skipped apart known =
+        by (is_over s rows (Once (DeliverLine who k))) (passes said tasks (skipped + 1) apart.1 known)
+      where
+        by : (b : Bool) → IsFine rows (onward s rows tasks (skipped + 1) false) → IsFine rows (cond b (onward s rows tasks (skipped + 1) (false || false)) (record { tasks = Once (DeliverLine who k) ∷ tasks; rows = rows; skipped = skipped; unsettled = false }))
+        by true more = more
+        by false more = ((apart.0, (said, (known, apart.1))), refl)
     passes said (Once (DropLine who k) ∷ tasks) skipped apart known = absurd apart
     passes said (Once (AgainLine mail) ∷ tasks) skipped apart known = absurd apart
     passes said (Once (TickLine who) ∷ tasks) skipped apart known = absurd apart
@@ -259,8 +202,17 @@ module _ {A M O : Type 0} (s : System A M O) (lines : List (Line O)) (most : ℕ
           let sums = sum_row t in
           record { timely = t; sum = sums; bound = b; fine = frees_on (rows ++ row ∷ []) lawful t (low_by (rows ++ row ∷ []) lawful sums) b (left - 1) tasks skipped less spaced }
 
+      deliver_step : (who k : ℕ) (said : Said) (tasks : List (Task O)) (skipped : ℕ) → Allows s rows (Once (DeliverLine who k)) row → k ≡ 1 → Knows s said rows → AreTasksSpaced (still + raise) said tasks → IsStep rows row (Once (DeliverLine who k) ∷ tasks) skipped
+      deliver_step who k said tasks skipped may one known spaced =
+          let d = deliver-event s rows who k row may in
+          let t = in_time_row s rows row timely (allows_calm s rows (Once (DeliverLine who k)) row one may) (delivery_in_time s rows row.event d) in
+          let lower = delivery_lowers d t in
+          let b : owed (rows ++ row ∷ []) ≤ still + raise = omega (arith, lower, bound) in
+          let sums = sum_row t in
+          record { timely = t; sum = sums; bound = b; fine = passes (rows ++ row ∷ []) lawful t (low_by (rows ++ row ∷ []) lawful sums) b said tasks skipped spaced (knows_delivery s rows row who k one may said d known) }
+
       -- whatever task is next
-      step : (tasks : List (Task O)) (skipped : ℕ) → MayAdd s rows tasks row → Stands rows tasks → IsStep rows row tasks skipped
+      step : (tasks : List (Task O)) (skipped : ℕ) → MayAdd s rows tasks row → Stands s (owed rows) (still + raise) rows tasks → IsStep rows row tasks skipped
       step [] skipped may stands = absurd may
       step (Once (GoLine who) ∷ tasks) skipped may stands = go_step who tasks skipped may stands.0 stands.1
       step (Once (ToldLine who order) ∷ tasks) skipped may stands = told_step who order tasks skipped may stands.0 stands.1
@@ -268,7 +220,7 @@ module _ {A M O : Type 0} (s : System A M O) (lines : List (Line O)) (most : ℕ
       step (Frees left ∷ tasks) skipped may stands = frees_step left tasks skipped may stands.0 stands.1
       step (Once (Settle most) ∷ tasks) skipped may stands = absurd stands
       step (Once (Free most workers) ∷ tasks) skipped may stands = absurd stands
-      step (Once (DeliverLine who k) ∷ tasks) skipped may stands = absurd stands
+      step (Once (DeliverLine who k) ∷ tasks) skipped may stands = deliver_step who k stands.1.0 tasks skipped may stands.0 stands.1.1.0 stands.1.1.1
       step (Once (DropLine who k) ∷ tasks) skipped may stands = absurd stands
       step (Once (AgainLine mail) ∷ tasks) skipped may stands = absurd stands
       step (Once (TickLine who) ∷ tasks) skipped may stands = absurd stands

@@ -10,12 +10,12 @@ use Rattle.sc_actor.specs.declared.schedules.Line.{Line}
 use Rattle.sc_actor.specs.declared.schedules.Line.TheVariants.{Go as GoLine, Deliver as DeliverLine, Drop as DropLine, Again as AgainLine, Tick as TickLine, Crash as CrashLine, Told as ToldLine, Settle, Free, Storm}
 use Rattle.sc_actor.specs.Definitions.{mails, copies, has_crashed, is_delivery, System, numbers_of, row_of, waiting, kth, has_gone, is_go}
 
--- A plain line: it tells an actor to go, or only delivers.
+-- A plain line starts an actor, delivers the first pending mail of one actor, or delivers pending mail of all.
 abbrev pub IsPlainLine : {O : Type 0} → Line O → Type 0
 IsPlainLine (GoLine who) = Unit {0}
 IsPlainLine (Settle most) = Unit {0}
 IsPlainLine (Free most workers) = Unit {0}
-IsPlainLine (DeliverLine who k) = ⊥
+IsPlainLine (DeliverLine who k) = k ≡ 1
 IsPlainLine (DropLine who k) = ⊥
 IsPlainLine (AgainLine mail) = ⊥
 IsPlainLine (TickLine who) = ⊥
@@ -23,13 +23,13 @@ IsPlainLine (CrashLine who) = ⊥
 IsPlainLine (ToldLine who order) = ⊥
 IsPlainLine (Storm number most) = ⊥
 
--- A calm line: it tells an actor to go, gives an order, or only delivers.
+-- A calm line is a plain one, or gives an order.
 abbrev pub IsCalmLine : {O : Type 0} → Line O → Type 0
 IsCalmLine (GoLine who) = Unit {0}
 IsCalmLine (ToldLine who order) = Unit {0}
 IsCalmLine (Settle most) = Unit {0}
 IsCalmLine (Free most workers) = Unit {0}
-IsCalmLine (DeliverLine who k) = ⊥
+IsCalmLine (DeliverLine who k) = k ≡ 1
 IsCalmLine (DropLine who k) = ⊥
 IsCalmLine (AgainLine mail) = ⊥
 IsCalmLine (TickLine who) = ⊥

@@ -1,5 +1,5 @@
 -- What a driver's answer says of a scenario.
-use Rattle.std.proofs.Common.{◌≡◌, ◌≢◌, ◌<◌, ◌≤◌, ◌^◌, ℕ, List, [], ◌∷◌, ◌++◌, length, map, Bool, Some, inl, inr, refl, ◌∙◌, ap, subst, arith}
+use Rattle.std.proofs.Common.{◌≡◌, ◌≢◌, ◌<◌, ◌≤◌, ◌^◌, ℕ, List, [], ◌∷◌, ◌++◌, length, map, Bool, true, false, Some, inl, inr, refl, sym, ◌∙◌, ap, subst, arith}
 use Rattle.std.specs.Prelude.{⊤}
 use Rattle.sc_cmd.specs.declared.orders.OrderLine.{OrderLine}
 use Rattle.sc_mail.specs.declared.bodies.Mail.{Mail}
@@ -24,7 +24,7 @@ use Rattle.sc_sound.specs.Players.{schedule, system_of, Lawful, Whole, parties, 
 use Rattle.sc_refusal_law.specs.Journals.{ValidJournalsRefuseWithCause}
 use Rattle.sc_whole_law.specs.Valid.{ValidJournalsAreSound}
 use Rattle.sc_command_line.specs.Causes.{said_of}
-use Rattle.sc_command_line.specs.declared.said.Said.TheVariants.{Filled}
+use Rattle.sc_command_line.specs.declared.said.Said.TheVariants.{Ended as HasEnded, Filled}
 use Rattle.sc_run.specs.Budgets.{BudgetsSuffice}
 use Rattle.sc_run.specs.declared.done.Text.{Text}
 use Rattle.sc_run.specs.Played.{mail_weight, HasPlayedToEnd, HasFilled}
@@ -67,6 +67,7 @@ module _ (law : ValidJournalsAreSound) (causes : ValidJournalsRefuseWithCause) (
         parties_are = parties_are;
         settled = λ within. same_cut ∙ budgets.settled two_words scenario journal valid within allowed;
         answered = λ within. budgets.answered two_words scenario journal valid within allowed through;
+        uncut = λ calm settled short. budgets.uncut two_words scenario journal valid calm allowed through (sym same_cut ∙ settled) short;
       }
 
   -- a journal that a driver has filled is a play's
@@ -84,6 +85,11 @@ module _ (law : ValidJournalsAreSound) (causes : ValidJournalsRefuseWithCause) (
             omega (arith, low, high);
       }
 
+-- a run that says that it ended cut no line off
+ended_uncut : (cut : Bool) → said_of cut ≡ HasEnded → cut ≡ false
+ended_uncut true e = cc
+ended_uncut false e = refl
+
 -- the text of a run that ended
 pub comes_ended : (Shows : List (Row Mail OrderLine) → List (List ℕ) → Type 0) (scenario : Scenario) (cut quiet : Bool) (skips : ℕ) (journal : List (Row Mail OrderLine)) (parties : List Player) (text : Text) →
     HasPlayedToEnd scenario journal_limit cut quiet skips journal parties → Shows journal text.lines → text.journal ≡ Some journal → text.parties ≡ parties → Comes Shows scenario (said_of cut) text
@@ -92,7 +98,7 @@ comes_ended Shows scenario cut quiet skips journal parties text e lines journal_
   reports = record { lawful = e.lawful; whole = e.whole; within = e.within; sound = e.sound; refuses = e.refuses; lines = lines; journal_is = journal_is; parties_are = parties_is ∙ e.parties_are };
   said_is = ap said_of e.cut_is;
   settled = λ within. ap said_of (e.settled within);
-  answered = e.answered;
+  answered = λ calm ended. e.uncut calm (ended_uncut cut ended) (let counts = journal_counts mail_weight journal in let within = e.within in omega (arith, counts, within));
 })
 
 -- the text of a run whose journal is full

@@ -1,34 +1,39 @@
 -- A run of a plain scenario at its budget answers every request, and so does one of a calm scenario, unless its journal is full.
-use Rattle.std.proofs.Common.{◌≡◌, ◌⊎◌, ℕ, List, Option, None, Some, Ok, inl, inr, refl, sym, ◌∙◌, ap, subst}
+use Rattle.std.proofs.Common.{◌≡◌, ◌⊎◌, ℕ, List, Bool, true, false, Option, None, Some, Ok, inl, inr, refl, sym, ◌∙◌, ap, subst, arith}
 use Rattle.std.specs.Prelude.{IfSome}
 use Rattle.sc_edges.specs.Causes.{Rose}
 use Rattle.sc_edges.specs.Uses.{SourceUse, SinkUse}
 use Rattle.sc_cmd.specs.declared.orders.OrderLine.{OrderLine}
 use Rattle.sc_mail.specs.declared.bodies.Mail.{Mail}
 use Rattle.sc_actor.specs.declared.rows.Row.{Row}
+use Rattle.sc_actor.specs.Walk.{unsettled}
+use Rattle.sc_chance.specs.Words.{two_words}
+use Rattle.sc_sound.specs.Players.{system_of, schedule, as_nodes}
 use Rattle.sc_scenario.specs.Grammar.{verdict_of}
 use Rattle.sc_scenario.specs.Made.{made_scenario}
 use Rattle.sc_scenario.specs.declared.scenarios.Scenario.{Scenario}
-use Rattle.sc_command_line.specs.Causes.{status_of}
+use Rattle.sc_command_line.specs.Causes.{status_of, said_of}
 use Rattle.sc_command_line.specs.declared.said.Said.{Said}
+use Rattle.sc_command_line.specs.declared.said.Said.TheVariants.{Ended}
 use Rattle.sc_command_line.specs.Faults.{IsBadText}
 use Rattle.sc_budget_law.specs.Budget.{IsAtBudget, AreAnswered}
-use Rattle.sc_budget_law.specs.Calm.{IsCalmAtBudget}
+use Rattle.sc_budget_law.specs.Calm.{calm_budget_of, IsCalm, IsCalmAtBudget}
+use Rattle.sc_budget_law.proofs.Lemmas.{roomy_scenarios_are_calm}
 use Rattle.sc_budget_law.specs.Laws.{PlainLinesEndQuiet, PlainRequestsAreAnswered, PlainJournalsAreLight}
-use Rattle.sc_calm_answers_law.specs.Answered.{CalmLinesSettle, CalmRequestsAreAnswered}
+use Rattle.sc_calm_answers_law.specs.Answered.{CalmLinesSettle, CalmRequestsAreAnswered, SettledRequestsAreAnswered}
 use Rattle.sc_command_line.specs.Subcommands.{subcommand_by}
 use Rattle.sc_command_line.specs.declared.subcommands.Subcommand.{Subcommand}
 use Rattle.sc_command_line.specs.declared.subcommands.Subcommand.TheVariants as ask
 use Rattle.sc_run.specs.declared.done.Text.{Text}
 use Rattle.sc_run.specs.declared.done.Done.{Done}
-use Rattle.sc_run.specs.Answers.{IsText, IsAskedFor, AnswersWhere, Runs}
+use Rattle.sc_run.specs.Answers.{IsText, IsAskedFor, AnswersWhere, AnswersOnStatusZero, Runs}
 use Rattle.sc_run.specs.Budgets.{IsWithinBudget, BudgetsSuffice}
 use Rattle.sc_run.specs.Run.{Comes, Ends, PlaysUntilFull, Refuses, SaysFor, ShowsFile, ShowsReport}
 use Rattle.sc_run.specs.Shown.{ShowsScan}
 
 -- the laws of plain and of calm journals, together
-pub suffice : PlainLinesEndQuiet → PlainRequestsAreAnswered → PlainJournalsAreLight → CalmLinesSettle → CalmRequestsAreAnswered → BudgetsSuffice
-suffice plain_quiet plain_answered light calm_quiet calm_answered = record {
+pub suffice : PlainLinesEndQuiet → PlainRequestsAreAnswered → PlainJournalsAreLight → CalmLinesSettle → CalmRequestsAreAnswered → SettledRequestsAreAnswered → BudgetsSuffice
+suffice plain_quiet plain_answered light calm_quiet calm_answered settled_answered = record {
   settled = λ words scenario journal valid within lawful. elim within [
     | inl plain ↦ plain_quiet words scenario journal valid plain lawful
     | inr calm ↦ calm_quiet words scenario journal valid calm lawful
@@ -38,6 +43,7 @@ suffice plain_quiet plain_answered light calm_quiet calm_answered = record {
     | inr calm ↦ calm_answered words scenario journal valid calm lawful whole
   ];
   light = light;
+  uncut = settled_answered;
 }
 
 -- what was said, and the journal of the text
@@ -63,35 +69,64 @@ not_refused source scenario said text is calm (inr names) =
 abbrev IsOver : Scenario → Said → Text → Type 0
 IsOver scenario said text = IsAnswered scenario said text ⊎ PlaysUntilFull scenario said text
 
+-- a scenario within its budget is calm
+calm_within : (scenario : Scenario) → IsWithinBudget scenario → IsCalm scenario
+calm_within scenario (inl plain) = roomy_scenarios_are_calm.plain scenario plain
+calm_within scenario (inr calm) = roomy_scenarios_are_calm.calm (calm_budget_of scenario) scenario calm
+
 comes_answered : (Shows : List (Row Mail OrderLine) → List (List ℕ) → Type 0) (scenario : Scenario) (said : Said) (text : Text) → IsWithinBudget scenario → Comes Shows scenario said text → IsOver scenario said text
 comes_answered Shows scenario said text within (inl plays) =
-    inl (record { status = ap status_of (plays.settled within); journal = plays.journal; journal_is = plays.reports.journal_is; answers = plays.answered within })
+    let ended = plays.settled within in
+    inl (record { status = ap status_of ended; journal = plays.journal; journal_is = plays.reports.journal_is; answers = plays.answered (calm_within scenario within) ended })
 comes_answered Shows scenario said text within (inr full) = inr full
 
--- the scenario that was read is the one that was asked for
-read_answered : (Shows : Scenario → List (Row Mail OrderLine) → List (List ℕ) → Type 0) (scenario other : Scenario) (said : Said) (text : Text) → other ≡ scenario → IsWithinBudget scenario → Comes (Shows other) other said text → IsOver scenario said text
-read_answered Shows scenario other said text same within comes =
-    subst (λ s. IsOver s said text) same (comes_answered (Shows other) other said text (subst IsWithinBudget (sym same) within) comes)
+-- what follows from each outcome of the scenario that was asked for, and from each refusal of its text, follows from what a run says
+module _ (scenario : Scenario) (said : Said) (text : Text) (Follows : Type 0) (come : (Shows : List (Row Mail OrderLine) → List (List ℕ) → Type 0) → Comes Shows scenario said text → Follows) where
+  -- the scenario that was read is the one that was asked for
+  read_follows : (Shows : Scenario → List (Row Mail OrderLine) → List (List ℕ) → Type 0) (other : Scenario) → other ≡ scenario → Comes (Shows other) other said text → Follows
+  read_follows Shows other same comes = come (Shows other) (subst (λ s. Comes (Shows other) s said text) same comes)
+
+  says_follows : (what : Option Subcommand) (source : SourceUse) → IsAskedFor what source scenario → (IsText source scenario → Refuses IsBadText source said text → Follows) → SaysFor what source said text → Follows
+  says_follows None source asked refused says = absurd asked
+  says_follows (Some ask.Audit) source asked refused says = absurd asked
+  says_follows (Some ask.Run) source asked refused (inl refuses) = refused asked refuses
+  says_follows (Some ask.Run) source asked refused (inr plays) = read_follows ShowsReport plays.scenario (same_text source scenario plays.scenario asked plays.read.read) plays.comes
+  says_follows (Some ask.Pool) source asked refused (inl refuses) = refused asked refuses
+  says_follows (Some ask.Pool) source asked refused (inr plays) = read_follows ShowsReport plays.scenario (same_text source scenario plays.scenario asked plays.read.read) plays.comes
+  says_follows (Some (ask.Scan sight)) source asked refused (inl refuses) = refused asked refuses
+  says_follows (Some (ask.Scan sight)) source asked refused (inr plays) = read_follows (λ s. ShowsScan s sight) plays.scenario (same_text source scenario plays.scenario asked plays.read.read) plays.comes
+  says_follows (Some ask.Journal) source asked refused (inl refuses) = refused asked refuses
+  says_follows (Some ask.Journal) source asked refused (inr plays) =
+      let all : plays.bytes ≡ asked.0 = subst (λ o. IfSome o (λ input. plays.bytes ≡ input)) asked.1 plays.read.all in
+      let e : Ok plays.scenario ≡ Ok scenario = sym plays.read.read ∙ (ap verdict_of all ∙ asked.2) in
+      let same : plays.scenario ≡ scenario = cc in
+      read_follows (λ s. ShowsFile plays.bytes) plays.scenario same plays.comes
+  says_follows (Some (ask.Make n seed)) source asked refused says = read_follows ShowsReport (made_scenario n seed) (sym asked) says.comes
 
 says_answered : (what : Option Subcommand) (source : SourceUse) (scenario : Scenario) (said : Said) (text : Text) → IsAskedFor what source scenario → IsWithinBudget scenario → (Rose source.faults_before source.faults_after → ⊥) → SaysFor what source said text → IsOver scenario said text
-says_answered None source scenario said text asked within still says = absurd asked
-says_answered (Some ask.Audit) source scenario said text asked within still says = absurd asked
-says_answered (Some ask.Run) source scenario said text asked within still (inl refuses) = absurd (not_refused source scenario said text asked still refuses)
-says_answered (Some ask.Run) source scenario said text asked within still (inr plays) =
-    read_answered ShowsReport scenario plays.scenario said text (same_text source scenario plays.scenario asked plays.read.read) within plays.comes
-says_answered (Some ask.Pool) source scenario said text asked within still (inl refuses) = absurd (not_refused source scenario said text asked still refuses)
-says_answered (Some ask.Pool) source scenario said text asked within still (inr plays) =
-    read_answered ShowsReport scenario plays.scenario said text (same_text source scenario plays.scenario asked plays.read.read) within plays.comes
-says_answered (Some (ask.Scan sight)) source scenario said text asked within still (inl refuses) = absurd (not_refused source scenario said text asked still refuses)
-says_answered (Some (ask.Scan sight)) source scenario said text asked within still (inr plays) =
-    read_answered (λ s. ShowsScan s sight) scenario plays.scenario said text (same_text source scenario plays.scenario asked plays.read.read) within plays.comes
-says_answered (Some ask.Journal) source scenario said text asked within still (inl refuses) = absurd (not_refused source scenario said text asked still refuses)
-says_answered (Some ask.Journal) source scenario said text asked within still (inr plays) =
-    let all : plays.bytes ≡ asked.0 = subst (λ o. IfSome o (λ input. plays.bytes ≡ input)) asked.1 plays.read.all in
-    let e : Ok plays.scenario ≡ Ok scenario = sym plays.read.read ∙ (ap verdict_of all ∙ asked.2) in
-    let same : plays.scenario ≡ scenario = cc in
-    read_answered (λ s. ShowsFile plays.bytes) scenario plays.scenario said text same within plays.comes
-says_answered (Some (ask.Make n seed)) source scenario said text asked within still says = read_answered ShowsReport scenario (made_scenario n seed) said text (sym asked) within says.comes
+says_answered what source scenario said text asked within still says =
+    says_follows scenario said text (IsOver scenario said text) (λ Shows comes. comes_answered Shows scenario said text within comes) what source asked
+    (λ is refuses. absurd (not_refused source scenario said text is still refuses)) says
+
+-- what comes of a calm scenario with status 0: all is answered
+comes_zero : (Shows : List (Row Mail OrderLine) → List (List ℕ) → Type 0) (scenario : Scenario) (said : Said) (text : Text) → IsCalm scenario → status_of said ≡ 0 → Comes Shows scenario said text → IsAnswered scenario said text
+comes_zero Shows scenario said text calm zero_is (inr full) = (let seven = ap status_of full.said_is in absurd (omega (arith, zero_is, seven)))
+comes_zero Shows scenario said text calm zero_is (inl plays) =
+    record {
+      status = zero_is;
+      journal = plays.journal;
+      journal_is = plays.reports.journal_is;
+      answers = plays.answered calm (ended (unsettled (system_of as_nodes two_words scenario) (schedule scenario) plays.journal) plays.said_is);
+    }
+  where
+    ended : (cut : Bool) → said ≡ said_of cut → said ≡ Ended
+    ended true is = (let six = ap status_of is in absurd (omega (arith, zero_is, six)))
+    ended false is = is
+
+-- a text that refuses its input has another status
+refused_other : (source : SourceUse) (said : Said) (text : Text) → status_of said ≡ 0 → Refuses IsBadText source said text → ⊥
+refused_other source said text zero_is (inl fails) = (let four = ap status_of fails.said_is in absurd (omega (arith, zero_is, four)))
+refused_other source said text zero_is (inr names) = (let three = ap status_of names.said_is in absurd (omega (arith, zero_is, three)))
 
 -- so a run of such a scenario answers all, or has a status that may come of a full journal, or of a want of memory
 module _ (words : List (List ℕ)) (source : SourceUse) (sink : SinkUse) (done : Done) where
@@ -109,9 +144,22 @@ module _ (words : List (List ℕ)) (source : SourceUse) (sink : SinkUse) (done :
         | inr failed ↦ absurd (still failed.3)
       ]
 
+  -- and so does a run of a calm scenario with status 0
+  answers_zero : Ends words source sink done → AnswersOnStatusZero words source done
+  answers_zero (inr out) scenario asked calm zero_is = (let eight = out.status in absurd (omega (arith, zero_is, eight)))
+  answers_zero (inl printed) scenario asked calm zero_is = elim (printed.prints) [
+    | inl whole ↦ (
+        let zero_said : status_of printed.said ≡ 0 = sym whole.0 ∙ zero_is in
+        let a = says_follows scenario printed.said printed.text (IsAnswered scenario printed.said printed.text) (λ Shows comes. comes_zero Shows scenario printed.said printed.text calm zero_said comes) (subcommand_by words) source asked
+        (λ is refuses. absurd (refused_other source printed.said printed.text zero_said refuses)) printed.says in
+        record { status = zero_is; journal = a.journal; journal_is = printed.journal ∙ a.journal_is; answered = a.answers })
+    | inr failed ↦ (let five = failed.0 in absurd (omega (arith, zero_is, five)))
+  ]
+
   pub runs : Ends words source sink done → Runs words source sink done
   runs ends = record {
     ends = ends;
     budget = answers_where IsAtBudget (λ scenario plain. inl plain) (λ status. status ≡ 8) refl (λ scenario said text plain full. absurd (full.not_plain plain)) ends;
+    zero = answers_zero ends;
     calm = answers_where IsCalmAtBudget (λ scenario calm. inr calm) (λ status. (status ≡ 7) ⊎ (status ≡ 8)) (inr refl) (λ scenario said text calm full. inl (ap status_of full.said_is)) ends;
   }

@@ -1,4 +1,4 @@
--- What a run does. Where no read or write error comes and memory suffices, it answers a plain scenario at its budget, and a calm one.
+-- What a run does. Where no read or write error comes and memory suffices, it answers a plain scenario at its budget, and a calm one; and with status 0 it answers any calm one.
 use Rattle.std.specs.Prelude.{◌≡◌, ◌⊎◌, ℕ, List, Option, None, Some, Ok}
 use Rattle.sc_edges.specs.Causes.{Rose}
 use Rattle.sc_edges.specs.Uses.{SourceUse, SinkUse}
@@ -9,7 +9,7 @@ use Rattle.sc_scenario.specs.Grammar.{verdict_of}
 use Rattle.sc_scenario.specs.Made.{made_scenario}
 use Rattle.sc_scenario.specs.declared.scenarios.Scenario.{Scenario}
 use Rattle.sc_budget_law.specs.Budget.{IsAtBudget, AreAnswered}
-use Rattle.sc_budget_law.specs.Calm.{IsCalmAtBudget}
+use Rattle.sc_budget_law.specs.Calm.{IsCalm, IsCalmAtBudget}
 use Rattle.sc_command_line.specs.Subcommands.{subcommand_by}
 use Rattle.sc_command_line.specs.declared.subcommands.Subcommand.{Subcommand}
 use Rattle.sc_command_line.specs.declared.subcommands.Subcommand.TheVariants as ask
@@ -52,8 +52,14 @@ AnswersWithinBudget words source sink done = AnswersWhere IsAtBudget (λ status.
 abbrev pub AnswersCalmly : List (List ℕ) → SourceUse → SinkUse → Done → Type 0
 AnswersCalmly words source sink done = AnswersWhere IsCalmAtBudget (λ status. (status ≡ 7) ⊎ (status ≡ 8)) words source sink done
 
--- What a run does: it prints a text whose cause is the words and the input, or it runs out of memory; and it answers all of a scenario at its budget.
+-- Where the words ask for a calm scenario, a run with status 0 answers every request of each client whose `go` line is followed by a line of deliveries.
+abbrev pub AnswersOnStatusZero : List (List ℕ) → SourceUse → Done → Type 0
+AnswersOnStatusZero words source done =
+    (scenario : Scenario) → IsAskedFor (subcommand_by words) source scenario → IsCalm scenario → done.status ≡ 0 → AnswersAll scenario done
+
+-- What a run does: it prints a text whose cause is the words and the input, or it runs out of memory; and it answers all of a scenario at its budget, and of a calm one where its status is 0.
 pub record Runs (words : List (List ℕ)) (source : SourceUse) (sink : SinkUse) (done : Done) : Type 0 where
   pub ends : Ends words source sink done
   pub budget : AnswersWithinBudget words source sink done
   pub calm : AnswersCalmly words source sink done
+  pub zero : AnswersOnStatusZero words source done

@@ -10,15 +10,17 @@ use Rattle.sc_sound.specs.Players.{system_of, schedule, Lawful, Whole, as_nodes}
 use Rattle.sc_budget_law.specs.Budget.{IsAtBudget, AreAnswered}
 use Rattle.sc_budget_law.specs.Calm.{IsCalmAtBudget}
 use Rattle.sc_budget_law.specs.Laws.{PlainJournalsAreLight}
+use Rattle.sc_calm_answers_law.specs.Answered.{SettledRequestsAreAnswered}
 
 -- the scenario is plain and at its budget, or calm and at its budget
 abbrev pub IsWithinBudget : Scenario → Type 0
 IsWithinBudget scenario = IsAtBudget scenario ⊎ IsCalmAtBudget scenario
 
--- In each lawful journal of a valid scenario within its budget no line is cut off with mail pending, in each whole one every request of a client whose `go` line is followed by a line of deliveries is answered, and no journal of a plain one passes the limit.
+-- In each lawful journal of a valid scenario within its budget no line is cut off with mail pending, in each whole one every request of a client whose `go` line is followed by a line of deliveries is answered, and no journal of a plain one passes the limit. In each whole journal of a calm one in which no line was cut off such requests are answered too, whatever its lines allow.
 pub record BudgetsSuffice : Type 0 where
   pub settled : (words : ℕ → ℕ → ℕ × ℕ) (scenario : Scenario) (journal : List (Row Mail OrderLine)) → IsValid scenario → IsWithinBudget scenario → Lawful as_nodes words scenario journal
       → unsettled (system_of as_nodes words scenario) (schedule scenario) journal ≡ false
   pub answered : (words : ℕ → ℕ → ℕ × ℕ) (scenario : Scenario) (journal : List (Row Mail OrderLine)) → IsValid scenario → IsWithinBudget scenario → Lawful as_nodes words scenario journal → Whole as_nodes words scenario journal
       → AreAnswered scenario journal
   pub light : PlainJournalsAreLight
+  pub uncut : SettledRequestsAreAnswered

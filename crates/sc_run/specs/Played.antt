@@ -1,5 +1,5 @@
 -- What the answer of a play says.
-use Rattle.std.specs.Prelude.{◌≡◌, ℕ, ◌<◌, ◌≤◌, ◌^◌, List, Bool, false, ⊤}
+use Rattle.std.specs.Prelude.{◌≡◌, ℕ, ◌<◌, ◌≤◌, ◌^◌, List, length, Bool, false, ⊤}
 use Rattle.sc_cmd.specs.declared.orders.OrderLine.{OrderLine}
 use Rattle.sc_mail.specs.declared.bodies.Mail.{Mail}
 use Rattle.sc_mail.specs.Weight.{body_weight}
@@ -15,13 +15,14 @@ use Rattle.sc_actor.specs.declared.schedules.Played.{Played}
 use Rattle.sc_actor.specs.declared.schedules.Played.TheVariants.{Ended, Full, OutOfMemory}
 use Rattle.sc_chance.specs.Words.{two_words}
 use Rattle.sc_budget_law.specs.Budget.{IsAtBudget, AreAnswered}
+use Rattle.sc_budget_law.specs.Calm.{IsCalm}
 use Rattle.sc_run.specs.Budgets.{IsWithinBudget}
 
 -- what a mail weighs
 abbrev pub mail_weight : Mail → ℕ
 mail_weight mail = body_weight mail.body
 
--- The journal is lawful and whole and within the limit, each prefix of it is sound and each refusal has its cause, the counts are the walk's, and each party is its replay. Within its budget no line is cut off, and every request of a client whose `go` line is followed by a line of deliveries is answered.
+-- The journal is lawful and whole and within the limit, each prefix of it is sound and each refusal has its cause, the counts are the walk's, and each party is its replay. Within its budget no line is cut off, and every request of a client whose `go` line is followed by a line of deliveries is answered; so it is where the scenario is calm, no line was cut off and the rows are no more than 2^28.
 pub record HasPlayedToEnd (scenario : Scenario) (limit : ℕ) (cut quiet : Bool) (skips : ℕ) (journal : List (Row Mail OrderLine)) (left : List Player) : Type 0 where
   pub lawful : Lawful as_nodes two_words scenario journal
   pub whole : Whole as_nodes two_words scenario journal
@@ -34,6 +35,7 @@ pub record HasPlayedToEnd (scenario : Scenario) (limit : ℕ) (cut quiet : Bool)
   pub parties_are : left ≡ parties as_nodes scenario journal
   pub settled : IsWithinBudget scenario → cut ≡ false
   pub answered : IsWithinBudget scenario → AreAnswered scenario journal
+  pub uncut : IsCalm scenario → cut ≡ false → length journal ≤ 2 ^ 28 → AreAnswered scenario journal
 
 -- The journal is lawful and within the limit, each prefix of it is sound and each refusal has its cause, and a row that may come next passes the limit, which no journal of a plain scenario at its budget does unless the limit is below 2^30 bytes.
 pub record HasFilled (scenario : Scenario) (limit : ℕ) (journal : List (Row Mail OrderLine)) : Type 0 where

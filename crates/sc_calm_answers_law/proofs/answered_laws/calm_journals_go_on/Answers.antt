@@ -16,7 +16,7 @@ use Rattle.sc_calm_charts_law.proofs.Lemmas.{charts_follow, quiet_charts_rest}
 use Rattle.sc_calm_answers_law.proofs.SettingLaws.{quiet_journals_have_frames}
 use Rattle.sc_calm_answers_law.proofs.KeptLaws.{chart_hints_rise, order_charts_follow}
 use Rattle.sc_calm_answers_law.proofs.AnswerLaws.{calm_journals_are_short, orders_may_be_given}
-use Rattle.sc_budget_law.proofs.Lemmas.{calm_lines_are_spaced}
+use Rattle.sc_budget_law.proofs.Lemmas.{calm_lines_are_spaced, roomy_scenarios_are_calm}
 use Rattle.sc_calm_law.proofs.Lemmas.{kept_calm_is_measured, resting_owes_little}
 use Rattle.sc_calm_answers_law.proofs.answered_laws.calm_journals_go_on.Goals as goal
 
@@ -51,6 +51,7 @@ returns c =
       chart_law = charts_follow;
     } in
     let lines : LineLaws = record {
+      roomy_law = roomy_scenarios_are_calm;
       short_law = calm_journals_are_short;
       given_law = orders_may_be_given;
       spaced_law = calm_lines_are_spaced;
