@@ -1,4 +1,5 @@
-//! Gathering of all shells, where only one has acted, or none.
+//! Gathering of all shells: they meet the network's port and vouch for what it has seen. Here only
+//! one of them has acted, or none.
 ghost use Rattle.std.specs.Prelude.{◌<◌, length, IfOk, OnOk};
 ghost use Rattle.sc_exchange.specs.Ports.{IsTrue, IsAddressed};
 ghost use Rattle.sc_workers.specs.Crews.{AllMet, AllOf, AreStill};

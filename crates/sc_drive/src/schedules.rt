@@ -63,8 +63,7 @@ pub fn drive<A: Actor, G: Gate, R: Threads + Wait + Sync>(
     ensures driven { (births : List (Seat A)) → HasOpened births company.old →
         IsDriven two_words births lines.now company.old.net.limit company.new result }
 {
-    // A company that has just opened has made no row; that nothing is there, all know only once
-    // they have gathered.
+    // That the journal is empty is known only once all shells have gathered.
     let Ok(_) = gather(rt, &mut company.net, &mut company.shells) else {
         return Played::OutOfMemory;
     };

@@ -162,8 +162,8 @@ impl<T: Labour> Office<T> {
         unreachable!()
     }
 
-    /// Closes the office for good, wakes the helpers, which then end, and returns the proof that it
-    /// is closed.
+    /// Closes the office for good, wakes the helpers so that they can end, and returns the proof
+    /// that it is closed.
     pub fn close<R: Wait>(&self, rt: &R) -> Closed<'_>
         ensures closed { IsClosed self.now result.of }
     {

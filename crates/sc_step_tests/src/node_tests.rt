@@ -142,9 +142,9 @@ fn born_node(rt: &impl Abort, alloc: Global) -> NodeCore {
     node
 }
 
-// Each step sends one mail: a request is proposed, a tick proposes it again, the accept is
-// answered, and the client is answered once the slot is executed. The repeated request gets a slot
-// of its own.
+// Shows that a node of one group sends what its replica sends. Each step sends one mail: a request
+// is proposed, a tick proposes it again, the accept is answered, and the client is answered once
+// the slot is executed. The repeated request gets a slot of its own.
 #[test]
 fn a_node_of_one_group_sends_what_its_replica_sends(rt: HostRuntime) {
     let mut node = born_node(&rt, rt.alloc());

@@ -53,7 +53,8 @@ fn only(rt: &impl Abort, mails: Sequence<Mail>) -> Input<Mail, OrderLine> {
     Input::Got(first)
 }
 
-// Between the request and its answer are the group's own accept and its vote.
+// Returns whether the client's request is answered. Between the request and its answer are the
+// group's own accept and its vote.
 fn is_answered(
     rt: &impl Abort,
     alloc: Global,

@@ -208,7 +208,8 @@ fn installed_tells(rt: &impl Abort, alloc: Global, wanted: Wanted) -> (Sent, Sen
     (first, then)
 }
 
-// The sender is no member, so the replica looks for a leader, and is the only one that can lead.
+// Shows what a replica that is made from a state sends. The sender of the state is no member, so
+// the replica looks for a leader, and is the only one that can lead.
 #[test]
 fn a_replica_is_made_of_a_state(rt: HostRuntime) {
     let (first, then) = installed_tells(&rt, rt.alloc(), Wanted::Entries(70));

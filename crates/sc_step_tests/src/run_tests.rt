@@ -258,14 +258,15 @@ const NO_POLICY: Case = (
 
 const POLICIES: &[Case] = &[POLICY_SPLIT, POLICY_MERGE];
 
-// The desk gets no result of the orders that a policy makes.
+// Shows that a policy splits and merges groups. The desk gets no result of its orders.
 #[test]
 fn a_policy_splits_and_merges(rt: HostRuntime) {
     all_play(&rt, rt.alloc(), true, POLICIES);
     all_play(&rt, rt.alloc(), false, &[NO_POLICY]);
 }
 
-// An order is begun or refused as without a policy, since the group is locked at its tick.
+// Shows that a policy leaves a locked group alone: an order is begun or refused as without a
+// policy, since the group is locked at its tick.
 #[test]
 fn a_policy_leaves_a_locked_group_alone(rt: HostRuntime) {
     all_play(&rt, rt.alloc(), true, &[GIVE_UP]);

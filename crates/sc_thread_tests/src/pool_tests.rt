@@ -41,7 +41,8 @@ fn pooled<R: Threads + Wait + Abort + Sync>(
     (end, whos.0, whos.1)
 }
 
-// Shows it for limits of which most fall inside a phase.
+// Shows that no more deliveries are made than are asked for, for limits of which most fall inside a
+// phase.
 #[test]
 fn no_more_deliveries_are_made_than_are_asked_for(rt: HostRuntime) {
     for limit in 1..10u32 {

@@ -56,7 +56,7 @@ fn weight_of(rt: &impl Abort, alloc: Global, command: Command) -> u64 {
     weight
 }
 
-// The commands are a call, a vote, an outcome, and one of numbers.
+// Shows the counted bytes of a call, a vote, an outcome, and a command that has only numbers.
 #[test]
 fn calls_count_their_texts_and_votes_and_outcomes_what_they_carry(rt: HostRuntime) {
     let weights = [

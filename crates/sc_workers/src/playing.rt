@@ -241,7 +241,7 @@ fn played<A: Actor, G: Gate, R: Threads + Wait + Sync>(
     }
 }
 
-// Plays rounds or phases until they end, and then closes the office, so that the helpers end.
+// Plays rounds or phases until they end, and then closes the office, so that the helpers can end.
 fn played_out<A: Actor, G: Gate, R: Threads + Wait + Sync>(
     rt: &R,
     gate: &G,
