@@ -15,7 +15,10 @@ pub enum Fetched<M> {
 /// A row that was not posted, as its cause, its event and its mails, which are handed back.
 #[derive(Drop)]
 pub struct Unposted<M, O> {
+    /// The cause for which it was not posted.
     pub why: PostFault,
+    /// The event of the row.
     pub event: Event<O>,
+    /// The mails that the row sends.
     pub sent: Sequence<M>,
 }

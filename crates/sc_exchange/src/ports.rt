@@ -26,18 +26,20 @@ use std::sync::Wait;
 
 /// A port to the exchange: that of the actor `who`, or of the network where `who` is 0.
 ///
-/// Its meaning is the list of rows that it has seen and the list of those that it has made. Of the
-/// fields, `fetched` is the number of the mail of the last fetch, if the port has posted nothing
-/// since, and `crashed` says whether the port has posted a Crash. `limit` bounds the counted bytes
-/// of the journal.
+/// Its meaning is the list of rows that it has seen and the list of those that it has made.
 #[derive(Drop)]
 pub struct Port<M: Parcel + Drop, O: Drop> {
     seat: TurnSeat<Exchange<M, O>>,
     alloc: Global,
+    /// The number of the port's actor, or 0 for the network.
     pub who: u32,
+    /// The number of actors of the exchange.
     pub actors: u32,
+    /// The most counted bytes of the journal.
     pub limit: u64,
+    /// The number of the mail of the last fetch, if nothing was posted since.
     pub fetched: Option<u32>,
+    /// Whether the port has posted a Crash.
     pub crashed: bool,
     ghost number: { (known seat).who ≡ who },
     ghost out: { (known seat).turn ≡ false },

@@ -10,7 +10,9 @@ use std::alloc::Global;
 
 /// A row without the number of its maker.
 pub struct BareRow<M, O> {
+    /// The event of the row.
     pub event: Event<O>,
+    /// The mails that the row sends.
     pub sent: Sequence<M>,
 }
 
@@ -21,6 +23,7 @@ pub struct BareRow<M, O> {
 /// repeat mail.
 #[derive(Drop)]
 pub struct Exchange<M: Parcel + Drop, O: Drop> {
+    /// The ledger, which has the rows and what is pending.
     pub ledger: Box<Ledger<M, O>>,
     ghost addressed: { all_addressed M.receiver [] ledger.value.rows.items ≡ true },
 }

@@ -13,6 +13,8 @@ pub enum PostFault {
 /// A row that was not appended, with the cause.
 #[derive(Drop)]
 pub struct Unkept<M: Drop, O: Drop> {
+    /// The cause for which it was not appended.
     pub why: PostFault,
+    /// The row.
     pub row: Row<M, O>,
 }

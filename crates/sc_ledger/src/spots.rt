@@ -10,8 +10,11 @@ use std::alloc::Global;
 /// from 1, among the receiver's pending mail.
 #[derive(Clone, Copy, Debug, PartialEq, Eq)]
 pub struct Spot {
+    /// The number of the mail.
     pub number: u32,
+    /// The receiver of the mail.
     pub who: u32,
+    /// The place among the receiver's pending mail, from 1.
     pub k: u32,
 }
 
@@ -27,7 +30,9 @@ pub struct Look {
 /// The number of mails that were sent so far, and one pending copy that was picked.
 #[derive(Clone, Copy, Debug, PartialEq, Eq)]
 pub struct Glance {
+    /// The number of mails that were sent so far.
     pub sent: u32,
+    /// The copy that was picked, if there was any to pick.
     pub spot: Option<Spot>,
 }
 

@@ -51,8 +51,8 @@ fn finished<T: Labour, F: Fn(T) -> T>(f: &F, loan: Loan<T>) -> Loan<T>
     }
 }
 
-// Gives a loan back to the queue, and waits where the queue is full. It has room for all that is
-// lent at one time, so it is full only for a moment.
+// Gives a loan back to the queue. The queue has room for all that is lent at one time; where it is
+// full all the same, this waits.
 fn give_back<T: Labour, R: Wait>(
     rt: &R,
     bench: &Bench<T>,

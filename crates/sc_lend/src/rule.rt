@@ -13,8 +13,11 @@ pub trait Labour: Drop {
 /// whether it was worked.
 #[derive(Drop)]
 pub struct Loan<T> {
+    /// The number of the loan, from 0.
     pub number: u64,
+    /// Whether it was worked.
     pub done: bool,
+    /// The piece of work, or what working has left of it.
     pub work: T,
 }
 

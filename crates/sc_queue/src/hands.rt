@@ -244,7 +244,9 @@ fn gather<T: Drop, X: Drop, F: Fn(T) -> X>(
 /// and has taken in all passes that took.
 #[derive(Drop)]
 pub struct WorkedOff<T, X> {
+    /// What the calls returned, in the order of the elements.
     pub given: Vec<X>,
+    /// The pass that put the elements and has taken in the others.
     pub holder: Holder<T>,
 }
 

@@ -6,7 +6,9 @@ use std::marker::PhantomData;
 /// An element of the list, with its place there, counted from 0.
 #[derive(Drop)]
 pub struct Item<T> {
+    /// The place in the list, from 0.
     pub place: usize,
+    /// The element.
     pub work: T,
 }
 
