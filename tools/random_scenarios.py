@@ -267,5 +267,5 @@ class Maker:
 
 
 def scenario_of(seed, number, groups, workers=1):
-    """Makes a text with at most so many groups, and `free` lines of at most so many workers."""
+    """Makes a text with at most GROUPS groups, and `free` lines of at most WORKERS workers."""
     return widened.text(f"{seed}/{number}", Maker(seed, number, groups).lines(), workers)

@@ -10,7 +10,7 @@ import causes
 import journals
 import schedules
 
-OPEN_SLOTS = 4  # so many slots of a group a leader has open
+OPEN_SLOTS = 4  # the number of slots of a group that a leader has open
 TX_KINDS = ("TxPrepare", "TxVote", "TxWatch", "TxWatched", "TxOutcome", "TxElsewhere")
 
 
