@@ -92,7 +92,7 @@ class Machines:
         """Waits until the scheduler has both workers."""
         import distributed
 
-        logging.getLogger("asyncio").setLevel(logging.CRITICAL)  # it tells of its own timeouts
+        logging.getLogger("asyncio").setLevel(logging.CRITICAL)  # it logs its own timeouts
         try:
             with distributed.Client(self.address, timeout=60, set_as_default=False) as client:
                 client.wait_for_workers(2, timeout=PATIENCE)

@@ -4,7 +4,7 @@
 
 progress_name='' progress_count=0 progress_what='' progress_began=0 progress_said=0 progress_shown=''
 
-# Thousandths of a second, in `now`; whole seconds where this bash tells no more.
+# Milliseconds, in `now`; whole seconds where this bash has no finer clock.
 read_clock() {
     if [ -n "${EPOCHREALTIME-}" ]; then
         now="${EPOCHREALTIME/[.,]/}"
