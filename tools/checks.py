@@ -1,4 +1,4 @@
-"""What the tests of the tools share: how a fault is told, and where the built program is."""
+"""What the tests of the tools share: how a failure is reported, and where the built program is."""
 
 import os
 import subprocess

@@ -2,7 +2,7 @@
 
 A run is of one text. First it is played for its report; its rows, the page of these, the audit and
 scans follow when they are asked for, one after another. A newer run ends what still goes on for an
-older one, so that a page whose text changes never waits for what nobody wants any more. All files
+older one, so that a page whose text changes never waits for an answer that is not wanted any more. All files
 stand in one folder, which is given.
 """
 
@@ -27,7 +27,7 @@ LIMITED = f'ulimit -c 0; ulimit -f {MOST_OUTPUT // 512 + 1}; exec "$@"'
 
 
 class Refused(Exception):
-    """Why there is no answer: a status of HTTP, and what the reader is told."""
+    """Why there is no answer: a status of HTTP, and what the page shows."""
 
     def __init__(self, status, said):
         super().__init__(said)

@@ -73,7 +73,7 @@ class Handler(http.server.BaseHTTPRequestHandler):
     # ---- who may ask
 
     def refusal(self):
-        """Why this request is refused, or nothing. A browser tells the origin of each POST."""
+        """Why this request is refused, or nothing. A browser names the origin of each POST."""
         hosts, origins = self.headers.get_all("Host", []), self.headers.get_all("Origin", [])
         if len(hosts) != 1 or hosts[0] not in self.server.names:
             return "this Host is not the page's"

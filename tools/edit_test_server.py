@@ -130,7 +130,7 @@ def refuses_large(served, checks):
 
 
 def refuses_two(served, checks):
-    """A second run at once is refused, and the first one is stopped when it is told to."""
+    """A second run at once is refused, and the first one is stopped on request."""
     came = []
     first = threading.Thread(target=lambda: came.append(served.post("run", LONG)))
     first.start()

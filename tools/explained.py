@@ -122,7 +122,7 @@ def run(words, text):
 
 
 def first_rows(text, count):
-    """Cuts a stored journal behind so many rows."""
+    """Cuts a stored journal after COUNT rows."""
     lines = text.split(b"\n")
     end = lines.index(b"journal") + 1 + count
     return b"\n".join(lines[:end]) + b"\n"

@@ -113,7 +113,7 @@ def lines(journal, key=None):
 
 
 def notes(journal, key=None):
-    """What Elle cannot make use of: it tells versions of a key apart by their values."""
+    """What Elle cannot make use of: it distinguishes versions of a key by their values."""
     if key is not None:
         return []
     written, again, gone = {}, set(), set()

@@ -96,7 +96,7 @@ def slice_of(place, begun, ended, args, steps=()):
 
 
 def orders(journal):
-    """A slice for each order that was told."""
+    """A slice for each order that a node got."""
     results, last = {}, len(journal.rows)
     for mail in journal.mails:
         if mail.kind == "Told":

@@ -4,7 +4,7 @@ The first line is the regular expression by which ShiViz parses the log, and the
 empty, would part several runs. Each row is an event of its actor, in two lines: the host with its
 clock, and what happened. A clock counts an actor's rows: with each row its own count grows by one,
 and with a mail it takes over what the row that sent it had, where that is more. Losses and repeats
-are events of a host `network`, which nobody hears of.
+are events of a host `network`, of which no other host learns.
 """
 
 import json

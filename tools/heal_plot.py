@@ -86,9 +86,9 @@ def picture(surveyed):
         f"<style>{STYLE}{LINES}</style>",
         f'<rect class="back" width="{WIDTH}" height="{high}" rx="8"/>',
         text(LABELS, 24, "Share of the requests that is open", "title"),
-        text(LABELS, 42, "before a sweep, and after one of so many ticks a node", "soft"),
+        text(LABELS, 42, "before a sweep, and after one of N ticks a node", "soft"),
         text(left, 24, "Share of the orders that is open", "title"),
-        text(left, 42, "before a sweep, and after one of so many ticks a node", "soft"),
+        text(left, 42, "before a sweep, and after one of N ticks a node", "soft"),
         *scale(LABELS, high),
         *scale(left, high),
     ]

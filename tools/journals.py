@@ -12,7 +12,7 @@ import sys
 
 import explained
 
-RING = 2**32  # positions on the circle
+RING = 2**32  # positions on the ring
 NODES = 32  # actors above are clients, and 0 is the desk, which gets what orders came to
 
 

@@ -49,7 +49,7 @@ class Request:
 
 
 class Order:
-    """One order: its number in the scenario, who was told what, and what the desk got."""
+    """One order: its number in the scenario, which node got which order, and what the desk got."""
 
     def __init__(self, number, node, said, row):
         self.number, self.node, self.said, self.row = number, node, said, row
@@ -247,7 +247,7 @@ class Page:
         return found
 
     def actors(self):
-        """The desk where anybody is told, each node, and each client of the scenario."""
+        """The desk where any node gets an order, each node, and each client of the scenario."""
         nodes, clients = 0, []
         for number, line in enumerate(self.journal.scenario):
             words = line.split()

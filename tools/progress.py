@@ -30,7 +30,7 @@ def rate(done, seconds):
 
 
 class Progress:
-    """So many runs of a tool, of which some have ended."""
+    """A number of runs of a tool, of which some have ended."""
 
     def __init__(self, tool, count, what="runs", out=None, clock=time.monotonic):
         self.tool, self.count, self.what = tool, count, what

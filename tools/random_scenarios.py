@@ -28,7 +28,7 @@ class Maker:
         count = self.some([(8, (0, 0)), (50, (1, 2)), (35, (3, 5)), (6, (6, 10)), (1, (11, 64))])
         self.clients = self.dice.sample(range(1, 65), count)
         self.calm = self.dice.random() < 0.5
-        # in about half of them groups are told to change, in some of these their members alone
+        # in about half of them groups are ordered to change, in some of these their members alone
         self.orders = self.dice.choice([0, 0, 2, 6])
         self.reshaped = self.dice.random() < 0.7
         # in some leaders reshape their groups by themselves, and some have storms
@@ -188,7 +188,7 @@ class Maker:
         return f"order {told} {kind} {group}{rest}"
 
     def reshapings(self):
-        """Orders to leaders, with mail that is lost or late, or ticks until somebody gives up."""
+        """Orders to leaders, with mail that is lost or late, or ticks until a coordinator gives up."""
         lines = []
         for _ in range(self.dice.randint(1, 5)):
             place = self.dice.randrange(len(self.named))
@@ -267,5 +267,5 @@ class Maker:
 
 
 def scenario_of(seed, number, groups, workers=1):
-    """Makes a text with at most so many groups, and `free` lines of at most so many workers."""
+    """Makes a text with at most GROUPS groups, and `free` lines of at most WORKERS workers."""
     return widened.text(f"{seed}/{number}", Maker(seed, number, groups).lines(), workers)

@@ -55,7 +55,7 @@ def actor_number(word):
 
 
 def answering(program=None):
-    """The program that was named, or else the one that ./scatter calls: so many runs are faster."""
+    """The program that was named, or else the one that ./scatter calls, by which many runs are faster."""
     script = os.path.join(HERE, "scatter")
     if program not in (None, script):
         return program
@@ -269,12 +269,12 @@ def line_of(journal, pending, row):
 
 
 def skipped_orders(pending, count):
-    """Orders that are skipped, and take a number each, as those did that nobody was told."""
+    """Orders that are skipped, and take a number each, as those did that no node was told."""
     return [f"order {min(pending.crashed)} merge 0.1"] * count if pending.crashed else []
 
 
 def lines_of(journal, count):
-    """A schedule of which the lines make the first rows, so many of them, and no others. Deliveries
+    """A schedule of which the lines make the first COUNT rows, and no others. Deliveries
     of the lowest-numbered mail in a row are one `settle` line."""
     pending, lines, settled, orders = Pending(journal), [], 0, 0
     for row in journal.rows[:count]:

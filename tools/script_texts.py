@@ -166,7 +166,7 @@ TEXTS = [
         [
             "line 4 is: order 1 split 0.1 42949672960",
             "the word 42949672960 stands where order N split G P has P",
-            "P is a position on the circle of keys, 0 to 4294967295",
+            "P is a position on the ring, 0 to 4294967295",
         ],
     ),
     (
@@ -198,7 +198,7 @@ TEXTS = [
         [
             "line 4 is: settle 007",
             "the word 007 stands where settle L has L",
-            "L is so many deliveries or steps, 1 to 1000000",
+            "L is a number of deliveries or steps, 1 to 1000000",
             "numbers have no sign and no leading zero",
         ],
     ),

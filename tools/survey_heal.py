@@ -2,7 +2,7 @@
 
 A sweep of T ticks is, for each living node, T times `tick nK`, each followed by a `settle` line,
 and then for each client a tick and the same. A node is living where no `crash` line ends it; storms
-crash nobody. A request is open where its client was told to go and has no reply, and an order
+crash no node. A request is open where its client has started and has no reply, and an order
 where the report says so.
 """
 
@@ -24,7 +24,7 @@ def numbers(text, word):
 
 
 class Cast:
-    """Who is in a scenario: the living nodes, all clients, and those that were told to go."""
+    """Who is in a scenario: the living nodes, all clients, and those that have started."""
 
     def __init__(self, text):
         nodes = (numbers(text, "nodes") or [0])[0]

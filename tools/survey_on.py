@@ -20,7 +20,7 @@ from survey_runs import Refused, played
 
 LOOK = 0.05  # seconds between two looks at what has ended
 ASK = 2.0  # seconds between two questions to the scheduler, who is there
-# where nobody answers
+# where no scheduler answers
 GONE = (OSError, RuntimeError, TimeoutError, asyncio.TimeoutError, ValueError, KeyError)
 TRIES = 3  # how often a run is handed out again where it went to another program
 
@@ -162,7 +162,7 @@ class Cluster:
         return time.monotonic() if since is None else since
 
     def is_there(self, alone):
-        """Whether somebody may still do something: the client closes itself without a scheduler."""
+        """Whether a worker may still answer: the client closes itself without a scheduler."""
         is_alone = alone is not None and time.monotonic() - alone >= self.patience
         return not is_alone and not self.is_closed()
 

@@ -92,7 +92,7 @@ class Machines:
         """Waits until the scheduler has both workers."""
         import distributed
 
-        logging.getLogger("asyncio").setLevel(logging.CRITICAL)  # it tells of its own timeouts
+        logging.getLogger("asyncio").setLevel(logging.CRITICAL)  # it logs its own timeouts
         try:
             with distributed.Client(self.address, timeout=60, set_as_default=False) as client:
                 client.wait_for_workers(2, timeout=PATIENCE)
@@ -112,12 +112,12 @@ class Machines:
         return self.lines("runs")
 
     def hold(self, runs):
-        """Lets so many runs of the next survey pass, and each further one wait."""
+        """Lets RUNS runs of the next survey pass, and each further one wait."""
         with open(os.path.join(self.folder, "hold"), "w", encoding="utf-8") as out:
             out.write(f"{runs}\n")
 
     def wait_held(self, count):
-        """Waits until so many workers have a run that waits."""
+        """Waits until COUNT workers have a run that waits."""
         wait("the survey has begun, and waits", lambda: self.lines("held") >= count)
 
     def forget(self, *names):

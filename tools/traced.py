@@ -24,7 +24,7 @@ class Traced:
                 self.lives.setdefault(int(found[1]), []).append(number)
 
     def crash(self, who):
-        """The row in which somebody crashes, or one behind the last."""
+        """The row in which a node crashes, or one after the last."""
         rows = (number for number, lines in enumerate(self.rows, 1) if lines[0] == f"{who} crashes")
         return next(rows, len(self.rows) + 1)
 
@@ -66,7 +66,7 @@ class Request:
 
 
 def requests(traced):
-    """The requests that the lines of a trace tell of, in the order in which they were issued."""
+    """The requests that the lines of a trace name, in the order in which they were issued."""
     found, open_now = [], {}
     for number, lines in enumerate(traced.rows, 1):
         got = re.match(r"(c\d+) gets \d+ from \w+: Answer \S+ (\d+): (none|value \S+)$", lines[0])

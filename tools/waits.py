@@ -10,7 +10,7 @@ import causes
 import journals
 import schedules
 
-OPEN_SLOTS = 4  # so many slots of a group a leader has open
+OPEN_SLOTS = 4  # the number of slots of a group that a leader has open
 TX_KINDS = ("TxPrepare", "TxVote", "TxWatch", "TxWatched", "TxOutcome", "TxElsewhere")
 
 
@@ -200,7 +200,7 @@ class Facts:
         return lines
 
     def lock(self, group):
-        """What locks a group so that it serves nobody, line by line; nothing where it serves."""
+        """What locks a group so that requests wait, line by line; nothing where none has to."""
         record = self.records.get(group)
         if record is None or record.role is None or record.role == "watches":
             return []
@@ -262,7 +262,7 @@ def of_command(facts, group, is_it, what):
 
 
 def of_order(facts, number):
-    """Where an open order waits, line by line; nothing where the desk was told of it."""
+    """Where an open order waits, line by line; nothing where the desk got its result."""
     told = next(
         (row for row in facts.journal.rows if row.event == "Told" and row.of["number"] == number),
         None,
@@ -289,7 +289,7 @@ def of_order(facts, number):
 
 
 def open_orders(facts):
-    """The numbers of the orders of which the desk was told nothing."""
+    """The numbers of the orders of which the desk got no result."""
     told = {mail.fields["order"] for mail in facts.journal.mails if mail.kind == "Told"}
     numbers = [row.of["number"] for row in facts.journal.rows if row.event == "Told"]
     return [number for number in numbers if number not in told]

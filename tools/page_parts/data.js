@@ -139,7 +139,7 @@ function doer(row) {
   return rows.who[row] === 0 ? "network" : actor(rows.who[row]);
 }
 
-/** Where a key stands on the circle. */
+/** Where a key stands on the ring. */
 function position(key) {
   let place = 0;
   for (let i = 0; i < 4; i++) place = place * 256 + (i < key.length ? key.charCodeAt(i) & 255 : 0);

@@ -208,7 +208,7 @@ function setTheme(isDark) {
   drawStrip();
 }
 
-/** The lines that the run was told. */
+/** The lines of the run's schedule. */
 function showScenario() {
   find("scenario-lines").textContent = run.scenario.join("\n");
   find("scenario-text").showModal();

@@ -5,7 +5,7 @@ const CENTRE = 170;
 const OUTER = 118;
 const INNER = 92;
 
-/** Where a place of the circle is drawn, so far from the centre. */
+/** Where a position of the ring is drawn, at a distance from the centre. */
 function onCircle(place, radius) {
   const angle = (place / RING) * 2 * Math.PI - Math.PI / 2;
   return [CENTRE + radius * Math.cos(angle), CENTRE + radius * Math.sin(angle)];

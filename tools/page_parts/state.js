@@ -186,7 +186,7 @@ function placeOf(row) {
   return count && shown[count - 1] === row ? count - 1 : count - 0.5;
 }
 
-/** The row that is so many shown rows away. */
+/** The row that is STEPS shown rows away. */
 function rowAway(steps) {
   const here = placeOf(state.row);
   const from = steps > 0 ? Math.floor(here) : Math.ceil(here);

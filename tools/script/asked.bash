@@ -1,4 +1,4 @@
-# What ./scatter was asked: the file that it opens itself, and one line on what is wrong with words that it does not
+# What ./scatter was asked: the file that it opens itself, and one line on what is wrong with arguments that it does not
 # have. words.bash beside this file reads the table of words.
 # shellcheck shell=bash
 # shellcheck disable=SC2154 # the names of words.bash
@@ -71,24 +71,24 @@ say_missed_range() {
     done
 }
 
-# Says in one line what is wrong with words that the script does not have.
+# Says in one line what is wrong with arguments that the script does not have.
 say_what_is_wrong() {
     local near=
     local -a wanted
     if [ "$#" -eq 0 ]; then
-        say "no word was given"
+        say "no subcommand was given"
     elif ! is_word "$1"; then
         if find_near "$1"; then
-            say "there is no word $1; one that is near is $near: $(call_of "$near")"
+            say "there is no subcommand $1; one that is near is $near: $(call_of "$near")"
         else
-            say "there is no word $1"
+            say "there is no subcommand $1"
         fi
     else
         read -ra wanted <<<"${arguments["$1"]}"
         if [ "$(($# - 1))" -lt "${#wanted[@]}" ]; then
-            say "$1 takes more words: $(call_of "$1")"
+            say "$1 takes more arguments: $(call_of "$1")"
         elif [ "$(($# - 1))" -gt "${#wanted[@]}" ]; then
-            say "$1 takes fewer words: $(call_of "$1")"
+            say "$1 takes fewer arguments: $(call_of "$1")"
         else
             say_missed_range "$@"
         fi

@@ -53,15 +53,15 @@ KINDS = {
     "C": number("a client", 1, MOST_CLIENTS),
     "A": Kind("an actor: nN is node N, 1 to 32, and cC is client C, 1 to 64", is_actor),
     "G": Kind("a group's name X.Y: X is 0 to 32, Y 1 to 4294967295", is_group),
-    "LO": number("a position on the circle of keys", 0, LAST_POSITION),
-    "P": number("a position on the circle of keys", 0, LAST_POSITION),
+    "LO": number("a position on the ring", 0, LAST_POSITION),
+    "P": number("a position on the ring", 0, LAST_POSITION),
     "K": text("a key", 64),
     "PLACE": number("a place among the pending mail of A", 1, LAST_POSITION),
     "MAIL": number("a mail's number", 1, LAST_POSITION),
     "V": text("a value", 256),
     "E": text("a value", 256),
-    "L": number("so many deliveries or steps", 1, 1000000),
-    "W": number("so many workers", 1, 16),
+    "L": number("a number of deliveries or steps", 1, 1000000),
+    "W": number("a number of workers", 1, 16),
     "S": number("a storm's number", 0, 18446744073709551615),
 }
 
@@ -115,7 +115,7 @@ def shown(form):
 
 
 def kinds_of(form, count):
-    """Name and kind of each word of a line of so many words; no kind where it stands for itself."""
+    """Name and kind of each word of a line of COUNT words; no kind where a word stands for itself."""
     names = form.split(" ")
     while names and names[-1] == "[N]" and len(names) < count:
         names.append("[N]")

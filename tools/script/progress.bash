@@ -4,7 +4,7 @@
 
 progress_name='' progress_count=0 progress_what='' progress_began=0 progress_said=0 progress_shown=''
 
-# Thousandths of a second, in `now`; whole seconds where this bash tells no more.
+# Milliseconds, in `now`; whole seconds where this bash has no finer clock.
 read_clock() {
     if [ -n "${EPOCHREALTIME-}" ]; then
         now="${EPOCHREALTIME/[.,]/}"
@@ -21,7 +21,7 @@ begin_progress() {
     progress_began="$now" progress_said="$now"
 }
 
-# So many thousandths of a second in a few words.
+# A number of milliseconds in a few words.
 lasting() {
     local seconds="$((($1 + 500) / 1000))"
     if [ "$seconds" -lt 60 ]; then
@@ -33,7 +33,7 @@ lasting() {
     fi
 }
 
-# So many runs in so many thousandths of a second: how many a second.
+# How many runs a second there were, by their number and the milliseconds that they took.
 rate_of() {
     local tenths="$(($1 * 10000 / ($2 > 0 ? $2 : 1)))"
     if [ "$tenths" -ge 100 ]; then
@@ -43,7 +43,7 @@ rate_of() {
     fi
 }
 
-# How far they are, after so many runs.
+# How far the runs are, by the number of those that have ended.
 progress_words() {
     local passed="$((now - progress_began))"
     printf '%d of %d %s' "$1" "$progress_count" "$progress_what"
@@ -55,7 +55,7 @@ progress_words() {
     fi
 }
 
-# Says that so many have ended.
+# Says how many runs have ended.
 progress_to() {
     local wait=30000 full begun end='' bar
     [ "$progress_count" -gt 0 ] || return 0

@@ -50,7 +50,7 @@ beside() {
     local status
     "$@" <&0 &
     child=$!
-    wait "$child" 2>/dev/null # (bash would tell of a signal)
+    wait "$child" 2>/dev/null # (bash would report a signal)
     status=$?
     child=
     return "$status"

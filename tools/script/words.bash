@@ -1,4 +1,4 @@
-# The words of ./scatter, as words.txt beside this file has them: what `scatter` and `pages` share.
+# The subcommands of ./scatter, as words.txt beside this file has them (its "words"): what `scatter` and `pages` share.
 # shellcheck shell=bash
 # shellcheck disable=SC2034 # those who read this file use its names
 
@@ -125,7 +125,7 @@ asks_program() {
     done
 }
 
-# Prints a text in lines of at most 80 columns: the first behind a mark, and all behind so many blanks.
+# Prints a text in lines of at most 80 columns: the first after a mark, and all after the given number of blanks.
 wrapped() {
     local mark="$1" blanks="$2" word line begun=
     local -a parts
@@ -170,7 +170,7 @@ help_page() {
         wrapped "  $(call_of "$word")" 29 "${does["$word"]}"
     done
     wrapped '  ./scatter --version' 29 'prints which version this is, and whether it is built'
-    wrapped '' 0 'Other words are answered by the usage line and status 2.'
+    wrapped '' 0 'Other arguments are answered by the usage line and status 2.'
     wrapped '' 0 'In place of < FILE its name alone may stand there. What is refused is explained on standard error.'
     echo
     wrapped '' 0 "Until it is built, a run is of the same code unproved, and says so on standard error:
@@ -205,5 +205,5 @@ help_word() {
     if [ "${by["$1"]}" = program ]; then
         wrapped '' 2 "until the program is built, the same code runs unproved, compiled once in one to three minutes"
     fi
-    echo "./scatter help has the other words and the statuses."
+    echo "./scatter help has the other subcommands and the statuses."
 }

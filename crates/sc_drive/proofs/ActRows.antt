@@ -70,7 +70,7 @@ module _ {A M O : Type 0} {g : Ghosts A M O} {h : MailGhosts M} where
     shell_seen : StartsWith (seen next) (seen t.port)
     shell_seen = shell_later births net mid next ss after k t c lt met was ahead stays looked len rest gathered rows
 
-    -- between two fronts of one length
+    -- between two prefixes of one length
     between : (low rows high : List (Row M O)) → StartsWith rows low → StartsWith high rows → high ≡ low → rows ≡ low
     between low rows high a b e = whole_front low rows a (omega (arith, ap length a.1, length-append low a.0, ap length b.1, length-append rows b.0, ap length e))
 

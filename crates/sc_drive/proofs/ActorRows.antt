@@ -53,7 +53,7 @@ module _ {A M O : Type 0} {g : Ghosts A M O} {h : MailGhosts M} where
       abbrev e : Seat A
       e = record { who = 0; actor = d.actor }
 
-      -- the shell tells whether the actor has crashed
+      -- the shell records whether the actor has crashed
       pub halted : (b : Bool) → HasHalted ss place b → has_crashed (seen net) who ≡ b
       halted b is = ap (has_crashed (seen net)) (sym (at.number d)) ∙ (crashed_at words births net ss c place at.inside d ∙ is d)
 
@@ -75,7 +75,7 @@ module _ {A M O : Type 0} {g : Ghosts A M O} {h : MailGhosts M} where
       pub happens_spent : (event : Event O) → Told births place event net next ss after Spent → Stepped (sys words births net ss c) (unless_crashed (sys words births net ss c) (seen net) who event) net next after (Ok false)
       happens_spent event t = (t.0, ap (λ b. cond b None (acts (sys words births net ss c) (seen net) who event)) (halted true t.2), t.1)
 
-      -- a Go, which is told to one that has not crashed
+      -- a Go, of an actor that has not crashed
       pub tells_did : (event : Event O) (n : ℕ) → Told births place event net next ss after (Did n) → Stepped (sys words births net ss c) (acts (sys words births net ss c) (seen net) who event) net next after (Ok true)
       tells_did event n t = (t.0, (row_of g.table (get_or births place e) (seen net) event, act_is event, t.1 e), t.2)
 

@@ -32,7 +32,7 @@ use Rattle.sc_drive.proofs.OneActed.{count_seen, count_company}
 use Rattle.sc_drive.proofs.RowCounts.{flip, whole_front}
 use Rattle.sc_drive.proofs.Seats.{cut_at}
 
--- the first of the front and then of the rest
+-- the first of the prefix and then of the rest
 module _ {X : Type 0} (test : X → Bool) where
   find_later : (xs ys : List X) → find test xs ≡ None → find test (xs ++ ys) ≡ find test ys
   find_later [] ys none = refl

@@ -57,7 +57,7 @@ pending_found receiver actors rows (suc w) (suc k) number ne e =
     pending_is receiver actors rows number ∙ (λ i. sent i && copy i)
 
 module _ {M O : Type 0} {h : MailGhosts M} where
-  -- before a front of one list
+  -- before a prefix of one list
   pub front_same : (net first : Port M O h) (before : List (Row M O)) → StartsWith (seen first) (seen net) → StartsWith before (seen first) → before ≡ seen net → seen first ≡ seen net
   front_same net first before a b e = whole_front (seen net) (seen first) a (omega (arith, ap length a.1, length-append (seen net) a.0, ap length b.1, length-append (seen first) b.0, ap length e))
 

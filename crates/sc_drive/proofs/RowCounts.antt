@@ -107,7 +107,7 @@ not_in n (w ∷ ws) out = λ c. at c.0 c.1 c.2 (not_in n ws parts.1)
     at zero lt is rest = true≢false (sym (eq-eqb n w (sym is)) ∙ parts.0)
     at (suc i) lt is rest = rest (i, omega (arith, lt), is)
 
--- fronts of one list
+-- prefixes of one list
 module _ {X : Type 0} where
   pub same_front : (xs ys zs : List X) → StartsWith zs xs → StartsWith zs ys → length xs ≡ length ys → xs ≡ ys
   same_front [] [] zs a b l = refl
@@ -122,6 +122,6 @@ module _ {X : Type 0} where
       let right : zs ≡ ys ++ b.0 = cc in
       λ i. (sym first ∙ second) i ∷ same_front xs ys zs (a.0, left) (b.0, right) (omega (arith, l)) i
 
-  -- a front as long as the list is the list
+  -- a prefix as long as the list is the list
   pub whole_front : (xs zs : List X) → StartsWith zs xs → length zs ≡ length xs → zs ≡ xs
   whole_front xs zs a l = same_front zs xs zs ([], sym (append-nil zs)) a l

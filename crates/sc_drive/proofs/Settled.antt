@@ -24,7 +24,7 @@ module _ {A M O : Type 0} {g : Ghosts A M O} {h : MailGhosts M} where
     goes = goes_then c.net m.net d.net c.shells.items m.shells.items d.shells.items c.score m.score d.score before middle left one.goes two.goes;
   }
 
-  -- .. or where the other comes to a row that would pass the limit
+  -- what a line does, and then another that comes to a row that would pass the limit
   pub line_refused_then : (c m d : Company A M O g h) (before middle : List (Task O)) → LineEnded before middle c m → LineRefused middle m d → LineRefused before c d
   line_refused_then c m d before middle one two = record {
     kept = kept_then c.net m.net d.net c.shells.items m.shells.items d.shells.items one.on.kept.stays one.on.kept.same two.kept;
@@ -42,7 +42,7 @@ module _ {A M O : Type 0} {g : Ghosts A M O} {h : MailGhosts M} where
   pub together_after : (c d : Company A M O g h) (tasks left : List (Task O)) → AreTogether c → LineEnded tasks left c d → AreTogether d
   together_after c d tasks left together line = together_on c.net d.net c.shells.items d.shells.items together.crew.first line.on
 
-  -- .. and after a turn that made a row
+  -- all are together after a turn that made a row
   pub served_together : (c d : Company A M O g h) (place k at : ℕ) → AreTogether c → ActServed place k (Did at) c d → AreTogether d
   served_together c d place k at together act = together_on c.net d.net c.shells.items d.shells.items together.crew.first (record { kept = act.kept; sound = act.sound })
 
@@ -77,7 +77,7 @@ module _ {A M O : Type 0} {g : Ghosts A M O} {h : MailGhosts M} where
     goes = settles_quiet c.net c.shells.items c.score c.score left finds refl refl refl;
   }
 
-  -- so many were delivered, and mail is pending
+  -- all deliveries were made, and mail is pending
   pub cut_settles : (c : Company A M O g h) (left place : ℕ) → AreTogether c → left ≡ 0 → FindsLowest c.net c.shells.items (Some place) → LineEnded (Settles left ∷ []) [] c (record c { score = record c.score { unsettled = true } })
   cut_settles c left place together none finds = record {
     on = on_same c.net c.shells.items together;

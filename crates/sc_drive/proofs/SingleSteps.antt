@@ -175,7 +175,7 @@ go_steps {g = g} {h = h} who net next ss after score step not_told f = λ words 
     let s = system g.table h.receiver words births in
     subst (λ o. Stepped s o net next after step) (sym (ap (λ b. cond b None (acts s (seen net) who Go)) (told who ∙ not_told))) (f words births company)
 
--- a line of one row at which nobody is told to go, since it is none of the others
+-- a line of one row that is no `go` line, since it is none of the others
 pub calm_else : {O : Type 0} (line : Line O) → ((who : ℕ) → line ≡ GoLine who → ⊥) → ((most : ℕ) → line ≡ Settle most → ⊥) → ((most workers : ℕ) → line ≡ Free most workers → ⊥) → ((number most : ℕ) → line ≡ Storm number most → ⊥) → IsCalm line
 calm_else (GoLine who) go settle free storm = go who refl
 calm_else (DeliverLine who k) go settle free storm = tt

@@ -32,7 +32,7 @@ use Rattle.sc_drive.proofs.ActRows.{birth_number}
 use Rattle.sc_drive.proofs.SingleSteps.{no_go}
 use Rattle.sc_drive.proofs.SystemWords.{births_long, gone_push}
 
--- at the line of a deed no actor is told to go
+-- the line of a deed is no `go` line
 pub calm_deed : (O : Type 0) (deed : Deed) → IfSome (deed_line {O = O} deed) IsCalm
 calm_deed O (Drop number who k) = tt
 calm_deed O (Again number) = tt

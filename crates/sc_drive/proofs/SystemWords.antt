@@ -126,7 +126,7 @@ module _ {A M O : Type 0} {g : Ghosts A M O} {h : MailGhosts M} (words : ℕ →
     pub acts_at : (d : Shell A M O g h) (e : Seat A) (rows : List (Row M O)) (event : Event O) → acts sys rows (get_or ss k d).port.who event ≡ Some (row_of g.table (get_or births k e) rows event)
     acts_at d e rows event = ap (option_map (λ seat. row_of g.table seat rows event)) (ap (λ n. find (λ seat. eqb seat.who n) births) (sym (birth_number births net ss k d e c lt)) ∙ find_at births k e births_far inside)
 
-    -- a shell tells whether its actor has crashed
+    -- a shell records whether its actor has crashed
     pub crashed_at : (d : Shell A M O g h) → has_crashed (seen net) (get_or ss k d).port.who ≡ (get_or ss k d).port.crashed
     crashed_at d = crashed_own h.receiver net.actors (get_or ss k d).port.who (seen net) ∙ (ap (list_any (λ (row : Row M O). is_crash row.event)) (c.over k d lt).own ∙ sym (crashed_is (get_or ss k d).port))
 

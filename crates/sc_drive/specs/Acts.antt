@@ -1,4 +1,4 @@
--- What an act of one actor did to the journal, where all gathered before and after it.
+-- What one actor's event or turn does to the journal, where all shells have met and vouched before and after it. To gather is: all shells meet the network's port and vouch for what it has seen.
 use Rattle.std.specs.Prelude.{◌≡◌, ℕ, ◌+◌, ◌<◌, ◌≤◌, List, [], ◌∷◌, ◌++◌, Bool, true, false, slice_index_or, Some, None, ⊤}
 use Rattle.sc_actor.specs.declared.actors.Actor.{Ghosts}
 use Rattle.sc_actor.specs.declared.actors.Parcel.{Ghosts as MailGhosts}
@@ -19,16 +19,16 @@ use Rattle.sc_workers.specs.Crews.{AllSound, Still, IsAhead}
 use Rattle.sc_drive.specs.Companies.{IsCompany}
 
 module _ {A M O : Type 0} {h : MailGhosts M} where
-  -- the one new row is that of an event of the actor at a place
+  -- The network's port has seen one more row: that of the event of the actor at this place.
   abbrev pub RowAdded : Table A M O → List (Seat A) → ℕ → Event O → Port M O h → Port M O h → Type 0
   RowAdded table births place event net next = (e : Seat A) → seen next ≡ seen net ++ row_of table (slice_index_or births place e) (seen net) event ∷ []
 
-  -- that row would pass the limit
+  -- The row of the event of the actor at this place would pass the limit.
   abbrev pub RowPasses : Table A M O → List (Seat A) → ℕ → Event O → Port M O h → Type 0
   RowPasses table births place event net = (e : Seat A) → net.limit < journal_bytes h.weighs (seen net) + row_bytes h.weighs (row_of table (slice_index_or births place e) (seen net) event)
 
 module _ {A M O : Type 0} {g : Ghosts A M O} {h : MailGhosts M} where
-  -- the shell met the port, and then did this
+  -- The shell met the port, and then did what `does` says of it.
   pub record MetAndDid (does : Shell A M O g h → Type 0) (s t : Shell A M O g h) (net next : Port M O h) : Type 0 where
     pub met : Shell A M O g h
     pub still : Still s met
@@ -38,19 +38,19 @@ module _ {A M O : Type 0} {g : Ghosts A M O} {h : MailGhosts M} where
     pub keeps : KeepsReplay met t
     pub does_ : does met
 
-  -- and then an event happened
+  -- The shell met the port, and then the event happened to its actor, with the answer `turn`.
   abbrev pub MetAndTold : Event O → Turn → Shell A M O g h → Shell A M O g h → Port M O h → Port M O h → Type 0
   MetAndTold event turn s t net next = MetAndDid (λ met. Happens (state met) (state t) event turn) s t net next
 
-  -- and then it took a turn
+  -- The shell met the port, and then took a turn for its k-th pending mail, with the answer `turn`.
   abbrev pub MetAndTook : ℕ → Turn → Shell A M O g h → Shell A M O g h → Port M O h → Port M O h → Type 0
   MetAndTook k turn s t net next = MetAndDid (λ met. Takes (state met) (state t) k turn) s t net next
 
-  -- whether the shell at a place has posted a Crash
+  -- Whether the shell at this place has posted a Crash is `halted`.
   abbrev pub HasHalted : List (Shell A M O g h) → ℕ → Bool → Type 0
   HasHalted ss place halted = (d : Shell A M O g h) → (slice_index_or ss place d).port.crashed ≡ halted
 
-  -- what an event at a place did
+  -- What an event of the actor at this place leaves, by the answer: one more row, within the limit; or no row, since it would pass the limit or the actor has crashed.
   abbrev pub Told : List (Seat A) → ℕ → Event O → Port M O h → Port M O h → List (Shell A M O g h) → List (Shell A M O g h) → Turn → Type 0
   Told births place event net next ss after (Did at) = IsCompany births next after × RowAdded g.table births place event net next × (journal_bytes h.weighs (seen next) ≤ net.limit) × HasHalted ss place false
   Told births place event net next ss after (Full bytes) = (seen next ≡ seen net) × RowPasses g.table births place event net × HasHalted ss place false
@@ -58,11 +58,11 @@ module _ {A M O : Type 0} {g : Ghosts A M O} {h : MailGhosts M} where
   Told births place event net next ss after (Empty told) = ⊥
   Told births place event net next ss after OutOfMemory = ⊤
 
-  -- the k-th pending mail of the actor at a place
+  -- The k-th pending mail of the actor at this place has this number.
   abbrev pub KthIs : List (Shell A M O g h) → ℕ → ℕ → Port M O h → ℕ → Type 0
   KthIs ss place k net number = (d : Shell A M O g h) → kth_pending h.receiver net.actors (seen net) (slice_index_or ss place d).port.who k ≡ Some number
 
-  -- what a turn at a place did
+  -- What a turn of the actor at this place leaves, by the answer: one more row, that of the delivery of the k-th pending mail; or no row, since it would pass the limit, no such mail is pending, or the actor has crashed.
   abbrev pub Served : List (Seat A) → ℕ → ℕ → Port M O h → Port M O h → List (Shell A M O g h) → List (Shell A M O g h) → Turn → Type 0
   Served births place k net next ss after (Did at) = IsCompany births next after × ((number : ℕ) × KthIs ss place k net number × RowAdded g.table births place (Deliver number) net next) × (journal_bytes h.weighs (seen next) ≤ net.limit)
   Served births place k net next ss after (Full bytes) = (seen next ≡ seen net) × ((number : ℕ) × KthIs ss place k net number × RowPasses g.table births place (Deliver number) net)
@@ -70,15 +70,15 @@ module _ {A M O : Type 0} {g : Ghosts A M O} {h : MailGhosts M} where
   Served births place k net next ss after Spent = IsCompany births next after × (seen next ≡ seen net) × HasHalted ss place true
   Served births place k net next ss after OutOfMemory = ⊤
 
-  -- the same, whatever the actors' births are
+  -- What an event of the actor at this place leaves (`Told`), for all births of which the shells are those.
   abbrev pub ToldAll : ℕ → Event O → Port M O h → Port M O h → List (Shell A M O g h) → List (Shell A M O g h) → Turn → Type 0
   ToldAll place event net next ss after turn = (births : List (Seat A)) → IsCompany births net ss → Told births place event net next ss after turn
 
-  -- what a turn at a place did, whatever the actors' births are
+  -- What a turn of the actor at this place leaves (`Served`), for all births of which the shells are those.
   abbrev pub ServedAll : ℕ → ℕ → Port M O h → Port M O h → List (Shell A M O g h) → List (Shell A M O g h) → Turn → Type 0
   ServedAll place k net next ss after turn = (births : List (Seat A)) → IsCompany births net ss → Served births place k net next ss after turn
 
-  -- each shell that is spent has posted a Crash, where the turn was not refused
+  -- Each shell that is spent has posted a Crash, where the answer is no refusal.
   abbrev pub SoundAfter : Turn → List (Shell A M O g h) → Type 0
   SoundAfter (Did at) ss = AllSound ss
   SoundAfter (Empty told) ss = AllSound ss
@@ -86,7 +86,7 @@ module _ {A M O : Type 0} {g : Ghosts A M O} {h : MailGhosts M} where
   SoundAfter (Full bytes) ss = ⊤
   SoundAfter OutOfMemory ss = ⊤
 
--- an answer to an event: it is no fetch
+-- The answer is one to an event: any but `Empty`.
 abbrev pub IsTold : Turn → Type 0
 IsTold (Did at) = ⊤
 IsTold (Empty told) = ⊥

@@ -1,4 +1,4 @@
--- What the network did to a mail.
+-- What the network's port does to a mail.
 use Rattle.std.specs.Prelude.{◌≡◌, ℕ, ◌+◌, ◌<◌, List, Bool, true, false, Result, Ok, Err}
 use Rattle.sc_actor.specs.declared.actors.Actor.{Ghosts}
 use Rattle.sc_actor.specs.declared.actors.Parcel.{Ghosts as MailGhosts}
@@ -14,7 +14,7 @@ use Rattle.sc_drive.specs.declared.company.Stop.{Stop}
 use Rattle.sc_drive.specs.declared.company.Stop.TheVariants.{Full, OutOfMemory}
 
 module _ {M O : Type 0} {h : MailGhosts M} where
-  -- its row was appended, where it might be; or it might not be; or its row would pass the limit
+  -- The answer to a loss or a repeat: the network's row was appended where it might be; or it might not be; or it would pass the limit; or memory ran out.
   abbrev pub Changes : Fate → ℕ → Port M O h → Port M O h → Result Bool Stop → Type 0
   Changes fate number net next (Ok true) = ChangedBy fate number net next
   Changes fate number net next (Ok false) = MayNotChange fate number net next
@@ -22,7 +22,7 @@ module _ {M O : Type 0} {h : MailGhosts M} where
       Looked net next × (net.limit < journal_bytes h.weighs (seen next) + row_bytes h.weighs (change {M = M} {O = O} fate number)) × (may_change fate h.receiver net.actors (seen next) number ≡ true)
   Changes fate number net next (Err OutOfMemory) = Stays net next
 
--- and then all gathered
+-- The network's port lost or repeated the mail, or not, by the answer, and then all gathered.
 pub record ChangesAll {A M O : Type 0} {g : Ghosts A M O} {h : MailGhosts M} (fate : Fate) (number : ℕ) (net next : Port M O h) (ss after : List (Shell A M O g h)) (step : Result Bool Stop) : Type 0 where
   pub mid : Port M O h
   pub changes : Changes fate number net mid step

@@ -12,11 +12,11 @@ use Rattle.sc_workers.specs.Crews.{AllOver, AllSound, IsCrew, crew_numbers}
 use Rattle.sc_drive.specs.Numbers.{apart}
 
 module _ {A M O : Type 0} {g : Ghosts A M O} {h : MailGhosts M} where
-  -- the shells' actors, with their numbers
+  -- The actors of the shells, with their numbers.
   abbrev pub seats : List (Shell A M O g h) → List (Seat A)
   seats ss = map (λ s. record { who = s.port.who; actor = s.actor }) ss
 
-  -- Each actor of the births has a shell, at the one port of its number, and no other port was split off. The network's port has seen all that they have, the rows of each actor are those that its shell made, and each actor is the replay of its rows from its birth.
+  -- The shells and the network's port between two lines: each actor of the births has a shell, at the one port of its number, and no other port was split off. The network's port has seen all rows that the shells have, the rows of each actor there are those that its shell made, and each actor is its birth after the replay of its rows.
   pub record IsCompany (births : List (Seat A)) (net : Port M O h) (ss : List (Shell A M O g h)) : Type 0 where
     pub first : net.who ≡ 0
     pub all : given net ≡ crew_numbers ss
@@ -28,7 +28,7 @@ module _ {A M O : Type 0} {g : Ghosts A M O} {h : MailGhosts M} where
     pub sound : AllSound ss
     pub replay : (k : ℕ) (d : Shell A M O g h) (e : Seat A) → k < length ss → Replays (slice_index_or ss k d) (slice_index_or births k e).actor
 
-  -- The network's port and the shells of all actors as they begin: a shell of this exchange for each birth, in order, at the one port of its number, from 1 to the number of actors. No other port was split off, and no port has made a row.
+  -- The shells and the network's port at the beginning: a shell of this exchange for each birth, in order, at the one port of its number, from 1 to the number of actors. No other port was split off, and no port has made a row.
   pub record AtBirth (births : List (Seat A)) (net : Port M O h) (ss : List (Shell A M O g h)) : Type 0 where
     pub crew : IsCrew net ss
     pub all : given net ≡ crew_numbers ss

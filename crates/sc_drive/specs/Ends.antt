@@ -8,7 +8,7 @@ use Rattle.sc_exchange.specs.Ports.{made, given, joined_ports, SameExchange}
 use Rattle.sc_shell.specs.declared.shells.Shell.{Shell}
 
 module _ {A M O : Type 0} {g : Ghosts A M O} {h : MailGhosts M} where
-  -- The network's port split off one for a seat, and the seat's actor has it.
+  -- The network's port has split off a port of the seat's number, and the shell has it and the seat's actor.
   pub record Seated (net next : Port M O h) (seat : Seat A) (s : Shell A M O g h) : Type 0 where
     pub exchange : SameExchange net next
     pub first : next.who ≡ 0

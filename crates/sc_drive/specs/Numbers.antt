@@ -2,11 +2,11 @@
 use Rattle.std.specs.Prelude.{ℕ, ◌==◌, List, [], ◌∷◌, Bool, true, ◌&&◌, not}
 use Rattle.std.specs.List.{list_any}
 
--- whether a number is in a list
+-- Whether the number is in the list.
 abbrev pub is_in : ℕ → List ℕ → Bool
 is_in n ws = list_any (λ w. n == w) ws
 
--- whether no number is there twice
+-- Whether no number is in the list twice.
 abbrev pub apart : List ℕ → Bool
 apart [] = true
 apart (w ∷ ws) = not (is_in w ws) && apart ws

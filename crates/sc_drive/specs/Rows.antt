@@ -7,12 +7,12 @@ use Rattle.sc_shell.specs.declared.turns.Turn.TheVariants as turn
 use Rattle.sc_drive.specs.declared.company.Stop.{Stop}
 use Rattle.sc_drive.specs.declared.company.Stop.TheVariants.{Full, OutOfMemory}
 
--- why a schedule stops where a row could not be posted
+-- Why a schedule stops where a row could not be posted for this cause.
 abbrev pub stop_by : PostFault → Stop
 stop_by (post.JournalFull bytes) = Full
 stop_by post.OutOfMemory = OutOfMemory
 
--- whether a turn made a row
+-- Whether a turn made a row, or why the schedule stops at it.
 abbrev pub row_made : Turn → Result Bool Stop
 row_made (turn.Did at) = Ok true
 row_made (turn.Empty seen) = Ok false

@@ -1,4 +1,4 @@
--- What a step of a storm is to do.
+-- What a step of a storm has to do.
 use Rattle.std.specs.Prelude.{◌≡◌, ℕ, ◌%◌, List, Option, option_and_then}
 use Rattle.sc_actor.specs.declared.actors.Actor.{Ghosts}
 use Rattle.sc_actor.specs.declared.actors.Parcel.{Ghosts as MailGhosts}
@@ -12,7 +12,7 @@ use Rattle.sc_shell.specs.declared.shells.Shell.{Shell}
 use Rattle.sc_drive.specs.Companies.{IsCompany}
 
 module _ {A M O : Type 0} {g : Ghosts A M O} {h : MailGhosts M} where
-  -- a step with these words makes the row of this line, if there is a line, whatever the actors' births are
+  -- For all births of which the shells are those, the row of a storm's step with these words is the row of this line, if there is a line.
   abbrev pub IsStormLine : ℕ × ℕ → Port M O h → List (Shell A M O g h) → Option (Line O) → Type 0
   IsStormLine step net ss line =
       (words : ℕ → ℕ → ℕ × ℕ) (births : List (Seat A)) → IsCompany births net ss →

@@ -1,4 +1,4 @@
-//! Lines of one row, of an actor.
+//! Lines of one row, which an actor makes.
 ghost use Rattle.std.specs.Prelude.{◌≡◌, IfSome, None};
 ghost use Rattle.sc_actor.specs.System.{acts};
 ghost use Rattle.sc_actor.specs.Walk.{line_row};
@@ -13,7 +13,7 @@ use sc_shell::Shell;
 use std::alloc::Global;
 use std::sync::Wait;
 
-/// The place of the shell of an actor.
+/// Returns the place of the shell of an actor, or `None` where it has no shell.
 pub(crate) fn place_of<A: Actor>(shells: &[Shell<A>], who: u32) -> Option<usize>
     ensures some { IfSome result (λ place. IsPlace shells.now who place) }
     ensures none { result ≡ None → IsNowhere shells.now who }
@@ -26,7 +26,8 @@ pub(crate) fn place_of<A: Actor>(shells: &[Shell<A>], who: u32) -> Option<usize>
     None
 }
 
-/// An event of an actor, unless it has crashed. Answers whether it made a row.
+/// Lets an event happen to an actor, unless it has crashed or has no shell. Returns whether a row
+/// was made.
 pub(crate) fn happen<A: Actor, R: Wait>(
     rt: &R,
     alloc: Global,
@@ -45,7 +46,7 @@ pub(crate) fn happen<A: Actor, R: Wait>(
     row_made(turn)
 }
 
-/// An actor that has not crashed is told to go. Answers whether it made a row.
+/// Lets an actor that has not crashed go. Returns whether a row was made.
 pub(crate) fn go<A: Actor, R: Wait>(
     rt: &R,
     alloc: Global,
@@ -63,7 +64,7 @@ pub(crate) fn go<A: Actor, R: Wait>(
     row_made(turn)
 }
 
-/// The delivery of the k-th pending mail of an actor. Answers whether it made a row.
+/// Delivers the k-th pending mail of an actor. Returns whether a row was made.
 pub(crate) fn deliver<A: Actor, G: Gate, R: Wait>(
     rt: &R,
     alloc: Global,

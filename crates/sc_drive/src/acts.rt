@@ -1,4 +1,4 @@
-//! What one actor does, where all gather before and after it.
+//! An event or a turn of one actor, where all gather before and after it.
 ghost use Rattle.std.specs.Prelude.{◌<◌, length, IfOk};
 ghost use Rattle.sc_exchange.specs.Ports.{SameExchange};
 ghost use Rattle.sc_shell.specs.Answers.{MayHappen};
@@ -47,7 +47,7 @@ fn serve_one<A: Actor, G: Gate, R: Wait>(
     Ok(shell.turn(rt, alloc, k, gate))
 }
 
-/// An event happens to the actor at a place.
+/// Lets an event happen to the actor at a place, and then all gather.
 pub(crate) fn tell<A: Actor, R: Wait>(
     rt: &R,
     alloc: Global,
@@ -71,8 +71,8 @@ pub(crate) fn tell<A: Actor, R: Wait>(
     Ok(turn)
 }
 
-/// The actor at a place takes a turn. Answers also to whom the first pending mail of all goes
-/// afterwards.
+/// Lets the actor at a place take a turn for its k-th pending mail, and then all gather. Returns
+/// the answer, and the receiver of the first pending mail of all then.
 pub(crate) fn serve<A: Actor, G: Gate, R: Wait>(
     rt: &R,
     alloc: Global,

@@ -1,4 +1,4 @@
-//! A company at work: the network's port, the shells of all actors, and what the walk has counted.
+//! A company: the network's port, the shells of all actors, and what the walk has counted.
 ghost use Rattle.std.specs.Prelude.{◌≡◌};
 ghost use Rattle.sc_drive.specs.Rows.{row_made, stop_by};
 ghost use Rattle.sc_drive.specs.declared.company.Stop.TheVariants.{OutOfMemory as NoRoom};
@@ -8,12 +8,14 @@ use sc_base::OutOfMemory;
 use sc_exchange::{Port, PostFault};
 use sc_shell::{Shell, Turn};
 
-/// What the walk has counted: the lines that made no row, whether a line of many deliveries ended
-/// with mail pending, and who was told to go.
+/// What the walk has counted.
 #[derive(Drop)]
 pub struct Score {
+    /// The number of lines of one row that made none.
     pub skipped: u64,
+    /// Whether a line of many deliveries ended with mail pending.
     pub unsettled: bool,
+    /// The actors that have gone by a `go` line.
     pub gone: Vec<u32>,
 }
 
@@ -24,7 +26,7 @@ pub struct Company<A: Actor> {
     pub net: Port<A::Mail, A::Order>,
     /// The shells of the actors, in the order of their births.
     pub shells: Vec<Shell<A>>,
-    /// What the lines so far came to.
+    /// What the walk has counted in the lines so far.
     pub score: Score,
 }
 
@@ -33,6 +35,7 @@ pub struct Company<A: Actor> {
 pub enum Stop {
     /// The next row would pass the limit.
     Full,
+    /// Memory ran out.
     OutOfMemory,
 }
 
@@ -55,7 +58,7 @@ impl From<PostFault> for Stop {
     }
 }
 
-/// Whether a turn made a row.
+/// Returns whether a turn made a row, or why the schedule stops at it.
 pub(crate) fn row_made(turn: Turn) -> Result<bool, Stop>
     ensures { result ≡ row_made turn }
 {

@@ -1,10 +1,10 @@
-//! What a schedule must be to be driven, as a test.
+//! The condition on a schedule for `drive`, as a test.
 ghost use Rattle.std.specs.Prelude.{◌≡◌, ◌↔◌, ℕ, IsTrue, Contains};
 ghost use Rattle.sc_drive.specs.Goings.{SparesGoers};
 
 use sc_actor::Line;
 
-// Whether a line lets the actor crash.
+// Returns whether the line lets this actor crash.
 fn is_crash_of<O>(line: &Line<O>, who: u32) -> bool
     ensures { IsTrue result ↔ (line.now ≡ Line.Crash who) }
 {
@@ -14,7 +14,7 @@ fn is_crash_of<O>(line: &Line<O>, who: u32) -> bool
     }
 }
 
-// Whether one of the lines lets the actor crash.
+// Returns whether one of the lines lets this actor crash.
 fn lets_crash<O>(lines: &[Line<O>], who: u32) -> bool
     ensures { IsTrue result ↔ Contains lines.now (Line.Crash who) }
 {
@@ -26,7 +26,7 @@ fn lets_crash<O>(lines: &[Line<O>], who: u32) -> bool
     false
 }
 
-// Whether none of the lines lets an actor crash that this line tells to go.
+// Returns whether the line is no `go` line of an actor that one of the lines lets crash.
 fn is_spared<O>(line: &Line<O>, lines: &[Line<O>]) -> bool
     ensures { IsTrue result ↔
         ((who : ℕ) → line.now ≡ Line.Go who → ¬ Contains lines.now (Line.Crash who)) }
@@ -37,7 +37,7 @@ fn is_spared<O>(line: &Line<O>, lines: &[Line<O>]) -> bool
     }
 }
 
-/// Whether no actor that a line tells to go is one that a line lets crash.
+/// Returns whether no actor that has a `go` line has a `crash` line.
 pub fn goers_are_spared<O>(lines: &[Line<O>]) -> bool
     ensures { IsTrue result ↔ SparesGoers lines.now }
 {

@@ -12,7 +12,7 @@ use sc_shell::Shell;
 use std::alloc::Global;
 use std::sync::Wait;
 
-// A shell's actor, whose port is joined.
+// Joins the port of a shell, and returns its actor.
 fn take_apart<A: Actor>(net: &mut Port<A::Mail, A::Order>, shell: Shell<A>) -> A
     requires net { net.old.who ≡ 0 }
     requires one { SameExchange net.old (port_of shell) }
@@ -24,7 +24,7 @@ fn take_apart<A: Actor>(net: &mut Port<A::Mail, A::Order>, shell: Shell<A>) -> A
     actor
 }
 
-// The same of all, and the network's port is closed.
+// Joins the ports of all shells, closes the network's port, and returns the journal and the actors.
 fn close_ports<A: Actor, R: Wait>(
     rt: &R,
     alloc: Global,
@@ -49,11 +49,11 @@ fn close_ports<A: Actor, R: Wait>(
     Ok((all.close(rt), actors))
 }
 
-/// Takes the shells apart, joins their ports and closes the network's port: the journal, which is
-/// what that port has seen, and the actors in the order of their shells.
+/// Joins the ports of all shells and closes the network's port. Returns the journal, which is what
+/// that port has seen, and the actors in the order of their shells.
 ///
-/// The shells are those of all ports that were split off, none was joined before, and all have
-/// gathered.
+/// The shells must be those of all ports that were split off, no port may be joined yet, and all
+/// shells must have gathered.
 pub fn close<A: Actor, R: Wait>(
     rt: &R,
     alloc: Global,

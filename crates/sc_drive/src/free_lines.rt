@@ -1,4 +1,4 @@
-//! A line of many deliveries by many workers.
+//! A `free` line: many deliveries by many workers.
 ghost use Rattle.std.specs.Prelude.{[], ◌∷◌, OnOk, IsErrOf};
 ghost use Rattle.sc_actor.specs.Walk.{Frees};
 ghost use Rattle.sc_drive.specs.Working.{AreTogether, LineEnded, LineRefused};
@@ -11,8 +11,8 @@ use std::alloc::Global;
 use std::sync::Wait;
 use std::thread::Threads;
 
-/// A line of many deliveries, each of the first pending mail of any actor, by so many workers, of
-/// which there are 1 to 16: in rounds, or by a pool.
+/// Runs a `free` line: up to `most` deliveries, each of the first pending mail of any actor, by
+/// `workers` workers, from 1 to 16, in rounds or by a pool.
 pub(crate) fn run_free<A: Actor, G: Gate, R: Threads + Wait + Sync>(
     rt: &R,
     alloc: Global,

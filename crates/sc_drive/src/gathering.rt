@@ -1,4 +1,5 @@
-//! All gather where only one actor has acted, or none.
+//! Gathering of all shells: they meet the network's port and vouch for what it has seen. Here only
+//! one of them has acted, or none.
 ghost use Rattle.std.specs.Prelude.{◌<◌, length, IfOk, OnOk};
 ghost use Rattle.sc_exchange.specs.Ports.{IsTrue, IsAddressed};
 ghost use Rattle.sc_workers.specs.Crews.{AllMet, AllOf, AreStill};
@@ -12,8 +13,9 @@ use sc_shell::Shell;
 use sc_workers::{meet_one, vouch};
 use std::sync::Wait;
 
-/// All gather where each shell but that at a place has seen only what the port has seen: so only
-/// that one meets the port. Answers to whom the first pending mail of all goes.
+/// Lets all shells gather, where each shell but that at a place has seen only what the port has
+/// seen. So only that one meets the port. Returns the receiver of the first mail pending for the
+/// port's actor, or for any actor where the port is the network's.
 pub(crate) fn gather_after<A: Actor, R: Wait>(
     rt: &R,
     net: &mut Port<A::Mail, A::Order>,
@@ -33,8 +35,8 @@ pub(crate) fn gather_after<A: Actor, R: Wait>(
     Ok(found)
 }
 
-/// All gather where each shell has seen only what the port has seen, which has looked last: so none
-/// meets it, and each vouches for what it has seen.
+/// Lets all shells gather, where each has seen only what the port has seen and the port's rows are
+/// known. So no shell meets the port, and each vouches for what the port has seen.
 pub(crate) fn gather_again<A: Actor>(net: &mut Port<A::Mail, A::Order>, shells: &mut Vec<Shell<A>>)
     requires exchange { AllOf net.old shells.old.items }
     requires met { AllMet net.old shells.old.items }

@@ -1,4 +1,4 @@
-//! Lines of one row, of the network.
+//! Lines of one row, which the network makes.
 ghost use Rattle.std.specs.Prelude.{◌≡◌};
 ghost use Rattle.sc_actor.specs.Walk.{line_row};
 ghost use Rattle.sc_workers.specs.Crews.{IsCrew};
@@ -12,7 +12,7 @@ use sc_exchange::{Fate, Port};
 use sc_workers::gather;
 use std::sync::Wait;
 
-// The network loses a copy of a mail or repeats it, where it may.
+// Loses a copy of a mail or repeats the mail, where this may be.
 fn change_one<M: Parcel + Drop, O: Drop, R: Wait>(
     rt: &R,
     net: &mut Port<M, O>,
@@ -28,7 +28,7 @@ fn change_one<M: Parcel + Drop, O: Drop, R: Wait>(
     }
 }
 
-// The same, and then all gather.
+// Loses a copy of a mail or repeats the mail, where this may be, and then all gather.
 fn change<A: Actor, R: Wait>(
     rt: &R,
     company: &mut Company<A>,
@@ -43,7 +43,7 @@ fn change<A: Actor, R: Wait>(
     made
 }
 
-/// The loss of the k-th pending mail of an actor. Answers whether it made a row.
+/// Loses the k-th pending mail of an actor. Returns whether a row was made.
 pub(crate) fn lose<A: Actor, R: Wait>(
     rt: &R,
     company: &mut Company<A>,
@@ -67,7 +67,7 @@ pub(crate) fn lose<A: Actor, R: Wait>(
     change(rt, company, number, Fate::Lost)
 }
 
-/// A mail is pending once more. Answers whether that made a row.
+/// Repeats a mail, if its receiver has a shell and may get it. Returns whether a row was made.
 pub(crate) fn again<A: Actor, R: Wait>(
     rt: &R,
     company: &mut Company<A>,

@@ -18,7 +18,7 @@ use std::alloc::Global;
 use std::sync::Wait;
 use std::thread::Threads;
 
-// One line.
+// Runs one line of the schedule.
 fn run_line<A: Actor, G: Gate, R: Threads + Wait + Sync>(
     rt: &R,
     alloc: Global,
@@ -44,11 +44,11 @@ fn run_line<A: Actor, G: Gate, R: Threads + Wait + Sync>(
     }
 }
 
-/// Drives a schedule through a company that has just opened. `way` tells how a line of many workers
-/// is worked.
+/// Drives a schedule through a company that has just opened. `way` says how a line of many workers
+/// is worked. Returns what the walk has counted, or why the schedule stopped.
 ///
-/// No line tells an actor to go that another lets crash (`goers_are_spared`). The journal is
-/// afterwards what the contract of a played schedule says.
+/// No actor with a `go` line may have a `crash` line (`goers_are_spared`). What is left afterwards
+/// is `IsDriven`: a lawful journal of the schedule, or one that the next row would fill.
 pub fn drive<A: Actor, G: Gate, R: Threads + Wait + Sync>(
     rt: &R,
     alloc: Global,
@@ -63,7 +63,7 @@ pub fn drive<A: Actor, G: Gate, R: Threads + Wait + Sync>(
     ensures driven { (births : List (Seat A)) → HasOpened births company.old →
         IsDriven two_words births lines.now company.old.net.limit company.new result }
 {
-    // Until all have gathered it is not known that there is no row.
+    // That the journal is empty is known only once all shells have gathered.
     let Ok(_) = gather(rt, &mut company.net, &mut company.shells) else {
         return Played::OutOfMemory;
     };

@@ -1,4 +1,4 @@
-//! A line of many deliveries, each of the lowest-numbered pending mail of all.
+//! A `settle` line: many deliveries, each of the lowest-numbered pending mail of all actors.
 ghost use Rattle.std.specs.Prelude.{◌<◌, [], ◌∷◌, IfOk, OnOk, IsErrOf, Some};
 ghost use Rattle.sc_actor.specs.Walk.{Settles};
 ghost use Rattle.sc_workers.specs.Ends.{IsFirst};
@@ -16,7 +16,7 @@ use sc_workers::gather;
 use std::alloc::Global;
 use std::sync::Wait;
 
-// Of these copies, the place of the shell that gets the first that one gets.
+// Returns the place of the shell that gets the first of these copies whose receiver has a shell.
 fn first_placed<A: Actor>(shells: &[Shell<A>], spots: &[Spot]) -> Option<usize>
     ensures { IsFirstPlaced shells.now spots.now result }
 {
@@ -28,7 +28,8 @@ fn first_placed<A: Actor>(shells: &[Shell<A>], spots: &[Spot]) -> Option<usize>
     None
 }
 
-// The same of all that is pending. It takes memory for all of that.
+// Lets all shells gather, and returns the place of the shell that gets the lowest-numbered pending
+// mail, from a list of all pending mail, for which it takes memory.
 fn look_on<A: Actor, R: Wait>(
     rt: &R,
     company: &mut Company<A>,
@@ -41,10 +42,10 @@ fn look_on<A: Actor, R: Wait>(
     Ok(first_placed(company.shells.as_slice(), look.pending.as_slice()))
 }
 
-// The place of the shell that gets the lowest-numbered pending mail of all, where this is to whom
-// it goes. None where no mail is pending.
+// Returns the place of the shell that gets the lowest-numbered pending mail of all, or `None` where
+// no mail is pending. `found` is the receiver of the first pending mail of all.
 //
-// Mail to an actor that has no shell is passed over.
+// Mail to a number that has no shell is passed over.
 fn placed<A: Actor, R: Wait>(
     rt: &R,
     company: &mut Company<A>,
@@ -63,8 +64,8 @@ fn placed<A: Actor, R: Wait>(
     }
 }
 
-/// All gather. Answers the place of the shell that gets the lowest-numbered pending mail of all,
-/// and none where no mail is pending.
+/// Lets all shells gather, and returns the place of the shell that gets the lowest-numbered pending
+/// mail of all, or `None` where no mail is pending.
 pub(crate) fn lowest<A: Actor, R: Wait>(
     rt: &R,
     company: &mut Company<A>,
@@ -76,7 +77,8 @@ pub(crate) fn lowest<A: Actor, R: Wait>(
     placed(rt, company, found)
 }
 
-// One delivery of such a line, at the place that was found. Answers where the next one is to come.
+// Makes one delivery of a `settle` line, at the place that was found, and returns the place of the
+// next.
 fn settle_step<A: Actor, G: Gate, R: Wait>(
     rt: &R,
     alloc: Global,
@@ -105,7 +107,8 @@ fn settle_step<A: Actor, G: Gate, R: Wait>(
     }
 }
 
-/// A line of many deliveries, each of the lowest-numbered pending mail of all.
+/// Runs a `settle` line: up to `most` deliveries, each of the lowest-numbered pending mail of all
+/// actors.
 pub(crate) fn run_settle<A: Actor, G: Gate, R: Wait>(
     rt: &R,
     alloc: Global,

@@ -13,7 +13,7 @@ use sc_base::Dup;
 use std::alloc::Global;
 use std::sync::Wait;
 
-// One line more that made no row. Without room to count it that is a want of memory.
+// Counts one more line that made no row. `Err`: the count would not fit.
 fn skip(score: &mut Score) -> Result<(), Stop>
     ensures skipped { OnOk result (score.new.skipped ≡ score.old.skipped + 1) }
     ensures kept { (score.new.unsettled ≡ score.old.unsettled)
@@ -27,7 +27,7 @@ fn skip(score: &mut Score) -> Result<(), Stop>
     Ok(())
 }
 
-/// A line of one row at which no actor is told to go. Answers whether it made a row.
+/// Runs a line of one row that is no `go` line. Returns whether a row was made.
 pub(crate) fn step_line<A: Actor, G: Gate, R: Wait>(
     rt: &R,
     alloc: Global,
@@ -53,7 +53,7 @@ pub(crate) fn step_line<A: Actor, G: Gate, R: Wait>(
     }
 }
 
-/// A line of one row at which no actor is told to go. One that makes no row is counted.
+/// Runs a line of one row that is no `go` line, and counts it where it makes no row.
 pub(crate) fn run_once<A: Actor, G: Gate, R: Wait>(
     rt: &R,
     alloc: Global,
@@ -73,15 +73,15 @@ pub(crate) fn run_once<A: Actor, G: Gate, R: Wait>(
     skip(&mut company.score)
 }
 
-// Whether a number is in a list.
+// Returns whether the number is in the list.
 fn is_listed(list: &[u32], who: u32) -> bool
     ensures { result ≡ is_in who list.now }
 {
     list.iter().any(|number| who == *number)
 }
 
-/// A line at which an actor is told to go, which has not crashed. One that was told before is not
-/// told again.
+/// Runs a `go` line of an actor that has not crashed. Where the actor has gone before, no row is
+/// made, and the line is counted as skipped.
 pub(crate) fn run_go<A: Actor, R: Wait>(
     rt: &R,
     alloc: Global,

@@ -12,7 +12,7 @@ use sc_exchange::Port;
 use sc_shell::Shell;
 use std::alloc::Global;
 
-// The actor of a seat at a port of its own.
+// Splits off a port for a seat, and returns a shell of its actor.
 fn seat_one<A: Actor>(
     net: &mut Port<A::Mail, A::Order>,
     seat: Seat<A>,
@@ -27,10 +27,11 @@ fn seat_one<A: Actor>(
     Ok(Shell::new(actor, port))
 }
 
-/// Starts an exchange of so many actors within a limit of counted bytes of at most 2^30, and seats
-/// each actor at a port of its own, in the order of the seats.
+/// Starts an exchange of `actors` actors, whose journal may have `limit` counted bytes, at most
+/// 2^30. Returns a company with a shell for each seat, at a port of its own, in the order of the
+/// seats.
 ///
-/// The numbers of the seats are different, and each is from 1 to `actors`.
+/// The numbers of the seats must be different, each from 1 to `actors`.
 pub fn open<A: Actor>(
     alloc: Global,
     seats: Vec<Seat<A>>,

@@ -1,4 +1,4 @@
-//! A storm: steps of one row each, which words draw.
+//! A `storm` line: steps of one row each, which words draw.
 ghost use Rattle.std.specs.Prelude.{◌≡◌, [], ◌∷◌, option_and_then, IfOk, IfSome, OnOk, IsErrOf};
 ghost use Rattle.sc_actor.specs.Walk.{Storms, line_row, storm_steps};
 ghost use Rattle.sc_chance.specs.Words.{two_words, after_step};
@@ -17,7 +17,7 @@ use sc_shell::Shell;
 use std::alloc::Global;
 use std::sync::Wait;
 
-// The numbers of the actors, in the order of their shells.
+// Returns the numbers of the actors, in the order of their shells.
 fn numbers_of<A: Actor>(alloc: Global, shells: &[Shell<A>]) -> Result<Vec<u32>, OutOfMemory>
     ensures { IfOk result (λ numbers. numbers.items ≡ crew_numbers shells.now) }
 {
@@ -28,7 +28,8 @@ fn numbers_of<A: Actor>(alloc: Global, shells: &[Shell<A>]) -> Result<Vec<u32>, 
     Ok(numbers)
 }
 
-// The line of a storm's next step, by what is pending when all gather, if it is one.
+// Draws the next step of a storm, lets all shells gather, and returns the line of this step, if it
+// is one.
 fn storm_line<A: Actor, R: Wait>(
     rt: &R,
     company: &mut Company<A>,
@@ -51,7 +52,7 @@ fn storm_line<A: Actor, R: Wait>(
     Ok(step.line())
 }
 
-// Whether such a line made a row, if there is one.
+// Runs the line of a step, if there is one. Returns whether a row was made.
 fn run_deed<A: Actor, G: Gate, R: Wait>(
     rt: &R,
     alloc: Global,
@@ -70,7 +71,7 @@ fn run_deed<A: Actor, G: Gate, R: Wait>(
     }
 }
 
-// One step of a storm. One that makes no row is not counted.
+// Runs one step of a storm. A step that makes no row is not counted as skipped.
 fn storm_step<A: Actor, G: Gate, R: Wait>(
     rt: &R,
     alloc: Global,
@@ -94,7 +95,7 @@ fn storm_step<A: Actor, G: Gate, R: Wait>(
     Ok(())
 }
 
-/// The storm of that number, of so many steps.
+/// Runs `most` steps of the storm with this number.
 pub(crate) fn run_storm<A: Actor, G: Gate, R: Wait>(
     rt: &R,
     alloc: Global,

@@ -1,4 +1,4 @@
-//! Ways to work a line of many deliveries.
+//! The ways to work a `free` line.
 ghost use Rattle.std.specs.Prelude.{◌≤◌, Some, IfOk, OnOk};
 ghost use Rattle.sc_workers.specs.Crews.{AreLater, IsCrew, crew_numbers};
 ghost use Rattle.sc_workers.specs.Ends.{IsEnd, IfHeld};
@@ -13,7 +13,7 @@ use std::alloc::Global;
 use std::sync::Wait;
 use std::thread::Threads;
 
-// Rounds, or the rounds of a pool.
+// Plays rounds, or the rounds of a pool, by `way`.
 fn rounds_of<A: Actor, G: Gate, R: Threads + Wait + Sync>(
     rt: &R,
     alloc: Global,
@@ -37,8 +37,8 @@ fn rounds_of<A: Actor, G: Gate, R: Threads + Wait + Sync>(
     }
 }
 
-/// Rounds, or the rounds of a pool, with their end. Without memory it is an error, and shells may be
-/// lost.
+/// Plays rounds, or the rounds of a pool, by `way`, and returns how they end. `Err(OutOfMemory)`:
+/// shells may be lost.
 pub(crate) fn freed<A: Actor, G: Gate, R: Threads + Wait + Sync>(
     rt: &R,
     alloc: Global,

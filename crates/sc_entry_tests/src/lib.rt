@@ -1,6 +1,6 @@
-//! What entries make of all groups, tried on a small list of entries, and how arcs, pairs and pages
-//! of a scan are cut. It stands in a crate of its own, so that no crate below is proved once more
-//! with its tests.
+//! Tests of what entries make of all groups, on a small list of entries, and of how arcs, pairs and
+//! pages of a scan are cut. They are in a crate of their own, since a crate with tests is proved
+//! twice.
 #![tactic(auto)]
 
 #[cfg(test)]

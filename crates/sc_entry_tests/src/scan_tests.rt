@@ -9,10 +9,10 @@ use std::process::Abort;
 
 const WHOLE: u64 = 4_294_967_296;
 
-// The position of the key m.
+// The position of the key `m`.
 const AT_M: u32 = 1_828_716_544;
 
-// The position behind that of the key a.
+// The position behind that of the key `a`.
 const BEHIND_A: u32 = 1_627_389_953;
 
 const HALF: u32 = 2_147_483_648;
@@ -35,7 +35,7 @@ fn put(rt: &impl Abort, alloc: Global, store: &mut Store, byte: u8) {
     forget(op);
 }
 
-// The pairs with the keys a, m and z.
+// Returns the pairs with the keys `a`, `m` and `z`.
 fn three(rt: &impl Abort, alloc: Global) -> Pairs {
     let mut store = Store::new(alloc);
     for byte in b"zam" {
@@ -71,7 +71,7 @@ fn is_page(page: &Page, keys: &[u8], next: Option<u8>) -> bool {
     have_keys(&page.pairs, keys) && goes_on
 }
 
-// The pairs of the whole circle from the key m on.
+// Returns the pairs of the whole circle from the key `m` on.
 fn from_m(rt: &impl Abort, alloc: Global) -> Vec<(Key, Value)> {
     let pairs = three(rt, alloc);
     let list = ordered(alloc, &arc(rt, AT_M, WHOLE), &pairs).expect(rt, "memory");
@@ -87,7 +87,7 @@ fn pairs_come_in_the_order_from_the_arcs_start(rt: HostRuntime) {
     assert!(rt; is_so);
 }
 
-// Whether the page behind a key, or the first, is this one.
+// Returns whether the page behind a key, or the first page, is this one.
 fn gives(
     rt: &impl Abort,
     alloc: Global,
@@ -112,7 +112,7 @@ fn pages_of_two_share_three_pairs(rt: HostRuntime) {
     assert!(rt; first && second);
 }
 
-// A part: its start, its length and its group.
+// A part of an arc: its start, its length and its group.
 type Wanted = (u32, u64, Draw);
 
 fn are_parts(parts: &[Part], wanted: &[Wanted]) -> bool {
@@ -130,7 +130,7 @@ fn are_parts(parts: &[Part], wanted: &[Wanted]) -> bool {
     true
 }
 
-// Whether an arc has these parts in a ring.
+// Returns whether an arc has these parts in a ring.
 fn has_parts(
     rt: &impl Abort,
     alloc: Global,

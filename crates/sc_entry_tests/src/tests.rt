@@ -1,5 +1,5 @@
-//! A group that is alone splits, and its child splits in its turn, watched by its parent, which has
-//! not heard of the end. What ring and records are then is as a second implementation tells it.
+//! A group that is alone splits, and its child splits, watched by its parent, which has not heard
+//! of the end. Ring and records are compared with those that a second implementation gives.
 use sc_base::{Boxed, Draw, Key, Members, Op, Pairs, RingArc, SeenList, Sequence, Value};
 use sc_cmd::{Base, Command, Core, Link, Lock, Past, Watch};
 use sc_log_entries::{Cut, LogEntry};
@@ -106,7 +106,7 @@ fn split(at: u32, child: Draw) -> Command {
     }
 }
 
-// The world after the entries.
+// Returns the world after the entries.
 fn told(rt: &impl Abort, alloc: Global) -> StoreWorld {
     let bases = [parent(rt, alloc)];
     let mut world = StoreWorld::first(alloc, &bases).expect(rt, "memory");
@@ -128,7 +128,7 @@ fn is_cut(cut: &Cut, lo: u32, len: u64, group: Draw) -> bool {
     cut.arc.lo() == lo && cut.arc.len() == len && cut.group == group
 }
 
-// Whether a ring covers, and is of the three groups.
+// Returns whether a ring covers, and is of the three groups.
 fn is_of_three(ring: &[Cut]) -> bool {
     ring.len() == 3
         && is_cut(&ring[0], 0, 2_147_483_648, PARENT)
@@ -146,12 +146,12 @@ fn a_child_that_splits_leaves_three_cuts(rt: HostRuntime) {
     assert!(rt; is_of_three);
 }
 
-// The group before the parent, as the parent knows it.
+// Returns the group before the parent, as the parent knows it.
 fn before_parent(rt: &impl Abort, world: &StoreWorld) -> Draw {
     world.group(PARENT).expect(rt, "a group").core().pred.group
 }
 
-// The groups before and behind the parent in its effective record.
+// Returns the groups before and behind the parent in its effective record.
 fn around_parent(rt: &impl Abort, world: &StoreWorld) -> (Draw, Draw) {
     let base = world
         .effective(PARENT)

@@ -1,4 +1,4 @@
--- The definitions of this crate that others cite, under one name.
+-- The definitions of this crate that other crates cite, under one name.
 pub use Rattle.sc_exchange.specs.BareRows.{rows_of, bare_rows, rows_from, row_by}
 pub use Rattle.sc_exchange.specs.Addressed.{is_mail_to, is_addressed, all_addressed}
 pub use Rattle.sc_exchange.specs.Answers.{IsLook, IsFetch, fetched_number, number_in, IsFirstTo, IsGlance}

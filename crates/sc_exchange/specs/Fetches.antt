@@ -1,4 +1,4 @@
--- What a port knows of the mail that it fetched.
+-- What a port knows of the mail that it has fetched.
 use Rattle.std.specs.Prelude.{◌≡◌, ◌≢◌, ℕ, List, Option, None, Some, ⊤}
 use Rattle.sc_turn.specs.Definitions.{StartsWith as Begins}
 use Rattle.sc_actor.specs.declared.rows.Row.{Row}
@@ -8,7 +8,7 @@ use Rattle.sc_ledger.specs.Definitions.{kth_pending}
 use Rattle.sc_exchange.specs.BareRows.{rows_of}
 
 module _ {M O : Type 0} where
-  -- Among the rows that were seen there are first ones after which the mail was pending for this actor. If it is an actor, it has made no row since.
+  -- The rows `seen` have a prefix after which the mail `number` was pending for `who`. If `who` is an actor, it has made no row since that prefix.
   pub record WasPending (receiver : M → ℕ) (actors who number : ℕ) (made seen : List (Row M O)) : Type 0 where
     pub rows : List (Row M O)
     pub later : Begins seen rows
@@ -16,12 +16,12 @@ module _ {M O : Type 0} where
     pub kth : kth_pending receiver actors rows who k ≡ Some number
     pub own : who ≢ 0 → rows_of who rows ≡ made
 
-  -- the same of the mail that was fetched, if any was
+  -- Where a mail was fetched, it was pending when it was fetched, and the actor has made no row since (`WasPending`).
   abbrev pub HasFetched : (M → ℕ) → ℕ → ℕ → Option ℕ → List (Row M O) → List (Row M O) → Type 0
   HasFetched receiver actors who None made seen = ⊤
   HasFetched receiver actors who (Some number) made seen = WasPending receiver actors who number made seen
 
--- the mail that an event delivers, if it is a delivery
+-- The number of the mail that an event delivers, if it is a delivery.
 abbrev pub delivered : {O : Type 0} → Event O → Option ℕ
 delivered (Deliver number) = Some number
 delivered (Drop number) = None

@@ -1,10 +1,10 @@
 //! What the network does to a mail.
 
-/// What becomes of a mail by a row of the network.
+/// What a row of the network does to a mail.
 #[derive(Clone, Copy, Debug, PartialEq, Eq)]
 pub enum Fate {
     /// A pending copy is lost.
     Lost,
-    /// The mail has one copy more.
+    /// The mail has one more copy.
     Repeated,
 }

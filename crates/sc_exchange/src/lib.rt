@@ -1,5 +1,5 @@
-//! One journal, and ports to it: each actor posts its rows by a port of its own, and any number
-//! of threads may do so at the same time.
+//! One journal, and ports to it. Each actor posts its rows by a port of its own, and any number of
+//! threads may do so at the same time.
 #![tactic(auto)]
 
 mod answers;

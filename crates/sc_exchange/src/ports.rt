@@ -1,4 +1,4 @@
-//! The ports.
+//! The ports to an exchange.
 ghost use Rattle.std.specs.Prelude.{◌≡◌, ◌≢◌, ℕ, ◌++◌, ◌∷◌, [], ◌<◌, ◌≤◌, ◌^◌, true, false, length, map, IfOk, OnErr, IfErr, OnOk, Contains, is_some};
 ghost use Rattle.std.specs.List.{list_any};
 ghost use Rattle.sc_turn.specs.Seats.{known, AllJoined};
@@ -24,19 +24,22 @@ use sc_turn::TurnSeat;
 use std::alloc::Global;
 use std::sync::Wait;
 
-/// A port to the exchange: of the actor with the number `who`, or of the network where it is 0.
+/// A port to the exchange: that of the actor `who`, or of the network where `who` is 0.
 ///
-/// Its meaning is the list of rows that it has seen and the list of those that it made. `fetched`
-/// is the mail of its last fetch, with no post between, and `crashed` says whether it has posted a
-/// Crash.
+/// Its meaning is the list of rows that it has seen and the list of those that it has made.
 #[derive(Drop)]
 pub struct Port<M: Parcel + Drop, O: Drop> {
     seat: TurnSeat<Exchange<M, O>>,
     alloc: Global,
+    /// The number of the port's actor, or 0 for the network.
     pub who: u32,
+    /// The number of actors of the exchange.
     pub actors: u32,
+    /// The most counted bytes of the journal.
     pub limit: u64,
+    /// The number of the mail of the last fetch, if nothing was posted since.
     pub fetched: Option<u32>,
+    /// Whether the port has posted a Crash.
     pub crashed: bool,
     ghost number: { (known seat).who ≡ who },
     ghost out: { (known seat).turn ≡ false },
@@ -50,8 +53,8 @@ pub struct Port<M: Parcel + Drop, O: Drop> {
 impl<M: Parcel + Drop, O: Drop> Port<M, O> {
     ghost use Rattle.sc_exchange.specs.Ports.{seen, made, given, SameExchange, MayPost, HasTurned, HasLooked, HasPosted, IsRefused, HasChanged, HasHeard, IsAsBefore, IsStart, HasSplit, IsNew, HasJoined, HasJoinedAll, IsJournal};
 
-    /// The network's port to a new exchange, whose journal is empty. The actors have the numbers
-    /// from 1 to `actors`, and the counted bytes never pass the limit.
+    /// Returns the network's port to a new exchange, whose journal is empty. The actors have the
+    /// numbers from 1 to `actors`, and the counted bytes of the journal never pass `limit`.
     pub fn start(alloc: Global, actors: u32, limit: u64) -> Result<Port<M, O>, OutOfMemory>
         requires { limit ≤ 2 ^ 30 }
         ensures { IfOk result (λ p. IsStart p actors limit) }
@@ -67,8 +70,9 @@ impl<M: Parcel + Drop, O: Drop> Port<M, O> {
         })
     }
 
-    /// A new port of the actor `who`, which has seen what the network's port has seen and has made
-    /// nothing. Only the network's port splits off others, each number once.
+    /// Returns a new port of the actor `who`, which has seen what the network's port has seen and
+    /// has made no row. Only the network's port splits off others, each number once.
+    /// `Err(OutOfMemory)`: no port was made, and the number is still free.
     pub fn split(&mut self, who: u32) -> Result<Port<M, O>, OutOfMemory>
         requires net { self.old.who ≡ 0 }
         requires number { (0 < who) × (who ≤ self.old.actors) }
@@ -90,8 +94,9 @@ impl<M: Parcel + Drop, O: Drop> Port<M, O> {
         })
     }
 
-    /// The k-th pending mail of this port's actor, counted from 1, which stays pending. The
-    /// network's port looks at the pending mail of all.
+    /// Returns the k-th pending mail of this port's actor, counted from 1, which stays pending. At
+    /// the network's port it is the k-th pending mail of all actors. `Err(OutOfMemory)`: no fetched
+    /// mail is kept, and nothing is posted.
     pub fn fetch<R: Wait>(&mut self, rt: &R, k: u32) -> Result<Fetched<M>, OutOfMemory>
         requires { 0 < k }
         ensures looked { HasLooked self.old self.new (number_in result) }
@@ -104,10 +109,10 @@ impl<M: Parcel + Drop, O: Drop> Port<M, O> {
         found
     }
 
-    /// Appends a row of this port's actor, and answers its place, counted from 1. A delivery is of
-    /// the mail of the last fetch, which was pending then.
+    /// Appends a row of this port's actor, and returns its place in the journal, counted from 1. A
+    /// delivery has to be of the mail of the last fetch, which was pending then.
     ///
-    /// A refused row is handed back, and the journal is unchanged.
+    /// `Err`: the event and the mails are handed back with the cause, and the port has made no row.
     pub fn post<R: Wait>(
         &mut self,
         rt: &R,
@@ -145,9 +150,10 @@ impl<M: Parcel + Drop, O: Drop> Port<M, O> {
         }
     }
 
-    /// The network loses a pending copy of the mail with this number, or repeats the mail, which
-    /// has one more copy then. False exactly where it may not: no copy is pending, or, of a repeat,
-    /// the mail was not sent, or its receiver is the desk or has crashed.
+    /// Loses a pending copy of the mail with this number, or repeats the mail, by a row of the
+    /// network. Returns `false` exactly where this may not be: a loss where no copy is pending; a
+    /// repeat where the mail was not sent, or its receiver is the desk or has crashed. `Err`: the
+    /// row was refused, and the port has made none.
     pub fn change<R: Wait>(
         &mut self,
         rt: &R,
@@ -171,7 +177,8 @@ impl<M: Parcel + Drop, O: Drop> Port<M, O> {
         }
     }
 
-    /// Loses a pending copy of the mail with this number. False exactly where none is pending.
+    /// Loses a pending copy of the mail with this number. Returns `false` exactly where none is
+    /// pending.
     pub fn lose<R: Wait>(&mut self, rt: &R, number: u32) -> Result<bool, Unposted<M, O>>
         requires { self.old.who ≡ 0 }
         ensures { HasChanged Fate.Lost number self.old self.new result }
@@ -179,8 +186,8 @@ impl<M: Parcel + Drop, O: Drop> Port<M, O> {
         self.change(rt, number, Fate::Lost)
     }
 
-    /// Repeats the mail with this number, which has one more copy then. False exactly where it was
-    /// not sent, or its receiver is the desk or has crashed.
+    /// Repeats the mail with this number, which has one more copy afterwards. Returns `false`
+    /// exactly where the mail was not sent, or its receiver is the desk or has crashed.
     pub fn again<R: Wait>(&mut self, rt: &R, number: u32) -> Result<bool, Unposted<M, O>>
         requires { self.old.who ≡ 0 }
         ensures { HasChanged Fate.Repeated number self.old self.new result }
@@ -188,8 +195,8 @@ impl<M: Parcel + Drop, O: Drop> Port<M, O> {
         self.change(rt, number, Fate::Repeated)
     }
 
-    /// The number of the k-th pending mail of an actor, or of all where `who` is 0. None exactly
-    /// where there are fewer.
+    /// Returns the number of the k-th pending mail, counted from 1, of actor `who`, or of all where
+    /// `who` is 0; `None` exactly where there are fewer at this turn.
     pub fn pending<R: Wait>(&mut self, rt: &R, who: u32, k: u32) -> Option<u32>
         requires { 0 < k }
         ensures looked { HasLooked self.old self.new self.old.fetched }
@@ -198,7 +205,8 @@ impl<M: Parcel + Drop, O: Drop> Port<M, O> {
         kth_at(rt, &mut self.seat, self.actors, who, k)
     }
 
-    /// To whom the mail with this number goes. None exactly where at this turn it was not sent.
+    /// Returns the receiver of the mail with this number; `None` exactly where at this turn it was
+    /// not sent.
     pub fn receiver<R: Wait>(&mut self, rt: &R, number: u32) -> Option<u32>
         ensures looked { HasLooked self.old self.new self.old.fetched }
         ensures receiver { result
@@ -207,8 +215,9 @@ impl<M: Parcel + Drop, O: Drop> Port<M, O> {
         receiver_at(rt, &mut self.seat, number)
     }
 
-    /// To whom the first mail goes that is pending for this port's actor, or of all at the network's
-    /// port. None exactly where none is pending. The mail is not copied.
+    /// Returns the receiver of the first mail that is pending for this port's actor, or for any
+    /// actor at the network's port; `None` exactly where none is pending at this turn. The mail is
+    /// not copied.
     pub fn first_receiver<R: Wait>(&mut self, rt: &R) -> Option<u32>
         ensures looked { HasLooked self.old self.new self.old.fetched }
         ensures first { IsFirstTo M.receiver self.old.actors (seen self.new) self.old.who result }
@@ -216,7 +225,7 @@ impl<M: Parcel + Drop, O: Drop> Port<M, O> {
         first_at(rt, &mut self.seat, self.actors, self.who)
     }
 
-    /// For each of these actors, whether mail is pending for it, all at this one turn.
+    /// Returns for each of these actors whether mail is pending for it, all at one turn.
     pub fn waiting<R: Wait>(&mut self, rt: &R, whos: &[u32]) -> Result<Vec<bool>, OutOfMemory>
         ensures looked { HasLooked self.old self.new self.old.fetched }
         ensures waiting { IfOk result
@@ -228,8 +237,8 @@ impl<M: Parcel + Drop, O: Drop> Port<M, O> {
         waiting_at(rt, self.alloc, &mut self.seat, self.actors, whos)
     }
 
-    /// How many mails were sent, and each pending copy of all mail, all at this one turn. Only the
-    /// network's port looks.
+    /// Returns the number of mails that were sent, and each pending copy of all mail, all at one
+    /// turn. Only the network's port may do this.
     pub fn look<R: Wait>(&mut self, rt: &R) -> Result<Look, OutOfMemory>
         requires net { self.old.who ≡ 0 }
         ensures looked { HasLooked self.old self.new self.old.fetched }
@@ -239,8 +248,9 @@ impl<M: Parcel + Drop, O: Drop> Port<M, O> {
         look_at(rt, self.alloc, &mut self.seat, self.actors)
     }
 
-    /// How many mails were sent, and of the pending copies for these actors, in ascending order of
-    /// number, the one that a word picks, all at this one turn. Only the network's port looks so.
+    /// Returns the number of mails that were sent, and of the pending copies for the actors `whos`,
+    /// in ascending order of number, the one at the place `word` modulo their number, all at one
+    /// turn. Only the network's port may do this.
     pub fn glance<R: Wait>(
         &mut self,
         rt: &R,
@@ -255,8 +265,9 @@ impl<M: Parcel + Drop, O: Drop> Port<M, O> {
         glance_at(rt, self.alloc, &mut self.seat, self.actors, whos, word)
     }
 
-    /// Two ports of one exchange tell each other: afterwards what each has seen begins with what
-    /// the two had seen before, and what `other` has seen begins with what this port has.
+    /// Lets two ports of one exchange exchange what they have seen. Afterwards what each has seen
+    /// begins with what both had seen before, and what `other` has seen begins with what this port
+    /// has seen.
     pub fn meet<R: Wait>(&mut self, rt: &R, other: &mut Port<M, O>) -> Result<(), OutOfMemory>
         requires { SameExchange self.old other.old }
         ensures mine { HasHeard self.old self.new (seen other.old) }
@@ -266,9 +277,9 @@ impl<M: Parcel + Drop, O: Drop> Port<M, O> {
         self.seat.meet(rt, &mut other.seat)
     }
 
-    /// Vouches for what the other port has seen, which begins with what this port has seen: the
-    /// rows of this port's number in it are exactly those that this port made. Neither port sees
-    /// more by it.
+    /// Shows that in what the other port has seen, which has to begin with what this port has seen,
+    /// the rows of this port's number are exactly those that this port has made. Neither port sees
+    /// more rows afterwards.
     pub fn vouch(&mut self, other: &mut Port<M, O>)
         requires one { SameExchange self.old other.old }
         requires later { Begins (seen other.old) (seen self.old) }
@@ -279,8 +290,8 @@ impl<M: Parcel + Drop, O: Drop> Port<M, O> {
         self.seat.vouch(&mut other.seat);
     }
 
-    /// The network's port takes in another port of the exchange, keeps the longer of what the two
-    /// have seen, and knows what the other made.
+    /// Takes another port of the exchange into the network's port, which keeps the longer of what
+    /// the two have seen, and knows the rows that the other had made.
     pub fn join(&mut self, other: Port<M, O>)
         requires net { self.old.who ≡ 0 }
         requires one { SameExchange self.old other }
@@ -298,7 +309,8 @@ impl<M: Parcel + Drop, O: Drop> Port<M, O> {
         self.seat.join(seat);
     }
 
-    /// The journal. Each port that was split off was joined.
+    /// Closes the exchange and returns its journal. Each port that was split off must have been
+    /// joined.
     pub fn close<R: Wait>(self, rt: &R) -> Journal<M, O>
         requires net { self.who ≡ 0 }
         requires all { HasJoinedAll self }
@@ -326,8 +338,7 @@ fn is_crash<O>(event: &Event<O>) -> bool
     }
 }
 
-// The number that was fetched, if any was. The answer is looked at where it lies, since it is
-// large.
+// Returns the number of the fetched mail, if there is one. It borrows the answer, which is large.
 fn number_in<M>(found: &Result<Fetched<M>, OutOfMemory>) -> Option<u32>
     ensures { result ≡ number_in found.now }
 {
@@ -351,7 +362,7 @@ fn unposted<M: Drop, O: Drop>(unkept: Unkept<M, O>) -> Unposted<M, O>
     Unposted { why, event, sent }
 }
 
-// Takes the turn for good.
+// Takes the turn for good, and returns the journal.
 fn closed<M: Parcel + Drop, O: Drop, R: Wait>(
     rt: &R,
     seat: TurnSeat<Exchange<M, O>>,

@@ -1,4 +1,4 @@
-//! What is done at one turn.
+//! The calls of a port, each of which is done at one turn.
 ghost use Rattle.std.specs.Prelude.{◌≡◌, ◌<◌, ◌≤◌, ◌+◌, ◌^◌, ◌++◌, ◌∷◌, [], true, false, length, map, IfOk, IfErr, OnOk, OnErr, MatchBool, is_some, Some, IsSome};
 ghost use Rattle.sc_turn.specs.Seats.{known, OfOneStart};
 ghost use Rattle.sc_turn.specs.Turn.{with_turn, with_row};
@@ -23,7 +23,7 @@ use sc_turn::TurnSeat;
 use std::alloc::Global;
 use std::sync::Wait;
 
-// Leaves with the rows that were found.
+// Gives the turn back with the rows that were found.
 fn keep_same<M: Parcel + Drop, O: Drop>(
     seat: &mut TurnSeat<Exchange<M, O>>,
     exchange: Exchange<M, O>,
@@ -36,7 +36,7 @@ fn keep_same<M: Parcel + Drop, O: Drop>(
     seat.leave(exchange);
 }
 
-// Leaves with one row more.
+// Gives the turn back with one more row, of the seat's number.
 fn keep_row<M: Parcel + Drop, O: Drop>(
     seat: &mut TurnSeat<Exchange<M, O>>,
     exchange: Exchange<M, O>,
@@ -54,7 +54,8 @@ fn keep_row<M: Parcel + Drop, O: Drop>(
     seat.leave(exchange);
 }
 
-/// The number of the k-th pending mail at this turn.
+/// Returns the number of the k-th pending mail at this turn, of actor `who`, or of all where `who`
+/// is 0.
 pub(crate) fn kth_at<M: Parcel + Drop, O: Drop, R: Wait>(
     rt: &R,
     seat: &mut TurnSeat<Exchange<M, O>>,
@@ -73,7 +74,7 @@ pub(crate) fn kth_at<M: Parcel + Drop, O: Drop, R: Wait>(
     found
 }
 
-/// To whom a mail goes, if at this turn it was sent.
+/// Returns the receiver of a mail, if at this turn it was sent.
 pub(crate) fn receiver_at<M: Parcel + Drop, O: Drop, R: Wait>(
     rt: &R,
     seat: &mut TurnSeat<Exchange<M, O>>,
@@ -90,7 +91,8 @@ pub(crate) fn receiver_at<M: Parcel + Drop, O: Drop, R: Wait>(
     found
 }
 
-// To whom the first pending mail goes. No mail is copied for that.
+// Returns the receiver of the first pending mail of actor `who`, or of all where `who` is 0,
+// without a copy of the mail.
 fn first_in<M: Parcel + Drop, O: Drop>(ledger: &Ledger<M, O>, actors: u32, who: u32) -> Option<u32>
     ensures { IsFirstTo M.receiver actors ledger.now.rows.items who result }
 {
@@ -100,7 +102,8 @@ fn first_in<M: Parcel + Drop, O: Drop>(ledger: &Ledger<M, O>, actors: u32, who: 
     }
 }
 
-/// To whom the first mail goes that is pending at this turn.
+/// Returns the receiver of the first mail that is pending at this turn for actor `who`, or for any
+/// where `who` is 0.
 pub(crate) fn first_at<M: Parcel + Drop, O: Drop, R: Wait>(
     rt: &R,
     seat: &mut TurnSeat<Exchange<M, O>>,
@@ -117,7 +120,7 @@ pub(crate) fn first_at<M: Parcel + Drop, O: Drop, R: Wait>(
     found
 }
 
-/// For each of these actors, whether mail is pending for it at this turn.
+/// Returns for each of these actors whether mail is pending for it at this turn.
 pub(crate) fn waiting_at<M: Parcel + Drop, O: Drop, R: Wait>(
     rt: &R,
     alloc: Global,
@@ -159,8 +162,8 @@ fn waiting_in<M: Parcel + Drop, O: Drop>(
     Ok(waits)
 }
 
-// A copy of a mail that is the k-th pending one. Most fetches find none: apart from them, so that
-// they do not pay for what it keeps on the stack.
+// Returns a copy of the k-th pending mail. Most fetches find none; this is a function apart so that
+// they do not pay for its stack frame.
 #[inline(never)]
 fn found_in<M: Parcel + Drop, O: Drop>(
     ledger: &Ledger<M, O>,
@@ -180,7 +183,8 @@ fn found_in<M: Parcel + Drop, O: Drop>(
     }
 }
 
-/// The k-th pending mail at this turn.
+/// Returns the k-th pending mail at this turn, with its number, or how many rows there are where
+/// fewer mails are pending.
 pub(crate) fn fetch_at<M: Parcel + Drop, O: Drop, R: Wait>(
     rt: &R,
     alloc: Global,
@@ -206,7 +210,7 @@ pub(crate) fn fetch_at<M: Parcel + Drop, O: Drop, R: Wait>(
     found
 }
 
-/// All that is pending at this turn.
+/// Returns all that is pending at this turn.
 pub(crate) fn look_at<M: Parcel + Drop, O: Drop, R: Wait>(
     rt: &R,
     alloc: Global,
@@ -234,7 +238,8 @@ fn look_in<M: Parcel + Drop, O: Drop>(
     ledger.look(alloc, actors)
 }
 
-/// How many mails were sent, and which pending copy a word picks, at this turn.
+/// Returns the number of mails that were sent, and the pending copy that `word` picks, at this
+/// turn.
 pub(crate) fn glance_at<M: Parcel + Drop, O: Drop, R: Wait>(
     rt: &R,
     alloc: Global,
@@ -268,7 +273,7 @@ fn glance_in<M: Parcel + Drop, O: Drop>(
     ledger.glance(alloc, actors, whos, word)
 }
 
-// Appends a row to what was found.
+// Appends a row to the journal that was found, and gives the turn back.
 fn append_row<M: Parcel + Drop, O: Drop>(
     seat: &mut TurnSeat<Exchange<M, O>>,
     found: Exchange<M, O>,
@@ -309,7 +314,8 @@ fn append_row<M: Parcel + Drop, O: Drop>(
     }
 }
 
-/// Appends a row of the seat's number.
+/// Appends a row of the seat's number at a turn, and returns its place in the journal, counted from
+/// 1.
 pub(crate) fn post_at<M: Parcel + Drop, O: Drop, R: Wait>(
     rt: &R,
     seat: &mut TurnSeat<Exchange<M, O>>,
@@ -353,7 +359,7 @@ fn may_change_at<M: Parcel + Drop, O: Drop>(
     }
 }
 
-// The network's row of a mail.
+// Returns the network's row that loses or repeats a mail.
 fn change_of<M, O>(alloc: Global, number: u32, fate: Fate) -> Row<M, O>
     ensures { result ≡ change fate number }
 {
@@ -368,7 +374,8 @@ fn change_of<M, O>(alloc: Global, number: u32, fate: Fate) -> Row<M, O>
     }
 }
 
-/// Loses a pending copy, or repeats a mail, where at this turn it may be done.
+/// Loses a pending copy, or repeats a mail, where at this turn it may be done. Returns whether it
+/// was.
 pub(crate) fn change_at<M: Parcel + Drop, O: Drop, R: Wait>(
     rt: &R,
     alloc: Global,

@@ -1,4 +1,4 @@
--- What a reader finds.
+-- What a parser returns.
 use Rattle.std.specs.Prelude.{◌≡◌, ℕ, List, Result, MatchResult, IsSome, ⊤}
 use Rattle.serde_json.specs.Find.{as_str}
 use Rattle.serde_json.specs.Data.{Data, null, boolean, number, string, array, object, Members, no_members, member}
@@ -6,20 +6,20 @@ use Rattle.sc_row_text.specs.Shapes.{variant}
 use Rattle.sc_from_json.specs.declared.faults.RowFault.{RowFault}
 use Rattle.sc_from_json.specs.declared.faults.RowFault.TheVariants.{OutOfMemory}
 
--- the reader found this value, or memory was short
+-- The parser returned this value, or memory ran out.
 abbrev pub Finds : {T : Type 0} → T → Result T RowFault → Type 0
 Finds value result = MatchResult result (λ found. found ≡ value) (λ why. why ≡ OutOfMemory)
 
--- the reader found what is seen as this value, or memory was short
+-- The parser returned a value that is seen as this one, or memory ran out.
 abbrev pub Shows : {T X : Type 0} → (T → X) → X → Result T RowFault → Type 0
 Shows seen value result = MatchResult result (λ found. seen found ≡ value) (λ why. why ≡ OutOfMemory)
 
--- the first member, if there is one
+-- The content of the first member, or null where there is none.
 abbrev pub first_content : Members → Data
 first_content no_members = null
 first_content (member name content ms) = content
 
--- the content of a variant that has some
+-- The content of the variant that a JSON is: of a string the string itself, of an object the content of its first member, and null for any other JSON.
 abbrev pub content_of : Data → Data
 content_of null = null
 content_of (boolean b) = null
@@ -28,17 +28,17 @@ content_of (string name) = string name
 content_of (array ds) = null
 content_of (object ms) = first_content ms
 
--- no more members
+-- There are no members.
 abbrev pub IsEnd : Members → Type 0
 IsEnd no_members = ⊤
 IsEnd (member name content ms) = ⊥
 
--- exactly one member
+-- There is exactly one member.
 abbrev pub IsSingle : Members → Type 0
 IsSingle no_members = ⊥
 IsSingle (member name content ms) = IsEnd ms
 
--- what may be a variant: a string, or an object of one member
+-- The JSON may be that of a variant: it is a string, or an object of one member.
 abbrev pub MayBeVariant : Data → Type 0
 MayBeVariant null = ⊥
 MayBeVariant (boolean b) = ⊥
@@ -47,11 +47,11 @@ MayBeVariant (string name) = ⊤
 MayBeVariant (array ds) = ⊥
 MayBeVariant (object ms) = IsSingle ms
 
--- a string: a variant without content is its name alone
+-- The JSON is a string, as that of a variant without content is.
 abbrev pub IsWord : Data → Type 0
 IsWord json = IsSome (as_str json)
 
--- a JSON is this name alone, or an object of one member with this name and this content
+-- The JSON is this name alone, which then is its own content; or it is an object of one member with this name and this content.
 abbrev pub Spells : Data → List ℕ → Data → Type 0
 Spells null name content = ⊥
 Spells (boolean b) name content = ⊥

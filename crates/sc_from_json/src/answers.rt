@@ -1,4 +1,4 @@
-//! Answers.
+//! Answers to clients, read from JSON.
 ghost use Rattle.std.specs.Prelude.{◌≡◌, IfOk, codes};
 ghost use Rattle.serde_json.specs.View.{view};
 ghost use Rattle.sc_mail.specs.declared.bodies.AnswerBody.{AnswerBody};

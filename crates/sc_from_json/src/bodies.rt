@@ -1,4 +1,4 @@
-//! What transactions do and ask.
+//! What transactions do and ask, read from JSON.
 ghost use Rattle.std.specs.Prelude.{◌≡◌, IfOk, codes};
 ghost use Rattle.serde_json.specs.View.{view};
 ghost use Rattle.sc_cmd.specs.declared.bodies.Body.{Body};

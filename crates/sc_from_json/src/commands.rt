@@ -1,4 +1,4 @@
-//! Commands and reports of them.
+//! Commands of the logs, and acceptors' reports of them, read from JSON.
 ghost use Rattle.std.specs.Prelude.{◌≡◌, IfOk, codes};
 ghost use Rattle.serde_json.specs.View.{view};
 ghost use Rattle.sc_cmd.specs.declared.commands.Command.{Command};

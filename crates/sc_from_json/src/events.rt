@@ -1,4 +1,4 @@
-//! Events of rows.
+//! Events of rows, read from JSON.
 ghost use Rattle.std.specs.Prelude.{◌≡◌, IfOk, codes};
 ghost use Rattle.serde_json.specs.View.{view};
 ghost use Rattle.sc_row_text.specs.Shapes.{variant as variant_json};

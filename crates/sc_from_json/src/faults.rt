@@ -2,10 +2,12 @@
 use sc_base::KeyFault;
 use std::alloc::{AllocError, AllocFailed};
 
-/// Why a text gives no value: there is none with that text, or there was no memory left.
+/// Why a text or a JSON gives no value.
 #[derive(Clone, Copy, Debug, PartialEq, Eq)]
 pub enum RowFault {
+    /// No value has this text or this JSON.
     NoRow,
+    /// Memory ran out.
     OutOfMemory,
 }
 

@@ -1,4 +1,4 @@
-//! What is found again in its JSON.
+//! The trait of what is read from its JSON.
 ghost use Rattle.std.specs.Prelude.{◌≡◌, IfOk};
 ghost use Rattle.serde_json.specs.Data.{Data, null};
 ghost use Rattle.serde_json.specs.View.{view};
@@ -8,26 +8,26 @@ use crate::faults::RowFault;
 use serde_json::Value as Json;
 use std::alloc::Global;
 
-/// What has a JSON, from which it is read again.
+/// A type whose values are read from their JSON.
 pub trait FromJson: Sized {
-    /// The JSON.
+    /// The JSON of a value.
     ghost json_of: { Self → Data };
 
     /// What holds of each value of the type: numbers are in their range, texts and sets are valid.
     ghost Fits: { Self → Type 0 };
 
-    /// The value that has this JSON.
+    /// Returns the value that has this JSON.
     ///
-    /// Each value is found in its JSON, and what is found has exactly this JSON: a JSON that is
-    /// no value's is refused.
+    /// Each value is found in its JSON, and a value that is found has exactly this JSON.
+    /// `Err(NoRow)`: no value has this JSON. `Err(OutOfMemory)`: memory ran out.
     fn from_json(alloc: Global, json: &Json) -> Result<Self, RowFault>
         ensures finds { (value : Self) → Fits value → view json.now ≡ json_of value
             → Finds value result }
         ensures exact { IfOk result (λ value. view json.now ≡ json_of value) };
 }
 
-/// What is stored otherwise than as null, so that what may be absent is told from it.
+/// A type of which no value's JSON is null, so that a value that may be absent can be read.
 pub trait Present: FromJson {
-    /// No value has the JSON of what is absent.
+    /// No value has the JSON null.
     ghost is_there: { (value : Self) → Self.Fits value → Self.json_of value ≡ null → ⊥ };
 }

@@ -1,4 +1,4 @@
-//! Links and routes.
+//! Links and routes, read from JSON.
 ghost use Rattle.sc_row_text.specs.Links.{link_json, FitsLink};
 ghost use Rattle.sc_row_text.specs.Links.{route_json, FitsRoute};
 

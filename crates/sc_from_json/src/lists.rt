@@ -1,4 +1,4 @@
-//! Lists, pairs, what may be absent, and values in blocks of their own.
+//! Lists, pairs, values that may be absent, and boxed values, read from JSON.
 ghost use Rattle.std.specs.Prelude.{◌≡◌, List, IfOk};
 ghost use Rattle.serde_json.specs.View.{view, items_view};
 ghost use Rattle.sc_base.specs.Among.{Each};
@@ -13,7 +13,7 @@ use sc_base::{Boxed, Sequence};
 use serde_json::Value as Json;
 use std::alloc::Global;
 
-/// The values that have these JSONs.
+/// Returns the values that have these JSONs.
 fn values_of<T: FromJson + Drop>(alloc: Global, list: &[Json]) -> Result<Vec<T>, RowFault>
     ensures finds { (values : List T) → Each T.Fits values
         → items_view list.now ≡ items_json T.json_of values
@@ -28,7 +28,7 @@ fn values_of<T: FromJson + Drop>(alloc: Global, list: &[Json]) -> Result<Vec<T>,
     Ok(values)
 }
 
-/// The values of which this is an array.
+/// Returns the values of which the JSON is an array.
 #[tactic(auto, using(crate::proofs::Arrays::is_array))]
 pub(crate) fn items_of<T: FromJson + Drop>(alloc: Global, json: &Json) -> Result<Vec<T>, RowFault>
     ensures finds { (values : List T) → Each T.Fits values

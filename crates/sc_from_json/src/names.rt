@@ -1,4 +1,4 @@
-//! Names and ballots.
+//! Names and ballots, read from JSON.
 ghost use Rattle.std.specs.Prelude.{◌≡◌, ◌==◌, ◌<◌, position, length, Some, IfSome};
 ghost use Rattle.serde_json.specs.Data.{string};
 ghost use Rattle.sc_base.specs.declared.names.Draw.{Draw};
@@ -11,7 +11,7 @@ use sc_base::{Ballot, Draw, read_number};
 use serde_json::Value as Json;
 use std::alloc::Global;
 
-/// The place of the first dot.
+/// Returns the place of the first dot in a text.
 fn dot_of(text: &[u8]) -> Option<usize>
     ensures place { result ≡ position (λ byte. byte == 46) text.now }
     ensures within { IfSome result (λ dot. dot < length text.now) }
@@ -19,7 +19,7 @@ fn dot_of(text: &[u8]) -> Option<usize>
     text.iter().position(|byte| *byte == b'.')
 }
 
-/// The name that a text spells.
+/// Returns the name that a text spells.
 #[tactic(auto, unfolding(crate::specs::Json::draw_json, crate::specs::Json::FitsDraw))]
 fn draw_of(text: &[u8]) -> Option<Draw>
     ensures finds { (draw : Draw) → FitsDraw draw → string text.now ≡ draw_json draw

@@ -1,4 +1,5 @@
-//! Numbers: what is read as one is that number, and no other JSON is taken for it.
+//! Numbers, read from JSON: the number is exactly the one that the JSON is, and other JSON is
+//! refused.
 ghost use Rattle.sc_row_text.specs.Shapes.{number_json};
 ghost use Rattle.sc_row_text.specs.Held.{FitsU8, FitsU16, FitsU32, FitsU64};
 

@@ -1,4 +1,4 @@
-//! Operations and replies.
+//! Operations and replies, read from JSON.
 ghost use Rattle.std.specs.Prelude.{◌≡◌, IfOk, codes};
 ghost use Rattle.serde_json.specs.View.{view};
 ghost use Rattle.sc_base.specs.declared.ops.Op.{Op};

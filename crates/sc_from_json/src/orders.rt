@@ -1,4 +1,4 @@
-//! Orders and what is told of them.
+//! Orders and their results, read from JSON.
 ghost use Rattle.std.specs.Prelude.{◌≡◌, IfOk, codes};
 ghost use Rattle.serde_json.specs.View.{view};
 ghost use Rattle.sc_cmd.specs.declared.orders.Order.{Order};

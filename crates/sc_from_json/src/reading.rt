@@ -1,4 +1,4 @@
-//! Members, items and variants, read.
+//! Members, items and variants, read from JSON.
 ghost use Rattle.std.specs.Prelude.{◌≡◌, Ok, IsOk, IsSomeAnd, IfOk, IfSome, [], ◌∷◌};
 ghost use Rattle.serde_json.specs.Data.{Data, Items, Members, array, object, item, member, no_items, no_members};
 ghost use Rattle.serde_json.specs.View.{view, items_view, members_view};
@@ -11,7 +11,7 @@ use serde_json::Value as Json;
 use std::alloc::Global;
 use std::collections::btree_map::Iter;
 
-/// The value that a whole JSON is.
+/// Returns the value that has this JSON as a whole.
 pub(crate) fn whole<T: FromJson>(alloc: Global, json: &Json) -> Result<T, RowFault>
     ensures finds { (value : T) → T.Fits value → view json.now ≡ T.json_of value
         → Finds value result }
@@ -20,7 +20,7 @@ pub(crate) fn whole<T: FromJson>(alloc: Global, json: &Json) -> Result<T, RowFau
     T::from_json(alloc, json)
 }
 
-/// The content of the next member, where it has this name.
+/// Returns the content of the next member, if it has this name.
 fn content_at<'a>(members: &mut Iter<'a, String, Json>, name: &str) -> Option<&'a Json>
     ensures finds { (content : Data) (rest : Members)
         → members_view members.old ≡ member name.now content rest
@@ -34,7 +34,7 @@ fn content_at<'a>(members: &mut Iter<'a, String, Json>, name: &str) -> Option<&'
     }
 }
 
-/// The value of the next member, where it has this name.
+/// Returns the value of the next member, if it has this name.
 fn next_of<T: FromJson>(
     alloc: Global,
     members: &mut Iter<String, Json>,
@@ -51,7 +51,7 @@ fn next_of<T: FromJson>(
     }
 }
 
-/// The values of the next two members, where they have these names.
+/// Returns the values of the next two members, if they have these names.
 fn two_next<A: FromJson + Drop, B: FromJson + Drop>(
     alloc: Global,
     members: &mut Iter<String, Json>,
@@ -72,7 +72,7 @@ fn two_next<A: FromJson + Drop, B: FromJson + Drop>(
     Ok((a, b))
 }
 
-/// The values of the next three members, where they have these names.
+/// Returns the values of the next three members, if they have these names.
 fn three_next<A: FromJson + Drop, B: FromJson + Drop, C: FromJson + Drop>(
     alloc: Global,
     members: &mut Iter<String, Json>,
@@ -98,7 +98,7 @@ fn three_next<A: FromJson + Drop, B: FromJson + Drop, C: FromJson + Drop>(
     Ok((a, b, c))
 }
 
-/// The values of the next four members, where they have these names.
+/// Returns the values of the next four members, if they have these names.
 fn four_next<A: FromJson + Drop, B: FromJson + Drop, C: FromJson + Drop, D: FromJson + Drop>(
     alloc: Global,
     members: &mut Iter<String, Json>,
@@ -126,7 +126,7 @@ fn four_next<A: FromJson + Drop, B: FromJson + Drop, C: FromJson + Drop, D: From
     Ok((a, b, c, d))
 }
 
-/// The values of the next five members, where they have these names.
+/// Returns the values of the next five members, if they have these names.
 fn five_next<
     A: FromJson + Drop,
     B: FromJson + Drop,
@@ -163,7 +163,7 @@ fn five_next<
     Ok((a, b, c, d, e))
 }
 
-/// The values of the next six members, where they have these names.
+/// Returns the values of the next six members, if they have these names.
 fn six_next<
     A: FromJson + Drop,
     B: FromJson + Drop,
@@ -204,7 +204,7 @@ fn six_next<
     Ok((a, b, c, d, e, f))
 }
 
-/// The members of an object.
+/// Returns the members of an object.
 fn members_of(json: &Json) -> Result<Iter<String, Json>, RowFault>
     ensures finds { (ms : Members) → view json.now ≡ object ms → IsOk result }
     ensures exact { IfOk result (λ members. view json.now ≡ object (members_view members)) }
@@ -215,7 +215,7 @@ fn members_of(json: &Json) -> Result<Iter<String, Json>, RowFault>
     }
 }
 
-/// What was read, where no member is left.
+/// Returns the value that was read, if no member is left.
 fn at_end<T: Drop>(members: &mut Iter<String, Json>, value: T) -> Result<T, RowFault>
     ensures finds { members_view members.old ≡ no_members → result ≡ Ok value }
     ensures exact { IfOk result (λ found. (found ≡ value)
@@ -227,7 +227,7 @@ fn at_end<T: Drop>(members: &mut Iter<String, Json>, value: T) -> Result<T, RowF
     }
 }
 
-/// The value of an object's only member, which has this name.
+/// Returns the value of an object's only member, if it has this name.
 pub(crate) fn single_of<A: FromJson + Drop>(
     alloc: Global,
     json: &Json,
@@ -244,7 +244,7 @@ pub(crate) fn single_of<A: FromJson + Drop>(
     at_end(&mut members, found)
 }
 
-/// The values of an object's two members, which have these names, in this order.
+/// Returns the values of an object's two members, if they have these names, in this order.
 pub fn pair_of<A: FromJson + Drop, B: FromJson + Drop>(
     alloc: Global,
     json: &Json,
@@ -265,7 +265,7 @@ pub fn pair_of<A: FromJson + Drop, B: FromJson + Drop>(
     at_end(&mut members, found)
 }
 
-/// The values of an object's three members, which have these names, in this order.
+/// Returns the values of an object's three members, if they have these names, in this order.
 pub fn triple_of<A: FromJson + Drop, B: FromJson + Drop, C: FromJson + Drop>(
     alloc: Global,
     json: &Json,
@@ -292,7 +292,7 @@ pub fn triple_of<A: FromJson + Drop, B: FromJson + Drop, C: FromJson + Drop>(
     at_end(&mut members, found)
 }
 
-/// The values of an object's four members, which have these names, in this order.
+/// Returns the values of an object's four members, if they have these names, in this order.
 pub fn four_of<A: FromJson + Drop, B: FromJson + Drop, C: FromJson + Drop, D: FromJson + Drop>(
     alloc: Global,
     json: &Json,
@@ -322,7 +322,7 @@ pub fn four_of<A: FromJson + Drop, B: FromJson + Drop, C: FromJson + Drop, D: Fr
     at_end(&mut members, found)
 }
 
-/// The values of an object's five members, which have these names, in this order.
+/// Returns the values of an object's five members, if they have these names, in this order.
 pub(crate) fn five_of<
     A: FromJson + Drop,
     B: FromJson + Drop,
@@ -361,7 +361,7 @@ pub(crate) fn five_of<
     at_end(&mut members, found)
 }
 
-/// The values of an object's six members, which have these names, in this order.
+/// Returns the values of an object's six members, if they have these names, in this order.
 pub(crate) fn six_of<
     A: FromJson + Drop,
     B: FromJson + Drop,
@@ -413,7 +413,8 @@ pub(crate) fn six_of<
     at_end(&mut members, found)
 }
 
-/// The values of an object's twelve members, which have these names, in this order: six and six.
+/// Returns the values of an object's twelve members, if they have these names, in this order, as
+/// two times six.
 pub(crate) fn twelve_of<
     A: FromJson + Drop,
     B: FromJson + Drop,
@@ -493,7 +494,7 @@ pub(crate) fn twelve_of<
     at_end(&mut members, (begun, ended))
 }
 
-/// The value of the first item, and the items behind it.
+/// Returns the value of the first item, and the items behind it.
 fn first_of<'a, T: FromJson + Drop>(
     alloc: Global,
     items: &'a [Json],
@@ -513,7 +514,7 @@ fn first_of<'a, T: FromJson + Drop>(
     }
 }
 
-/// The items of an array.
+/// Returns the items of an array.
 #[tactic(auto, using(crate::proofs::Arrays::is_array))]
 fn items_in(json: &Json) -> Result<&[Json], RowFault>
     ensures finds { (ds : Items) → view json.now ≡ array ds → IsOk result }
@@ -525,7 +526,7 @@ fn items_in(json: &Json) -> Result<&[Json], RowFault>
     }
 }
 
-/// What was read, where no item is left.
+/// Returns the value that was read, if no item is left.
 fn no_more<T: Drop>(items: &[Json], value: T) -> Result<T, RowFault>
     ensures finds { items_view items.now ≡ no_items → result ≡ Ok value }
     ensures exact { IfOk result (λ found. (found ≡ value) × (items_view items.now ≡ no_items)) }
@@ -536,7 +537,7 @@ fn no_more<T: Drop>(items: &[Json], value: T) -> Result<T, RowFault>
     }
 }
 
-/// The values of an array's two items.
+/// Returns the values of an array's two items.
 pub(crate) fn pair_in<A: FromJson + Drop, B: FromJson + Drop>(
     alloc: Global,
     json: &Json,
@@ -551,7 +552,7 @@ pub(crate) fn pair_in<A: FromJson + Drop, B: FromJson + Drop>(
     no_more(items, (a, b))
 }
 
-/// The values of an array's three items.
+/// Returns the values of an array's three items.
 pub(crate) fn triple_in<A: FromJson + Drop, B: FromJson + Drop, C: FromJson + Drop>(
     alloc: Global,
     json: &Json,
@@ -570,7 +571,9 @@ pub(crate) fn triple_in<A: FromJson + Drop, B: FromJson + Drop, C: FromJson + Dr
     no_more(items, (a, b, c))
 }
 
-/// The name of a variant and its content; one without content is its own.
+/// Returns the name and the content of the variant that the JSON may be. A variant without content,
+/// a string, is its own content. `None` where the JSON is neither a string nor an object of one
+/// member.
 #[tactic(auto, using(crate::proofs::Members::is_no_variant))]
 pub fn variant_parts(json: &Json) -> Option<(&str, &Json)>
     ensures finds { MayBeVariant (view json.now) → IsSomeAnd result (λ parts.
@@ -594,7 +597,7 @@ pub fn variant_parts(json: &Json) -> Option<(&str, &Json)>
     }
 }
 
-/// A variant without content, where the JSON is no more than its name.
+/// Returns the value of a variant without content, if the JSON is a string.
 pub(crate) fn word<T: Drop>(json: &Json, value: T) -> Result<T, RowFault>
     ensures finds { IsWord (view json.now) → result ≡ Ok value }
     ensures exact { IfOk result (λ found. (found ≡ value) × IsWord (view json.now)) }

@@ -1,4 +1,4 @@
-//! Arcs, sets of nodes, pairs of keys and values, and client tables.
+//! Arcs, sets of nodes, pairs of keys and values, and client tables, read from JSON.
 ghost use Rattle.std.specs.Prelude.{◌≡◌, ℕ, List, IfOk, IfSome, Some, IsTrue, ◌↔◌};
 ghost use Rattle.serde_json.specs.View.{view, items_view};
 ghost use Rattle.sc_base.specs.Among.{Each};
@@ -40,7 +40,7 @@ impl Present for RingArc {
     ghost is_there = { arc_there };
 }
 
-/// The set of these nodes, where they are one to nine, ascending.
+/// Returns the set of these nodes, if they are one to nine, ascending.
 fn set_of(nodes: &[u16]) -> Option<Members>
     ensures finds { IsRoster nodes.now → result ≡ Some nodes.now }
     ensures exact { IfSome result (λ members. members ≡ nodes.now) }
@@ -91,7 +91,7 @@ fn ends_below<K: Ord, V>(list: &Ordered<K, V>, key: &K) -> bool
     }
 }
 
-/// The list of these entries, where their keys rise.
+/// Returns the list of these entries, if their keys ascend strictly.
 fn rising<K: Ord + Drop, V: Drop>(
     alloc: Global,
     entries: Vec<(K, V)>,
@@ -131,7 +131,7 @@ impl Present for Ordered<Key, Value> {
     ghost is_there = { pairs_there };
 }
 
-/// The entry of a client table that has this JSON.
+/// Returns the entry of a client table that has this JSON.
 #[tactic(auto, unfolding(crate::specs::Json::client_json, crate::specs::Json::FitsNoted))]
 fn client_from_json(alloc: Global, json: &Json) -> Result<(u16, Noted), RowFault>
     ensures finds { (entry : ℕ × Noted) → PairFits FitsU16 FitsNoted entry
@@ -142,7 +142,7 @@ fn client_from_json(alloc: Global, json: &Json) -> Result<(u16, Noted), RowFault
     Ok((client, Noted { seq, reply }))
 }
 
-/// The entries of a client table that have these JSONs.
+/// Returns the entries of a client table that have these JSONs.
 fn clients_of(alloc: Global, list: &[Json]) -> Result<Vec<(u16, Noted)>, RowFault>
     ensures finds { (entries : List (ℕ × Noted)) → Each (PairFits FitsU16 FitsNoted) entries
         → items_view list.now ≡ items_json client_json entries

@@ -1,4 +1,4 @@
-//! Keys and values: strings.
+//! Keys and values, read from JSON strings.
 ghost use Rattle.serde_json.specs.Data.{string};
 ghost use Rattle.sc_row_text.specs.Held.{FitsKey, FitsValue};
 

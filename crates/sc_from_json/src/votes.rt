@@ -1,4 +1,4 @@
-//! Votes.
+//! Votes in transactions, read from JSON.
 ghost use Rattle.std.specs.Prelude.{◌≡◌, IfOk, codes};
 ghost use Rattle.serde_json.specs.View.{view};
 ghost use Rattle.sc_cmd.specs.declared.votes.No.{No};

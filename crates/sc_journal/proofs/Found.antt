@@ -1,4 +1,4 @@
--- What a reader of JSON finds in the text of a row.
+-- What a parser of JSON finds in the text of a row.
 use Rattle.std.proofs.Common.{◌≡◌, ℕ, List, true, false, bytes_eq, Some, Result, Err, IsErr, sym, ap, ◌∙◌, subst}
 use Rattle.std.specs.Result.{IsErrAnd}
 use Rattle.std.proofs.lemmas.Option.{same_Some}
@@ -22,7 +22,7 @@ fits_of row held = held
 pub found : (text : List ℕ) (json : Data) (row : Row Mail OrderLine) → ((one : Row Mail OrderLine) → IsHeld one → read (text_of one) ≡ Some (row_json one)) → read text ≡ Some json → IsHeld row → text_of row ≡ text → json ≡ row_json row
 found text json row back is held same = same_Some json (row_json row) (sym is ∙ (ap read (sym same) ∙ back row held))
 
--- what fails for want of memory fails for no other reason
+-- what is out of memory fails for no other reason
 pub short : {T : Type 0} (result : Result T RowFault) (why : RowFault) → IsErr result × IsErrAnd result (λ e. e ≡ why) → why ≡ OutOfMemory → result ≡ Err NoRow → ⊥
 short result why is memory none = let clash : NoRow ≡ OutOfMemory = subst (λ r. IsErrAnd r (λ e. e ≡ why)) none is.1 ∙ memory in cc
 

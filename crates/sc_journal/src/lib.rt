@@ -1,4 +1,5 @@
-//! The texts of a journal's rows: compact JSON with sorted names, written and read again.
+//! The texts of a journal's rows: compact JSON with the names of each object in ascending order,
+//! written and read.
 #![tactic(auto)]
 
 mod mails;

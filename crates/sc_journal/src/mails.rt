@@ -270,7 +270,7 @@ fn mail_body_told(alloc: Global, content: &Json) -> Result<MailBody, RowFault>
     Ok(MailBody::Told { order, result })
 }
 
-/// What a mail says, of which this is the JSON.
+/// Returns the body of a mail that has this JSON.
 fn mail_body_from_json(alloc: Global, json: &Json) -> Result<MailBody, RowFault>
     ensures finds { (body : MailBody) → FitsMailBody body → view json.now ≡ mail_body_json body
         → Finds body result }
@@ -301,7 +301,7 @@ fn mail_body_from_json(alloc: Global, json: &Json) -> Result<MailBody, RowFault>
     }
 }
 
-/// What a mail says, as a member of the mail's JSON.
+/// The body of a mail, as a member of the mail's JSON.
 #[derive(Drop)]
 struct Said {
     body: MailBody,
@@ -318,7 +318,7 @@ impl FromJson for Said {
     }
 }
 
-/// The mail of which this is the JSON.
+/// Returns the mail that has this JSON.
 fn mail_from_json(alloc: Global, json: &Json) -> Result<Mail, RowFault>
     ensures finds { (mail : Mail) → FitsMail mail → view json.now ≡ mail_json mail
         → Finds mail result }
@@ -332,7 +332,7 @@ fn mail_from_json(alloc: Global, json: &Json) -> Result<Mail, RowFault>
     })
 }
 
-/// The mails that have these JSONs.
+/// Returns the mails that have these JSONs.
 fn mails_of(alloc: Global, list: &[Json]) -> Result<Vec<Mail>, RowFault>
     ensures finds { (mails : List Mail) → Each FitsMail mails
         → items_view list.now ≡ items_json mail_json mails
@@ -347,7 +347,7 @@ fn mails_of(alloc: Global, list: &[Json]) -> Result<Vec<Mail>, RowFault>
     Ok(mails)
 }
 
-/// The mails of which this is an array.
+/// Returns the mails of which the JSON is an array.
 #[tactic(auto, using(sc_from_json::proofs::Arrays::is_array))]
 pub(crate) fn mails_from_json(alloc: Global, json: &Json) -> Result<Sequence<Mail>, RowFault>
     ensures finds { (mails : List Mail) → Each FitsMail mails

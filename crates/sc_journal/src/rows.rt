@@ -19,7 +19,7 @@ use sc_mail::Mail;
 use serde_json::Value as Json;
 use std::alloc::Global;
 
-/// The mails that a row sent, as a member of the row's JSON.
+/// The mails that a row sends, as a member of the row's JSON.
 #[derive(Drop)]
 struct Sent {
     mails: Sequence<Mail>,
@@ -36,7 +36,7 @@ impl FromJson for Sent {
     }
 }
 
-/// The row of which this is the JSON.
+/// Returns the row that has this JSON.
 pub(crate) fn row_from_json(alloc: Global, json: &Json) -> Result<Row<Mail, OrderLine>, RowFault>
     ensures finds { (row : Row Mail OrderLine) → FitsRow row → view json.now ≡ row_json row
         → Finds row result }

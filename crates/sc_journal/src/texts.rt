@@ -21,7 +21,8 @@ use sc_to_json::ToJson;
 use serde_json::Value as Json;
 use std::alloc::Global;
 
-/// The row's text, with no line feed. Each row has one, and only want of memory is refused.
+/// Returns the row's text, without a line feed. Each row has one. `Err(OutOfMemory)`: memory ran
+/// out.
 #[tactic(auto, unfolding(sc_row_text::specs::RowText::text_of, sc_row_text::specs::RowText::IsHeld))]
 pub fn row_text(alloc: Global, row: &Row<Mail, OrderLine>) -> Result<Vec<u8>, OutOfMemory>
     ensures text { IfOk result (λ text. text.items ≡ text_of row.now) }
@@ -32,7 +33,7 @@ pub fn row_text(alloc: Global, row: &Row<Mail, OrderLine>) -> Result<Vec<u8>, Ou
     Ok(json.to_vec(alloc)?)
 }
 
-// The JSON that a text is.
+// Returns the JSON that a text is.
 fn json_of(alloc: Global, text: &[u8]) -> Result<Json, RowFault>
     ensures { MatchResult result (λ json. read text.now ≡ Some (view json))
         (λ fault. fault ≡ RowFault.NoRow → IsUtf8 text.now → read text.now ≡ None) }
@@ -49,7 +50,7 @@ fn json_of(alloc: Global, text: &[u8]) -> Result<Json, RowFault>
     }
 }
 
-// The row with that text, by its JSON.
+// Returns the row with this text, by way of its JSON.
 fn row_by_json(alloc: Global, text: &[u8]) -> Result<Row<Mail, OrderLine>, RowFault>
     ensures text { IfOk result (λ row. text_of row ≡ text.now) }
     ensures held { IfOk result (λ row. IsHeld row) }
@@ -68,10 +69,10 @@ fn row_by_json(alloc: Global, text: &[u8]) -> Result<Row<Mail, OrderLine>, RowFa
     }
 }
 
-/// The row with that text. `NoRow` exactly where no row has it; a second spelling of a row's text,
-/// as one with a space, is no row's text.
+/// Returns the row with this text. `Err(NoRow)`: no row has it; another spelling of a row's text,
+/// as one with a space, is no row's text. `Err(OutOfMemory)`: memory ran out.
 ///
-/// Rows of common shapes are read at once; JSON is read and written only of the others.
+/// Rows of common shapes are read at once; JSON is read and written only for the others.
 pub fn read_row(alloc: Global, text: &[u8]) -> Result<Row<Mail, OrderLine>, RowFault>
     ensures text { IfOk result (λ row. text_of row ≡ text.now) }
     ensures held { IfOk result (λ row. IsHeld row) }

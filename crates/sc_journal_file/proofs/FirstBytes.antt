@@ -53,6 +53,6 @@ bad_by input line why (inl over) =
 pub files_decided : FirstBytesDecideFiles
 files_decided input scenario rows = files_by input scenario rows (cases_lt (most_file_bytes + 1) (length input))
 
--- .. and a fault
+-- one byte more than the most is enough to know an error
 pub faults_decided : FirstBytesDecideFaults
 faults_decided input line why = bad_by input line why (cases_lt (most_file_bytes + 1) (length input))

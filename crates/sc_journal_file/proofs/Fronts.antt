@@ -26,7 +26,7 @@ feed_within text n e =
 abbrev pub measure : List (List ℕ) → ℕ × ℕ
 measure lines = (length (whole lines), length lines)
 
--- .. with so many bytes and lines before them
+-- the measure with these numbers of bytes and lines before it
 abbrev pub further : ℕ → ℕ → ℕ × ℕ → ℕ × ℕ
 further bytes lines m = (bytes + m.0, lines + m.1)
 

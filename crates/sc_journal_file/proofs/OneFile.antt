@@ -1,4 +1,4 @@
--- What a reader of files answers.
+-- What a parser of files answers.
 use Rattle.std.proofs.Common.{◌≡◌, ℕ, ◌+◌, ◌<◌, ◌≤◌, ◌^◌, List, length, take, sym, ap, ◌∙◌, inl, inr, arith}
 use Rattle.std.specs.Prelude.{Result, Ok, Err, ◌⊎◌}
 use Rattle.std.specs.Result.{result_ok, result_unwrap_or}
@@ -64,13 +64,13 @@ behind_within file scenario rows is =
 pub rows_few : (file : List ℕ) (scenario : Scenario) (rows : List (Row Mail OrderLine)) → IsFile file scenario rows → length rows < 2 ^ 31
 rows_few file scenario rows is = omega (arith, behind_within file scenario rows is, few_rows rows)
 
--- .. and few mails
+-- so there are few mails
 pub mails_few : AreLong → (file : List ℕ) (scenario : Scenario) (rows : List (Row Mail OrderLine)) → IsFile file scenario rows → length (mails rows) < 2 ^ 31
 mails_few long file scenario rows is = omega (arith, behind_within file scenario rows is, few_mails long rows is.held)
 
--- ---- faults
+-- ---- errors
 
--- a fault of the scenario is one of the file
+-- an error of the scenario is one of the file
 pub scenario_fault : (file text : List ℕ) (lines : ℕ) (behind : List ℕ) (fault : ScenarioFault) → length file ≤ most_file_bytes → IsCut file text lines behind
     → (fault ≡ OutOfMemory) ⊎ (verdict_of text ≡ Err fault) → IsFileFault file fault
 scenario_fault file text lines behind OutOfMemory within cut h = tt

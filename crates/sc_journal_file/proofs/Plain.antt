@@ -30,11 +30,11 @@ plain_feed text more p =
     let within : position_or_len is_feed (fed text ++ more) < length (fed text ++ more) = omega (arith, at, length-append (fed text) more, length_fed text) in
     cond-true (nat_lt (position_or_len is_feed (fed text ++ more)) (length (fed text ++ more))) (Some (position_or_len is_feed (fed text ++ more))) None (lt-ltb (position_or_len is_feed (fed text ++ more)) (length (fed text ++ more)) within) ∙ ap Some at
 
--- .. the line itself
+-- the bytes before the first line feed are the line itself
 pub line_taken : (text more : List ℕ) → take (length text) (fed text ++ more) ≡ text
 line_taken text more = ap (take (length text)) (append_assoc text (10 ∷ []) more) ∙ take_at text (10 ∷ more) (length text) refl
 
--- .. and what stands behind its line feed
+-- the bytes behind the first line feed are what is behind the line
 pub line_dropped : (text more : List ℕ) → drop (length text + 1) (fed text ++ more) ≡ more
 line_dropped text more = drop_at (fed text) more (length text + 1) (length_fed text)
 

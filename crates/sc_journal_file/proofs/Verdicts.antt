@@ -30,7 +30,7 @@ same_texts are (row ∷ rows) (other ∷ others) held helds e =
     let apart = fed_apart (text_of row) (text_of other) (rows_whole rows) (rows_whole others) (are row held.0) (are other helds.0) e in
     ap (λ text. text ∷ map text_of rows) apart.0 ∙ ap (λ texts. text_of other ∷ texts) (same_texts are rows others held.1 helds.1 apart.1)
 
--- .. and are the same, where no two rows have one text
+-- rows with the same lines are the same, where no two rows have one text
 same_rows : AreLines → TextsAreApart → (rows others : List (Row Mail OrderLine)) → Each IsHeld rows → Each IsHeld others → rows_whole rows ≡ rows_whole others → rows ≡ others
 same_rows are differ [] [] held helds e = refl
 same_rows are differ [] (other ∷ others) held helds e = absurd (some_bytes (text_of other) (rows_whole others) e)
@@ -66,7 +66,7 @@ same_count are (row ∷ rows) (other ∷ others) rest end held helds bad bads e 
 clash : (scenario : Scenario) (fault : ScenarioFault) (r : Result Scenario ScenarioFault) → r ≡ Ok scenario → r ≡ Err fault → ⊥
 clash scenario fault r e f = cc
 
--- a scenario is no fault
+-- a scenario is no error
 not_ok : (scenario : Scenario) (fault : ScenarioFault) (text text' : List ℕ) → text ≡ text' → verdict_of text ≡ Ok scenario → verdict_of text' ≡ Err fault → ⊥
 not_ok scenario fault text text' e read bad = clash scenario fault (verdict_of text) read (ap verdict_of e ∙ bad)
 

@@ -32,7 +32,7 @@ lines_whole is_long [] more plain = refl
 lines_whole is_long (line ∷ lines) more plain =
     ap (lines_in is_long) (append_assoc (fed line) (whole lines) more) ∙ line_next is_long line (whole lines ++ more) plain.0 ∙ ap (λ rest. line ∷ rest) (lines_whole is_long lines more plain.1)
 
--- .. and nothing behind them
+-- lines with their line feeds, and nothing behind them
 pub lines_ended : (is_long : Bool) (lines : List (List ℕ)) → Each IsPlain lines → lines_in is_long [] ≡ [] → lines_in is_long (whole lines) ≡ lines
 lines_ended is_long lines plain none =
     ap (lines_in is_long) (sym (append-nil (whole lines))) ∙ lines_whole is_long lines [] plain ∙ ap (λ rest. lines ++ rest) none ∙ append-nil lines

@@ -5,39 +5,39 @@ use Rattle.std.specs.Option.{option_map}
 use Rattle.sc_lines.specs.Lines.{lines_in}
 use Rattle.sc_lines.specs.Words.{same}
 
--- the line that ends the scenario
+-- The line that ends the scenario, without its line feed.
 abbrev pub divider : List ℕ
 divider = codes "journal"
 
--- a line with its line feed
+-- The line with its line feed.
 abbrev pub fed : List ℕ → List ℕ
 fed line = line ++ 10 ∷ []
 
--- lines with their line feeds
+-- The bytes of the lines, each with its line feed.
 abbrev pub whole : List (List ℕ) → List ℕ
 whole lines = concat (map fed lines)
 
--- of lines those before the first that is `journal`, if one is
+-- The lines before the first that is `journal`, if one is.
 abbrev pub lines_before : List (List ℕ) → Option (List (List ℕ))
 lines_before [] = None
 lines_before (line ∷ lines) = if same line divider then Some [] else option_map (λ more. line ∷ more) (lines_before lines)
 
--- how many bytes and lines stand before a file's first line `journal`, if it has one: lines that a line feed ends
+-- The numbers of bytes and lines before a file's first line `journal`, if it has one. Only lines that a line feed ends count.
 abbrev pub front_of : List ℕ → Option (ℕ × ℕ)
 front_of file = option_map (λ (lines : List (List ℕ)). (length (whole lines), length lines)) (lines_before (lines_in true file))
 
--- whether the last line of lines with their line feeds is empty, if there is one
+-- Whether the last line of these bytes is empty, or there are fewer than two bytes. The bytes are lines with their line feeds.
 abbrev pub has_empty_end : List ℕ → Bool
 has_empty_end front = nat_lt (length front) 2 || (get_or front (length front - 2) 0 == 10)
 
--- the scenario's text: what stands before the line `journal`, without its last line feed where its last line is not empty
+-- The scenario's text: the bytes before the line `journal`, without the last line feed where the last line is not empty.
 abbrev pub scenario_text : List ℕ → List ℕ
 scenario_text front = if has_empty_end front then front else take (length front - 1) front
 
--- what stands behind so many bytes and the line `journal`
+-- The bytes behind the first `bytes` bytes and the line `journal`.
 abbrev pub rows_text : ℕ → List ℕ → List ℕ
 rows_text bytes file = drop (bytes + length (fed divider)) file
 
--- this is the text of the scenario of a file, the number of its lines, and what stands behind the line `journal`
+-- The file is divided at its first line `journal` into the text of the scenario, with its number of lines, and the bytes behind that line.
 abbrev pub IsCut : List ℕ → List ℕ → ℕ → List ℕ → Type 0
 IsCut file scenario lines rows = (bytes : ℕ) × (front_of file ≡ Some (bytes, lines)) × (scenario ≡ scenario_text (take bytes file)) × (rows ≡ rows_text bytes file)

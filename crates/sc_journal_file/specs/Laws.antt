@@ -11,32 +11,32 @@ use Rattle.sc_scenario.specs.declared.scenarios.Scenario.{Scenario}
 use Rattle.sc_journal_file.specs.Stored.{most_file_bytes, file_text, IsFile, IsBadFile}
 use Rattle.sc_lines.specs.declared.reasons.Reason.{Reason}
 
--- a file is the file of this scenario and these rows, and of no other
+-- The file is that of this scenario and these rows, and of no other scenario and rows.
 abbrev pub IsFileOfOne : List ℕ → Scenario → List (Row Mail OrderLine) → Type 0
 IsFileOfOne file scenario rows = (other : Scenario) (others : List (Row Mail OrderLine)) → IsFile file other others → (other ≡ scenario) × (others ≡ rows)
 
--- the file of a scenario's bytes and rows is the file of the scenario and the rows, if it is within the limit
+-- The file that is printed of a scenario's bytes and valid rows is a file of the scenario and the rows, if it is within the limit.
 abbrev pub PrintedFilesAreFiles : Type 0
 PrintedFilesAreFiles = (bytes : List ℕ) (scenario : Scenario) (rows : List (Row Mail OrderLine)) → verdict_of bytes ≡ Ok scenario → Each IsHeld rows → length (file_text bytes rows) ≤ most_file_bytes
     → IsFile (file_text bytes rows) scenario rows
 
--- the bytes that are read of an input: one more than the most that a file may have
+-- The bytes that are read of an input: one more than the most that a file may have.
 abbrev pub first_bytes : List ℕ → List ℕ
 first_bytes input = take (most_file_bytes + 1) input
 
--- an input is a file exactly where they are
+-- An input is a file of this scenario and these rows exactly where the bytes that are read of it are.
 abbrev pub FirstBytesDecideFiles : Type 0
 FirstBytesDecideFiles = (input : List ℕ) (scenario : Scenario) (rows : List (Row Mail OrderLine)) → IsFile (first_bytes input) scenario rows ↔ IsFile input scenario rows
 
--- .. and is bad exactly where they are
+-- An input is bad at this line for this reason exactly where the bytes that are read of it are.
 abbrev pub FirstBytesDecideFaults : Type 0
 FirstBytesDecideFaults = (input : List ℕ) (line : ℕ) (why : Reason) → IsBadFile (first_bytes input) line why ↔ IsBadFile input line why
 
--- no two rows have the same text
+-- No two rows that the program's types can hold have the same text.
 abbrev pub TextsAreApart : Type 0
 TextsAreApart = (row other : Row Mail OrderLine) → IsHeld row → IsHeld other → text_of row ≡ text_of other → row ≡ other
 
--- a file has one scenario, and rows with these texts alone; it is not bad too; and a bad file has one bad line and one reason
+-- A file has one scenario and one list of texts of rows, and one list of rows where no two rows have the same text. A file is not bad too, and a bad file has one bad line and one reason.
 pub record FilesHaveOneVerdict : Type 0 where
   pub scenarios : (file : List ℕ) (one other : Scenario) (rows others : List (Row Mail OrderLine)) → IsFile file one rows → IsFile file other others → one ≡ other
   pub texts : (file : List ℕ) (one other : Scenario) (rows others : List (Row Mail OrderLine)) → IsFile file one rows → IsFile file other others → map text_of rows ≡ map text_of others
@@ -44,6 +44,6 @@ pub record FilesHaveOneVerdict : Type 0 where
   pub not_both : (file : List ℕ) (scenario : Scenario) (rows : List (Row Mail OrderLine)) (line : ℕ) (why : Reason) → IsFile file scenario rows → IsBadFile file line why → ⊥
   pub lines : (file : List ℕ) (line line' : ℕ) (why why' : Reason) → IsBadFile file line why → IsBadFile file line' why' → (line ≡ line') × (why ≡ why')
 
--- a text that is a scenario has no more bytes than a text may have
+-- A text that is a scenario has at most as many bytes as a text may have.
 abbrev pub ScenariosAreShort : Type 0
 ScenariosAreShort = (text : List ℕ) (scenario : Scenario) → verdict_of text ≡ Ok scenario → length text ≤ most_bytes

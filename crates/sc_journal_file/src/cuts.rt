@@ -1,22 +1,22 @@
-//! A file, cut at its line `journal`.
+//! A file, divided at its line `journal`.
 ghost use Rattle.std.specs.Prelude.{◌≡◌, ◌≤◌, ◌==◌, ◌+◌, ◌<◌, ◌^◌, length, position, MatchOption, IfSome, None};
 ghost use Rattle.sc_journal_file.specs.Files.{front_of, has_empty_end, scenario_text, IsCut};
 
 use memchr::memchr;
 use sc_lines::is_text;
 
-/// What stands before the line `journal` and behind it.
+/// The parts of a file before and behind its line `journal`.
 #[derive(Clone, Copy)]
 pub struct StoredText<'a> {
     /// The scenario's text.
     pub scenario: &'a [u8],
-    /// How many lines it has.
+    /// The number of lines before the line `journal`.
     pub lines: u32,
-    /// The lines of rows.
+    /// The lines of the rows.
     pub rows: &'a [u8],
 }
 
-/// The place of the first line feed.
+/// Returns the place of the first line feed.
 #[tactic(auto, using(crate::proofs::Feeds::first_is))]
 pub(crate) fn feed_at(text: &[u8]) -> Option<usize>
     ensures { result ≡ position (λ byte. byte == 10) text.now }
@@ -24,7 +24,7 @@ pub(crate) fn feed_at(text: &[u8]) -> Option<usize>
     memchr(b'\n', text)
 }
 
-// How many bytes and lines stand before the line `journal`, if there is one.
+// Returns the numbers of bytes and lines before the line `journal`, if there is one.
 fn front_of(file: &[u8]) -> Option<(usize, u32)>
     requires { length file.now < 2 ^ 32 }
     ensures front { result ≡ front_of file.now }
@@ -43,14 +43,14 @@ fn front_of(file: &[u8]) -> Option<(usize, u32)>
     None
 }
 
-// Whether the last line is empty, if there is one.
+// Returns whether the last line is empty, or there are fewer than two bytes.
 fn has_empty_end(front: &[u8]) -> bool
     ensures { result ≡ has_empty_end front.now }
 {
     front.len() < 2 || front[front.len() - 2] == b'\n'
 }
 
-// Lines with their line feeds, without the last one where the last line is not empty.
+// Returns the lines without the last line feed where the last line is not empty.
 fn scenario_text(front: &[u8]) -> &[u8]
     ensures { result.now ≡ scenario_text front.now }
 {
@@ -61,8 +61,8 @@ fn scenario_text(front: &[u8]) -> &[u8]
     }
 }
 
-/// What stands before a file's first line `journal` and behind it. None where none of its lines
-/// that a line feed ends is `journal`.
+/// Divides a file at its first line `journal`. Returns `None` where none of its lines that a line
+/// feed ends is `journal`.
 pub fn cut(file: &[u8]) -> Option<StoredText<'_>>
     requires { length file.now < 2 ^ 32 }
     ensures cut { MatchOption result (front_of file.now ≡ None)

@@ -1,12 +1,12 @@
-//! Stored journals as bytes, and their reader.
+//! Stored journals as bytes, and their parser.
 //!
-//! A file holds a scenario and the rows of a journal: the scenario's bytes, of which a last line
-//! without a line feed is given one; a line `journal`; and a line for each row, its text. Each line
-//! ends with a line feed. The scenario ends at the first line that is exactly `journal`, which no
-//! scenario has as a line of its own.
+//! A file has a scenario and the rows of a journal: the scenario's bytes, where a last line without
+//! a line feed gets one; a line `journal`; and a line for each row, its text. Each line ends with a
+//! line feed. The scenario ends at the first line that is exactly `journal`, which is no line of
+//! any scenario.
 //!
-//! Of a file that is read, the scenario's part is taken without its last line feed where the line
-//! before it is not empty. Lines are counted from 1 over the whole file.
+//! A parser takes the scenario's part without its last line feed where the line before it is not
+//! empty. Lines are counted from 1 over the whole file.
 #![tactic(auto)]
 
 mod cuts;

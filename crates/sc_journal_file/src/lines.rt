@@ -1,4 +1,4 @@
-//! The lines of a stored journal, to be printed.
+//! The lines of a stored journal, as they are printed.
 ghost use Rattle.std.specs.Prelude.{◌≡◌, ◌∷◌, ◌++◌, false, map, IfOk, OnOk};
 ghost use Rattle.sc_base.specs.Among.{Each};
 ghost use Rattle.sc_lines.specs.Lines.{lines_in};
@@ -15,7 +15,7 @@ use sc_mail::Mail;
 use sc_report::ReportLine;
 use std::alloc::Global;
 
-// A line with its line feed.
+// Returns the line with its line feed.
 fn fed(alloc: Global, line: &[u8]) -> Result<ReportLine, OutOfMemory>
     ensures { IfOk result (λ done. done ≡ fed line.now) }
 {
@@ -24,7 +24,7 @@ fn fed(alloc: Global, line: &[u8]) -> Result<ReportLine, OutOfMemory>
     Ok(ReportLine::from_vec(bytes))
 }
 
-// The line of a row.
+// Returns the line of a row, with its line feed.
 fn row_line(alloc: Global, row: &Row<Mail, OrderLine>) -> Result<ReportLine, OutOfMemory>
     ensures line { IfOk result (λ done. done ≡ fed (text_of row.now)) }
     ensures held { OnOk result (IsHeld row.now) }
@@ -34,7 +34,7 @@ fn row_line(alloc: Global, row: &Row<Mail, OrderLine>) -> Result<ReportLine, Out
     Ok(ReportLine::from_vec(bytes))
 }
 
-// Adds the lines of a text.
+// Appends the lines of a text.
 fn add_text(alloc: Global, lines: &mut Sequence<ReportLine>, text: &[u8]) -> Result<(), OutOfMemory>
     ensures { OnOk result (lines.new ≡ lines.old ++ map fed (lines_in false text.now)) }
 {
@@ -49,7 +49,7 @@ fn add_text(alloc: Global, lines: &mut Sequence<ReportLine>, text: &[u8]) -> Res
     Ok(())
 }
 
-// Adds the lines of rows.
+// Appends the lines of rows.
 fn add_rows(
     alloc: Global,
     lines: &mut Sequence<ReportLine>,
@@ -64,8 +64,8 @@ fn add_rows(
     Ok(())
 }
 
-/// The lines of the file of a scenario's bytes and rows, each with its line feed: those of the
-/// scenario, `journal`, and a line for each row.
+/// Returns the lines of the file of a scenario's bytes and rows, each with its line feed: those of
+/// the scenario, the line `journal`, and a line for each row.
 pub fn file_lines(
     alloc: Global,
     bytes: &[u8],

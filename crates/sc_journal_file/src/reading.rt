@@ -1,4 +1,4 @@
-//! The reader of stored journals.
+//! The parser of stored journals.
 ghost use Rattle.std.specs.Prelude.{◌≡◌, ◌≤◌, ◌+◌, ◌<◌, ◌^◌, false, length, MatchOption, MatchResult, IfOk};
 ghost use Rattle.sc_actor.specs.Mail.{mails};
 ghost use Rattle.sc_lines.specs.Lines.{lines_in};
@@ -17,10 +17,10 @@ use sc_row_text::row_texts_are_lines;
 use sc_scenario::{Scenario, ScenarioFault, read_scenario};
 use std::alloc::Global;
 
-/// The most bytes that a file has.
+/// The most bytes that a file may have.
 pub const FILE_LIMIT: u64 = 268_435_456;
 
-// How many lines a file has.
+// Returns the number of lines of a file.
 fn line_count(file: &[u8]) -> u32
     requires { length file.now < 2 ^ 31 }
     ensures lines { result ≡ length (lines_in false file.now) }
@@ -38,8 +38,8 @@ fn line_count(file: &[u8]) -> u32
     lines
 }
 
-// The row whose line begins some bytes, and what stands behind the line. None where no row's line
-// does.
+// Returns the row whose line begins the bytes, and the bytes behind the line, or `None` where no
+// row's line begins them.
 fn next_row(
     alloc: Global,
     bytes: &[u8],
@@ -59,7 +59,7 @@ fn next_row(
     }
 }
 
-// Row by row, of which the first stands on the line `first`; the first bad line ends it.
+// Reads the lines of rows, of which the first has the number `first`, up to the first bad one.
 fn read_rows(
     alloc: Global,
     bytes: &[u8],
@@ -86,8 +86,8 @@ fn read_rows(
     Ok(rows)
 }
 
-/// The scenario and the rows that a file is. `Bad` exactly where it is none: the bad line, and the
-/// reason.
+/// Returns the scenario and the rows of a file. `Err(Bad)`: the file is none, with the bad line and
+/// the reason. `Err(OutOfMemory)`: memory ran out.
 ///
 /// The first of these causes counts. The file has more than `FILE_LIMIT` bytes: line 0,
 /// `FileTooLarge`. None of the lines that a line feed ends is `journal`: the line after the last,

@@ -1,5 +1,5 @@
-//! Each function that carries a law takes no input and answers nothing: calling it shows that its
-//! contract can be met.
+//! Calls of the functions that carry laws. Such a function takes no input and returns nothing; a
+//! call shows that its contract can be met.
 use sc_budget_law::{
     made_scenarios_are_at_budget, plain_journals_are_answered, plain_journals_are_light,
     plain_lines_end_quiet,

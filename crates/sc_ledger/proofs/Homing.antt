@@ -40,11 +40,11 @@ module _ {M O : Type 0} where
     pub row : ℕ
     -- how many mails come before the row's
     pub first : ℕ
-    -- the list of homes tells the row
+    -- the list of homes gives the row
     pub home : get_or (homes_from place rows) p 0 ≡ place + row
     -- there is such a row
     pub inside : row < length rows
-    -- the list of firsts tells how many mails come before
+    -- the list of firsts gives how many mails come before
     pub first_is : get_or (firsts_from before rows) row 0 ≡ before + first
     -- the mail is not before the row's first
     pub below : first ≤ p

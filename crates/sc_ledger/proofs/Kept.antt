@@ -92,13 +92,13 @@ pub few_copies : {M O : Type 0} (rows : List (Row M O)) (i : ℕ) → get_or (co
 few_copies rows i = omega (arith, below_from [] rows 0 (λ j. omega arith) i)
 
 module _ {M O : Type 0} (weighs : M → ℕ) (receiver : M → ℕ) (rows : List (Row M O)) (bytes limit : ℕ) (is : bytes ≡ journal_bytes weighs rows) (fits : bytes ≤ limit) (most : limit ≤ 1073741824) where
-  -- a journal within the limit has fewer mails than a number of 32 bits tells
+  -- a journal within the limit has fewer than 2^32 - 1 mails
   pub few_mails : (receivers : List ℕ) → receivers ≡ map receiver (mails rows) → length receivers < 4294967295
   few_mails receivers all =
       let l : length receivers ≡ length (mails rows) = ap length all ∙ length-map (mails rows) receiver in
       omega (arith, journal_counts weighs rows, l)
 
-  -- no mail has more copies than a number of 32 bits tells
+  -- a mail has fewer than 2^32 - 1 copies
   pub small_copies : (counts : List ℕ) → counts ≡ copies rows → (i : ℕ) → get_or counts i 0 < 4294967295
   small_copies counts all i =
       let c : get_or counts i 0 ≡ get_or (copies rows) i 0 = ap (λ l. get_or l i 0) all in

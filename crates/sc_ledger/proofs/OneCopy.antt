@@ -47,7 +47,7 @@ module _ (receivers : List ℕ) where
   abbrev copy_of : ℕ → ℕ → Spot
   copy_of number k = record { number = number; who = to number; k = k }
 
-  -- so many copies of one number, behind so many with its receiver
+  -- `c` copies of one number, behind `n` copies with its receiver
   abbrev run : ℕ → ℕ → ℕ → List Spot
   run number n zero = []
   run number n (suc c) = copy_of number (n + 1) ∷ run number (n + 1) c

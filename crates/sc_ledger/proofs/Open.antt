@@ -146,7 +146,7 @@ module _ {M O : Type 0} (receiver : M → ℕ) (actors : ℕ) (rows : List (Row 
       ∙ (get_map (mails rows) place (runs actors (crashed_in rows)) (is_for receiver (upto actors) rows None) (λ m. runs_is receiver actors rows (receiver m)) (omega arith)
       ∙ found_is (slice_get (mails rows) place))
 
-  -- this is told by its count, where it may be repeated
+  -- its count says whether it is pending, where it may be repeated
   pub pending_then : (number : ℕ) (r : Bool) (counts : List ℕ) → counts ≡ copies rows → r ≡ nat_lt 0 (get_or counts (number - 1) 0) → may_repeat receiver actors rows number ≡ true → r ≡ is_pending receiver actors rows number
   pending_then number r counts all is may =
       is ∙ (ap (λ l. nat_lt 0 (get_or l (number - 1) 0)) all

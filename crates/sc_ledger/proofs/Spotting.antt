@@ -71,7 +71,7 @@ module _ (receivers : List ℕ) where
       (sound rest (before ++ n ∷ []) (done ++ s ∷ []) some.1 (counts_more to done before s n refl is)
       (subst (λ (l : List ℕ). All (Fine to l) (done ++ s ∷ [])) (sym (append_assoc before (n ∷ []) rest)) all))
 
-  -- each copy is where it is told to be
+  -- each copy is at the place that it names
   pub spots_sound : (all : List ℕ) → AllByRecursion (λ n. 0 < to n) all → All (Fine to all) (spots_from receivers all)
   spots_sound all some = sound all [] [] some (λ x. refl) (All-nil (Fine to all))
 

@@ -1,4 +1,4 @@
--- The definitions of this crate that others cite, under one name.
+-- The definitions of this crate that other crates cite, under one name.
 pub use Rattle.sc_ledger.specs.Pending.{kth_pending, upto, pending_of, may_have, may_repeat, is_pending, whose}
 pub use Rattle.sc_ledger.specs.Kept.{runs, counts_for, crashed_in}
 pub use Rattle.sc_ledger.specs.Homes.{homes_from, firsts_from}

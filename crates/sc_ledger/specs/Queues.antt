@@ -1,4 +1,4 @@
--- Pending mail by number, as an ascending list of numbers with their copies.
+-- The queues of pending mail: ascending lists of mail numbers, each with its number of copies.
 use Rattle.std.specs.Prelude.{◌≡◌, ℕ, suc, ◌-◌, ◌<◌, ◌==◌, nat_eq, nat_lt, List, [], ◌∷◌, ◌++◌, Bool, ◌&&◌, length, map, filter, replicate, insert, slice_index_or, if◌then◌else◌}
 use Rattle.std.specs.List.{flat_map}
 use Rattle.std.specs.Map.{remove_entry}
@@ -6,38 +6,38 @@ use Rattle.indexmap.specs.IndexMap.{insert_entry}
 use Rattle.sc_ledger.specs.declared.queues.Queues.{Queues}
 use Rattle.sc_ledger.specs.Kept.{counts_for}
 
--- the mail from `number` on that passes the test and has copies, each number with its copies
+-- The mails from `number` on whose receiver passes the test and that have a copy, each with its number of copies.
 abbrev pub open_entries : (ℕ → Bool) → ℕ → List ℕ → List ℕ → List (ℕ × ℕ)
 open_entries test number [] counts = []
 open_entries test number (receiver ∷ receivers) [] = []
 open_entries test number (receiver ∷ receivers) (count ∷ counts) =
     (if test receiver && nat_lt 0 count then (number, count) ∷ [] else []) ++ open_entries test (suc number) receivers counts
 
--- each number as often as it has copies
+-- The numbers of the entries, each as often as it has copies.
 abbrev pub copies_in : List (ℕ × ℕ) → List ℕ
 copies_in entries = flat_map (λ e. replicate e.1 e.0) entries
 
--- how many of the numbers are lower
+-- How many entries have a lower number than `number`.
 abbrev pub lower : List (ℕ × ℕ) → ℕ → ℕ
 lower entries number = length (filter (λ e. nat_lt e.0 number) entries)
 
--- the entries once a number has `count` copies: it is taken out, or comes back to its place, or gets the new count, or goes last where it is new
+-- The entries once `number` has `count` copies: it is removed with 0; with `back` it is inserted at its place by number; else its count is replaced, or it is appended where it is new.
 abbrev pub recounted : List (ℕ × ℕ) → ℕ → Bool → ℕ → List (ℕ × ℕ)
 recounted entries number back count =
     if count == 0
     then remove_entry (nat_eq number) entries
     else if back then insert entries (lower entries number) (number, count) else insert_entry nat_eq entries number count
 
--- the entries of each actor's queue
+-- The entries of each actor's queue, in the order of the actors.
 abbrev pub kept : Queues → List (List (ℕ × ℕ))
 kept q = map (λ m. m.items) q.each.items
 
--- Where these are the receivers and the counts of all mail, the queues hold what is pending: one of all mail, and one for each actor, from 1 on.
+-- The queues agree with the receivers and counts of all mail: one queue has all pending mail, and there is one for each actor from 1 to `actors` with the pending mail of that actor.
 pub record Holds (q : Queues) (actors : ℕ) (crashed receivers counts : List ℕ) : Type 0 where
   pub many : length (kept q) ≡ actors
   pub all : q.all.items ≡ open_entries (counts_for actors crashed 0) 1 receivers counts
   pub each : (k : ℕ) → k < actors → slice_index_or (kept q) k [] ≡ open_entries (counts_for actors crashed (suc k)) 1 receivers counts
 
--- the entries of an actor's queue, or of that of all where the number is 0
+-- The entries of the queue of actor `who`, or of the queue of all mail where `who` is 0.
 abbrev pub queue_of : Queues → ℕ → List (ℕ × ℕ)
 queue_of q who = if who == 0 then q.all.items else slice_index_or (kept q) (who - 1) []

@@ -9,25 +9,26 @@ use crate::finding::add_copies;
 use sc_base::OutOfMemory;
 use std::alloc::Global;
 
-/// The numbers of pending mail, each with its copies. Most that leave stand first, and each that
-/// comes goes last: so a plain list is faster than a map, which would keep its table in step.
+/// The numbers of pending mail, each with its number of copies, ascending. Mail is mostly taken
+/// from the beginning and appended at the end, so a plain list is faster than a map, which would
+/// have to keep its table in step.
 pub(crate) type Copies = Vec<(u32, u32)>;
 
-// How many of the numbers are lower.
+// Returns how many of the numbers are lower than `number`.
 fn lower(copies: &[(u32, u32)], number: u32) -> usize
     ensures { result ≡ lower copies.now number }
 {
     copies.iter().filter(|entry| entry.0 < number).count()
 }
 
-// Where a number stands.
+// Returns the place of a number, if it is there.
 fn place_of(copies: &[(u32, u32)], number: u32) -> Option<usize>
     ensures { result ≡ position (λ entry. entry.0 == number) copies.now }
 {
     copies.iter().position(|entry| entry.0 == number)
 }
 
-// Takes a number out.
+// Removes a number, if it is there.
 fn take_out(copies: &mut Copies, number: u32)
     ensures { copies.new.items ≡ remove_entry (nat_eq number) copies.old.items }
 {
@@ -36,7 +37,7 @@ fn take_out(copies: &mut Copies, number: u32)
     }
 }
 
-// Gives a number another count. One that is not there goes last.
+// Sets the count of a number. A number that is not there is appended.
 fn replace(copies: &mut Copies, number: u32, count: u32) -> Result<(), OutOfMemory>
     ensures { OnOk result (copies.new.items ≡ insert_entry nat_eq copies.old.items number count) }
 {
@@ -47,7 +48,7 @@ fn replace(copies: &mut Copies, number: u32, count: u32) -> Result<(), OutOfMemo
     Ok(())
 }
 
-// Puts a number without a copy into its place.
+// Inserts a number that has no entry at its place by number.
 fn put_back(copies: &mut Copies, number: u32, count: u32) -> Result<(), OutOfMemory>
     ensures { OnOk result
         (copies.new.items
@@ -58,7 +59,8 @@ fn put_back(copies: &mut Copies, number: u32, count: u32) -> Result<(), OutOfMem
     Ok(())
 }
 
-/// A number has `count` copies now. One that comes back had none.
+/// Sets the number of copies of a mail to `count`. With `back` the mail had no copy before, and is
+/// inserted at its place by number.
 pub(crate) fn recount(
     copies: &mut Copies,
     number: u32,
@@ -77,7 +79,7 @@ pub(crate) fn recount(
     replace(copies, number, count)
 }
 
-/// A new number goes last.
+/// Appends a new number, which has to be the greatest for the list to stay ascending.
 pub(crate) fn add_last(copies: &mut Copies, number: u32, count: u32) -> Result<(), OutOfMemory>
     ensures { OnOk result (copies.new.items ≡ copies.old.items ++ (number, count) ∷ []) }
 {
@@ -85,7 +87,7 @@ pub(crate) fn add_last(copies: &mut Copies, number: u32, count: u32) -> Result<(
     Ok(())
 }
 
-/// The k-th of the numbers, each as often as it has copies.
+/// Returns the k-th of the numbers, counted from 1, each taken as often as it has copies.
 pub(crate) fn kth_in(copies: &[(u32, u32)], k: u32) -> Option<u32>
     requires { 0 < k }
     ensures { result ≡ kth (copies_in copies.now) k }
@@ -100,7 +102,7 @@ pub(crate) fn kth_in(copies: &[(u32, u32)], k: u32) -> Option<u32>
     None
 }
 
-/// The numbers, each as often as it has copies.
+/// Returns the numbers, each as often as it has copies.
 pub(crate) fn numbers_in(alloc: Global, copies: &[(u32, u32)]) -> Result<Vec<u32>, OutOfMemory>
     ensures { IfOk result (λ found. found.items ≡ copies_in copies.now) }
 {

@@ -5,7 +5,7 @@ ghost use Rattle.sc_actor.specs.Counted.{mail_bytes};
 
 use sc_actor::{Event, Parcel};
 
-/// The counted bytes with one more row of these mails, or 2^64 - 1 where they are more.
+/// Returns the counted bytes with one more row that sends these mails, at most 2^64 - 1.
 pub(crate) fn bytes_with<M: Parcel>(sent: &[M], before: u64) -> u64
     requires { before ≤ 2 ^ 30 }
     ensures { result ≡ min (before + (64 + sum_by (mail_bytes M.weighs) sent.now)) (2 ^ 64 - 1) }
@@ -17,7 +17,8 @@ pub(crate) fn bytes_with<M: Parcel>(sent: &[M], before: u64) -> u64
     total
 }
 
-/// A delivery or a drop takes a copy away, if there is one, and a repeat adds one.
+/// Counts an event: a delivery or a drop removes a copy of its mail, if there is one, and a repeat
+/// adds one.
 pub(crate) fn count_event<O>(counts: &mut Vec<u32>, event: &Event<O>)
     requires { (i : ℕ) → slice_index counts.old.items i < 2 ^ 32 - 1 }
     ensures items { counts.new.items ≡ counts_at counts.old.items event.now }
@@ -41,7 +42,7 @@ pub(crate) fn count_event<O>(counts: &mut Vec<u32>, event: &Event<O>)
     }
 }
 
-/// One copy for each of `n` new mails.
+/// Appends a count of one copy for each of `n` new mails.
 pub(crate) fn add_counts(counts: &mut Vec<u32>, n: usize)
     requires { vec_len counts.old + n ≤ vec_capacity counts.old }
     ensures { counts.new.items ≡ counts.old.items ++ replicate n 1 }
@@ -52,7 +53,7 @@ pub(crate) fn add_counts(counts: &mut Vec<u32>, n: usize)
     }
 }
 
-// The row of `n` new mails.
+// Appends the place of their row for each of `n` new mails.
 fn add_homes(homes: &mut Vec<u32>, home: u32, n: usize)
     requires { vec_len homes.old + n ≤ vec_capacity homes.old }
     ensures { homes.new.items ≡ homes.old.items ++ replicate n home }
@@ -63,7 +64,8 @@ fn add_homes(homes: &mut Vec<u32>, home: u32, n: usize)
     }
 }
 
-/// Where a new row and its `n` mails stand, which come after so many mails.
+/// Notes that a new row has the place `row`, that its `n` mails are in it, and that `before` mails
+/// were sent before it.
 pub(crate) fn note_home(
     homes: &mut Vec<u32>,
     firsts: &mut Vec<u32>,
@@ -80,7 +82,7 @@ pub(crate) fn note_home(
     firsts.push_reserved(before);
 }
 
-/// The receivers of new mails.
+/// Appends the receivers of new mails.
 pub(crate) fn add_receivers<M: Parcel>(receivers: &mut Vec<u32>, sent: &[M])
     requires { vec_len receivers.old + length sent.now ≤ vec_capacity receivers.old }
     ensures { receivers.new.items ≡ receivers.old.items ++ map M.receiver sent.now }
@@ -90,7 +92,7 @@ pub(crate) fn add_receivers<M: Parcel>(receivers: &mut Vec<u32>, sent: &[M])
     }
 }
 
-/// Notes the actor of a crash.
+/// Appends the actor `who` to the crashed ones, where the event is a crash.
 pub(crate) fn add_crash<O>(crashed: &mut Vec<u32>, who: u32, event: &Event<O>)
     requires { vec_len crashed.old + 1 ≤ vec_capacity crashed.old }
     ensures { crashed.new.items

@@ -1,4 +1,4 @@
-//! Looks for pending mail.
+//! Searches for pending mail by the receivers and counts of all mail.
 ghost use Rattle.std.specs.Prelude.{◌≡◌, ◌<◌, ◌+◌, ◌-◌, ◌^◌, ◌==◌, ◌++◌, length, replicate, nat_lt, IfOk, OnOk, slice_index, if◌then◌else◌};
 ghost use Rattle.std.specs.List.{list_any};
 ghost use Rattle.sc_actor.specs.Mail.{numbers};
@@ -14,21 +14,21 @@ fn is_among(crashed: &[u32], who: u32) -> bool
     crashed.iter().any(|c| *c == who)
 }
 
-/// Whether this is the number of an actor that has not crashed.
+/// Returns whether `who` is the number of an actor that has not crashed.
 pub(crate) fn runs(actors: u32, crashed: &[u32], who: u32) -> bool
     ensures { result ≡ runs actors crashed.now who }
 {
     0 < who && who <= actors && !is_among(crashed, who)
 }
 
-/// Whether mail to this receiver counts for an actor, or for any where `who` is 0.
+/// Returns whether mail to `receiver` can be pending for `who`, or for any actor where `who` is 0.
 pub(crate) fn counts_for(actors: u32, crashed: &[u32], who: u32, receiver: u32) -> bool
     ensures { result ≡ counts_for actors crashed.now who receiver }
 {
     (who == 0 || receiver == who) && runs(actors, crashed, receiver)
 }
 
-/// Whether there is a copy of the mail with this number.
+/// Returns whether the mail with this number has a copy.
 pub(crate) fn has_copy(counts: &[u32], number: u32) -> bool
     ensures { result ≡ nat_lt 0 (slice_index counts.now (number - 1)) }
 {
@@ -36,7 +36,8 @@ pub(crate) fn has_copy(counts: &[u32], number: u32) -> bool
     place < counts.len() && counts[place] > 0
 }
 
-// The copies that count. Whose they are is asked only where there are some.
+// Returns the copies that count, 0 where the receiver does not. The receiver is checked only where
+// there are copies.
 fn open_copies(actors: u32, crashed: &[u32], who: u32, receiver: u32, count: u32) -> u32
     ensures { result ≡ (if counts_for actors crashed.now who receiver then count else 0) }
 {
@@ -47,7 +48,8 @@ fn open_copies(actors: u32, crashed: &[u32], who: u32, receiver: u32, count: u32
     }
 }
 
-/// The number of the k-th pending mail, of an actor or of all where `who` is 0.
+/// Returns the number of the k-th pending mail, counted from 1, of actor `who`, or of all where
+/// `who` is 0. It goes through the mails one by one.
 pub(crate) fn kth_open(
     receivers: &[u32],
     counts: &[u32],
@@ -73,7 +75,7 @@ pub(crate) fn kth_open(
     None
 }
 
-/// Adds a number as often as it has copies.
+/// Appends a number as often as it has copies.
 pub(crate) fn add_copies(found: &mut Vec<u32>, number: u32, count: u32) -> Result<(), OutOfMemory>
     ensures { OnOk result (found.new.items ≡ found.old.items ++ replicate count number) }
 {
@@ -84,7 +86,8 @@ pub(crate) fn add_copies(found: &mut Vec<u32>, number: u32, count: u32) -> Resul
     Ok(())
 }
 
-/// The numbers of all pending mail, each as often as it has copies.
+/// Returns the numbers of all pending mail, each as often as it has copies. It goes through the
+/// mails one by one.
 pub(crate) fn open_numbers(
     alloc: Global,
     receivers: &[u32],

@@ -1,4 +1,4 @@
-//! The ledger.
+//! The ledger: the rows, and what is counted of them.
 ghost use Rattle.std.specs.Prelude.{◌≡◌, ◌<◌, ◌≤◌, ◌+◌, ◌^◌, ◌++◌, ◌∷◌, [], map, length, Some, All, IfOk, OnOk, IfErr, IfSome, IsSome, slice_get, vec_len, vec_capacity};
 ghost use Rattle.std.specs.Option.{option_map};
 ghost use Rattle.std.proofs.Props.{props};
@@ -23,20 +23,20 @@ use sc_actor::{Parcel, Row};
 use sc_base::{Dup, OutOfMemory, Sequence};
 use std::alloc::Global;
 
-/// The rows of one exchange, with what is counted of them.
-/// The counted bytes are at most 2^30.
+/// The rows of one exchange, with their counted bytes (at most 2^30) and their pending mail.
 #[derive(Drop)]
 pub struct Ledger<M: Parcel + Drop, O: Drop> {
+    /// The rows, in the order in which they were appended.
     pub rows: Vec<Row<M, O>>,
     bytes: u64,
     counts: Vec<u32>,
     receivers: Vec<u32>,
     crashed: Vec<u32>,
-    // Of each mail the place of its row, and of each row how many mails came before it.
+    // For each mail the place of its row, and for each row the number of mails sent before it.
     homes: Vec<u32>,
     firsts: Vec<u32>,
-    // What is pending, by actor, for this many of them. None once there was no memory for it; then
-    // it is found by a scan.
+    // The pending mail, by actor, for the actors from 1 to `actors`. `None` once there was no
+    // memory for it; then pending mail is found by the receivers and counts.
     queues: Option<Queues>,
     actors: u32,
     alloc: Global,
@@ -51,8 +51,8 @@ pub struct Ledger<M: Parcel + Drop, O: Drop> {
 }
 
 impl<M: Parcel + Drop, O: Drop> Ledger<M, O> {
-    /// The empty ledger of so many actors. They have the numbers from 1 to `actors`, here and
-    /// below.
+    /// Returns the empty ledger of `actors` actors, which have the numbers from 1 to `actors`.
+    /// Where there is no memory for the queues of pending mail it is a ledger without queues.
     pub fn new(alloc: Global, actors: u32) -> Ledger<M, O>
         ensures { result.rows.items ≡ [] }
     {
@@ -70,7 +70,7 @@ impl<M: Parcel + Drop, O: Drop> Ledger<M, O> {
         }
     }
 
-    /// How many rows there are.
+    /// Returns the number of rows, at most 2^24.
     pub fn len(&self) -> usize
         ensures rows { result ≡ length self.now.rows.items }
         ensures few { result ≤ 2 ^ 24 }
@@ -78,22 +78,23 @@ impl<M: Parcel + Drop, O: Drop> Ledger<M, O> {
         self.rows.len()
     }
 
-    /// How many mails were sent.
+    /// Returns the number of mails that were sent.
     pub fn sent(&self) -> usize
         ensures { result ≡ length (mails self.now.rows.items) }
     {
         self.receivers.len()
     }
 
-    /// The counted bytes.
+    /// Returns the counted bytes of the rows.
     pub fn bytes(&self) -> u64
         ensures { result ≡ journal_bytes M.weighs self.now.rows.items }
     {
         self.bytes
     }
 
-    /// The number of the k-th pending mail of an actor, or of all where `who` is 0. For the actors
-    /// of this ledger it is found without a scan.
+    /// Returns the number of the k-th pending mail, counted from 1, of actor `who`, or of all where
+    /// `who` is 0. Where `actors` is the number that the ledger was made with, it is read off a
+    /// queue, unless there was no memory for the queues.
     pub fn kth(&self, actors: u32, who: u32, k: u32) -> Option<u32>
         requires { 0 < k }
         ensures kth { result ≡ kth_pending M.receiver actors self.now.rows.items who k }
@@ -103,7 +104,8 @@ impl<M: Parcel + Drop, O: Drop> Ledger<M, O> {
         self.find(actors, who, k)
     }
 
-    /// The same by a scan of all rows: the plain form of `kth`.
+    /// Returns what `kth` returns, by a scan of all rows. It is the plain form of `kth`, for tests.
+    /// `Err(OutOfMemory)`: the ledger is unchanged.
     pub fn kth_by_scan(
         &self,
         alloc: Global,
@@ -118,8 +120,8 @@ impl<M: Parcel + Drop, O: Drop> Ledger<M, O> {
         kth_after(alloc, self.rows.as_slice(), actors, who, k)
     }
 
-    // The k-th in the queues, where they are those of so many actors, or else by what is kept of
-    // each mail.
+    // Returns the k-th pending mail from the queues, where they are those of `actors` actors, and
+    // else by the receivers and counts.
     fn find(&self, actors: u32, who: u32, k: u32) -> Option<u32>
         requires { 0 < k }
         ensures { result
@@ -143,7 +145,7 @@ impl<M: Parcel + Drop, O: Drop> Ledger<M, O> {
         )
     }
 
-    // The numbers of all pending mail, each as often as it has copies.
+    // Returns the numbers of all pending mail, each as often as it has copies.
     fn find_all(&self, alloc: Global, actors: u32) -> Result<Vec<u32>, OutOfMemory>
         ensures { IfOk result
             (λ found.
@@ -165,7 +167,7 @@ impl<M: Parcel + Drop, O: Drop> Ledger<M, O> {
         )
     }
 
-    /// A copy of the mail with this number. None where it was not sent.
+    /// Returns a copy of the mail with this number, or `None` where no such mail was sent.
     pub fn mail(&self, alloc: Global, number: u32) -> Result<Option<M>, OutOfMemory>
         ensures { IfOk result (λ found. found ≡ numbered (mails self.now.rows.items) number) }
     {
@@ -175,7 +177,7 @@ impl<M: Parcel + Drop, O: Drop> Ledger<M, O> {
         Ok(Some(self.copy_at(alloc, number as usize - 1)?))
     }
 
-    // A copy of the mail at a place among all that was sent.
+    // Returns a copy of the mail at a place among all that was sent, from 0.
     fn copy_at(&self, alloc: Global, place: usize) -> Result<M, OutOfMemory>
         requires { place < length self.now.homes.items }
         ensures { IfOk result (λ mail. slice_get (mails self.now.rows.items) place ≡ Some mail) }
@@ -186,7 +188,7 @@ impl<M: Parcel + Drop, O: Drop> Ledger<M, O> {
         Ok(row.sent.at(place - first).dup(alloc)?)
     }
 
-    /// To whom the mail with this number goes. None where it was not sent.
+    /// Returns the receiver of the mail with this number, or `None` where no such mail was sent.
     pub fn receiver(&self, number: u32) -> Option<u32>
         ensures { result ≡ option_map M.receiver (numbered (mails self.now.rows.items) number) }
     {
@@ -197,7 +199,7 @@ impl<M: Parcel + Drop, O: Drop> Ledger<M, O> {
         Some(self.receivers[number - 1])
     }
 
-    /// Whether the mail with this number was sent to an actor that has not crashed.
+    /// Returns whether the mail with this number was sent to an actor that has not crashed.
     pub fn may_repeat(&self, actors: u32, number: u32) -> bool
         ensures { result ≡ may_repeat M.receiver actors self.now.rows.items number }
     {
@@ -208,14 +210,15 @@ impl<M: Parcel + Drop, O: Drop> Ledger<M, O> {
         runs(actors, self.crashed.as_slice(), self.receivers[number - 1])
     }
 
-    /// Whether a copy of the mail with this number is pending.
+    /// Returns whether a copy of the mail with this number is pending.
     pub fn is_pending(&self, actors: u32, number: u32) -> bool
         ensures { result ≡ is_pending M.receiver actors self.now.rows.items number }
     {
         self.may_repeat(actors, number) && has_copy(self.counts.as_slice(), number)
     }
 
-    /// How many mails were sent, and each pending copy of all mail, in ascending order of number.
+    /// Returns the number of mails that were sent, and each pending copy of all mail, in ascending
+    /// order of number.
     pub fn look(&self, alloc: Global, actors: u32) -> Result<Look, OutOfMemory>
         ensures sent { IfOk result (λ look. look.sent ≡ length (mails self.now.rows.items)) }
         ensures spots { IfOk result
@@ -234,8 +237,8 @@ impl<M: Parcel + Drop, O: Drop> Ledger<M, O> {
         Ok(Look { sent, pending })
     }
 
-    // Of the pending copies for these actors the one that a word picks: from the queues, where they
-    // are those of so many actors, or else from a list of all.
+    // Returns, of the pending copies for the actors `whos`, the one that `word` picks: from the
+    // queues, where they are those of `actors` actors, and else from a list of all pending copies.
     fn pick(
         &self,
         alloc: Global,
@@ -263,8 +266,9 @@ impl<M: Parcel + Drop, O: Drop> Ledger<M, O> {
         picked_of(alloc, numbers.as_slice(), receivers, whos, word)
     }
 
-    /// How many mails were sent, and of the pending copies for these actors, in ascending order of
-    /// number, the one that a word picks. It is fast where these are all actors, in their order.
+    /// Returns the number of mails that were sent, and of the pending copies for the actors `whos`,
+    /// in ascending order of number, the one at the place `word` modulo their number. It is fast
+    /// where `whos` are all actors, in their order.
     pub fn glance(
         &self,
         alloc: Global,
@@ -290,7 +294,7 @@ impl<M: Parcel + Drop, O: Drop> Ledger<M, O> {
         Ok(Glance { sent, spot })
     }
 
-    // Room for one row with so many mails. Nothing else changes.
+    // Reserves room for one row with `n` mails. Rows and counted bytes stay as they are.
     fn make_room(&mut self, n: usize) -> Result<(), OutOfMemory>
         requires { n < 2 ^ 40 }
         ensures same { (self.new.rows.items ≡ self.old.rows.items)
@@ -313,7 +317,7 @@ impl<M: Parcel + Drop, O: Drop> Ledger<M, O> {
         Ok(())
     }
 
-    // Appends a row for which there is room, after which the counted bytes are these.
+    // Appends a row for which there is room. `bytes` are the counted bytes with it.
     fn keep(&mut self, row: Row<M, O>, bytes: u64)
         requires bytes { (bytes
             ≡ journal_bytes M.weighs self.old.rows.items + row_bytes M.weighs row)
@@ -350,8 +354,8 @@ impl<M: Parcel + Drop, O: Drop> Ledger<M, O> {
         self.rows.push_reserved(trimmed(row));
     }
 
-    /// Appends a row, unless with it the counted bytes pass the limit. A row that is not kept is
-    /// handed back, and the ledger is unchanged.
+    /// Appends a row, unless the counted bytes would pass the limit with it. `Err`: the row is
+    /// handed back with the cause, and the ledger's rows are unchanged.
     pub fn append(&mut self, row: Row<M, O>, limit: u64) -> Result<(), Unkept<M, O>>
         requires { limit ≤ 2 ^ 30 }
         ensures ok { OnOk result (self.new.rows.items ≡ self.old.rows.items ++ row ∷ []) }
@@ -378,8 +382,8 @@ impl<M: Parcel + Drop, O: Drop> Ledger<M, O> {
     }
 }
 
-// The same row, whose mails take no more room than they need: most rows send one mail, and a list
-// that grows takes room for four at first.
+// Returns the same row, with no more room for its mails than they need: most rows send one mail,
+// and a list that grows takes room for four at first.
 fn trimmed<M, O>(row: Row<M, O>) -> Row<M, O>
     ensures { result ≡ row }
 {
@@ -393,6 +397,7 @@ fn trimmed<M, O>(row: Row<M, O>) -> Row<M, O>
     }
 }
 
+// Returns empty queues, or `None` where there is no memory for them.
 fn new_queues(alloc: Global, actors: u32) -> Option<Queues>
     ensures { IfSome result (λ q. Holds q actors [] [] []) }
 {

@@ -1,4 +1,4 @@
-//! One of the pending copies is picked, without a list of them all.
+//! Picks one of the pending copies without a list of them all.
 ghost use Rattle.std.specs.Prelude.{◌≡◌, ◌==◌, ◌-◌, ◌+◌, ◌≤◌, length, filter, take, slice_get, slice_index, if◌then◌else◌, IfOk};
 ghost use Rattle.sc_ledger.specs.Queues.{copies_in};
 ghost use Rattle.sc_ledger.specs.Spots.{is_one_of, copies_for, picked_spot, spot_behind, spots_from};
@@ -8,7 +8,7 @@ use crate::spots::Spot;
 use sc_base::OutOfMemory;
 use std::alloc::Global;
 
-// To whom the mail with this number goes.
+// Returns the receiver of the mail with this number, or 0 where there is none.
 fn receiver_of(receivers: &[u32], number: u32) -> u32
     ensures { result ≡ slice_index receivers.now (number - 1) }
 {
@@ -16,8 +16,8 @@ fn receiver_of(receivers: &[u32], number: u32) -> u32
     receivers.get(place).copied().unwrap_or(0)
 }
 
-// Whether a number is one of these. Most lists have each number at its own place, from 1 on: so
-// it is looked for there first.
+// Returns whether `who` is one of the actors `whos`. Most lists have each number at its own place,
+// from 1 on, so that place is checked first.
 fn is_one_of(whos: &[u32], who: u32) -> bool
     ensures { result ≡ is_one_of whos.now who }
 {
@@ -28,7 +28,8 @@ fn is_one_of(whos: &[u32], who: u32) -> bool
     whos.iter().any(|one| *one == who)
 }
 
-// A sum, if it is not too large for the memory: of copies there are fewer than 2^32.
+// Returns the sum, or `Err(OutOfMemory)` where it is 2^32 or more: no memory holds that many
+// copies.
 fn added(many: u32, more: u32) -> Result<u32, OutOfMemory>
     ensures { IfOk result (λ sum. sum ≡ many + more) }
 {
@@ -38,14 +39,14 @@ fn added(many: u32, more: u32) -> Result<u32, OutOfMemory>
     }
 }
 
-// The copies of an entry, where they are asked for.
+// Returns the copies of an entry, where it is asked for, and else 0.
 fn share(asked: bool, count: u32) -> u32
     ensures { result ≡ (if asked then count else 0) }
 {
     if asked { count } else { 0 }
 }
 
-// How many of the copies are for one of these actors.
+// Returns how many of the copies are for one of the actors `whos`.
 fn count_for(copies: &[(u32, u32)], receivers: &[u32], whos: &[u32]) -> Result<u32, OutOfMemory>
     ensures { IfOk result (λ many.
         many ≡ length (copies_for whos.now (spots_from receivers.now (copies_in copies.now)))) }
@@ -59,7 +60,7 @@ fn count_for(copies: &[(u32, u32)], receivers: &[u32], whos: &[u32]) -> Result<u
     Ok(many)
 }
 
-// How many of the copies of the first entries have this receiver.
+// Returns how many of the copies of the first `entries` entries have the receiver `who`.
 fn count_to(
     copies: &[(u32, u32)],
     receivers: &[u32],
@@ -82,7 +83,8 @@ fn count_to(
     Ok(many)
 }
 
-// The copy of a number that comes after the first entries and so many of its own.
+// Returns the copy of `number` that comes after the first `entries` entries and after `own` copies
+// of its own.
 fn spot_behind(
     copies: &[(u32, u32)],
     receivers: &[u32],
@@ -101,7 +103,7 @@ fn spot_behind(
     Ok(Spot { number, who, k })
 }
 
-// Of the copies for these actors the one at a place, from 0.
+// Returns, of the copies for the actors `whos`, the one at the place `n`, from 0.
 fn nth_for(
     copies: &[(u32, u32)],
     receivers: &[u32],
@@ -125,7 +127,8 @@ fn nth_for(
     Ok(None)
 }
 
-/// Of the copies for these actors the one at the place that a word gives, if there is any.
+/// Returns, of the copies for the actors `whos`, the one at the place `word` modulo their number,
+/// if there is any.
 pub(crate) fn picked(
     copies: &[(u32, u32)],
     receivers: &[u32],
@@ -142,7 +145,8 @@ pub(crate) fn picked(
     nth_for(copies, receivers, whos, word % many)
 }
 
-/// The same of the copies with these numbers.
+/// Returns, of the copies of the mails with these numbers that are for the actors `whos`, the one
+/// at the place `word` modulo their number, if there is any.
 pub(crate) fn picked_of(
     alloc: Global,
     numbers: &[u32],
@@ -157,7 +161,7 @@ pub(crate) fn picked_of(
     picked(copies.as_slice(), receivers, whos, word)
 }
 
-// Each of the numbers as one copy.
+// Returns each of the numbers as an entry with one copy.
 fn each_once(alloc: Global, numbers: &[u32]) -> Result<Copies, OutOfMemory>
     ensures { IfOk result (λ copies. copies_in copies.items ≡ numbers.now) }
 {

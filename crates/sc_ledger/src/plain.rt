@@ -1,4 +1,4 @@
-//! The plain form of the look-up of pending mail, which goes through all rows.
+//! The plain form of the search for pending mail, which goes through all rows.
 ghost use Rattle.std.specs.Prelude.{◌≡◌, ◌<◌, ◌+◌, ◌^◌, ◌-◌, ◌++◌, ◌∷◌, [], ℕ, map, replicate, length, slice_index, IfOk, OnOk, if◌then◌else◌};
 ghost use Rattle.sc_actor.specs.Mail.{mails, counts_at, is_crash};
 ghost use Rattle.sc_ledger.specs.Pending.{kth_pending};
@@ -9,7 +9,7 @@ use sc_actor::{Parcel, Row};
 use sc_base::OutOfMemory;
 use std::alloc::Global;
 
-// Adds a row to the counts, the receivers and the crashed.
+// Adds a row to the counts, the receivers and the crashed actors.
 fn count_row<M: Parcel, O>(
     counts: &mut Vec<u32>,
     receivers: &mut Vec<u32>,
@@ -36,7 +36,8 @@ fn count_row<M: Parcel, O>(
     Ok(())
 }
 
-/// The number of the k-th pending mail after these rows.
+/// Returns the number of the k-th pending mail, counted from 1, after these rows, of actor `who`,
+/// or of all where `who` is 0.
 pub(crate) fn kth_after<M: Parcel, O>(
     alloc: Global,
     rows: &[Row<M, O>],

@@ -14,7 +14,7 @@ use sc_actor::{Event, Parcel, Row};
 use sc_base::OutOfMemory;
 use std::alloc::Global;
 
-/// The pending mail of all, and of each actor from 1 on.
+/// The queue of all pending mail, and one queue for each actor from 1 on.
 #[derive(Drop)]
 pub struct Queues {
     pub(crate) all: Copies,
@@ -25,7 +25,7 @@ impl Queues {
     ghost use Rattle.sc_ledger.specs.Queues.{Holds, kept, queue_of, recounted};
     ghost use Rattle.sc_ledger.specs.Spots.{copies_for, picked_spot, spots_from};
 
-    /// Empty queues for so many actors.
+    /// Returns empty queues for `actors` actors.
     pub(crate) fn new(alloc: Global, actors: u32) -> Result<Queues, OutOfMemory>
         ensures { IfOk result (λ q. Holds q actors [] [] []) }
     {
@@ -38,7 +38,8 @@ impl Queues {
         Ok(Queues { all, each })
     }
 
-    /// The number of the k-th pending mail of an actor, or of all where `who` is 0.
+    /// Returns the number of the k-th pending mail, counted from 1, of actor `who`, or of all where
+    /// `who` is 0.
     pub(crate) fn kth(&self, who: u32, k: u32) -> Option<u32>
         requires who { who ≤ length self.now.each.items }
         requires first { 0 < k }
@@ -50,14 +51,15 @@ impl Queues {
         kth_in(self.each[who as usize - 1].as_slice(), k)
     }
 
-    /// The numbers of all pending mail, each as often as it has copies.
+    /// Returns the numbers of all pending mail, each as often as it has copies.
     pub(crate) fn numbers(&self, alloc: Global) -> Result<Vec<u32>, OutOfMemory>
         ensures { IfOk result (λ found. found.items ≡ copies_in self.now.all.items) }
     {
         numbers_in(alloc, self.all.as_slice())
     }
 
-    /// Of the pending copies for these actors the one at the place that a word gives.
+    /// Returns, of the pending copies for the actors `whos`, the one at the place `word` modulo
+    /// their number, if there is any.
     pub(crate) fn picked(
         &self,
         receivers: &[u32],
@@ -70,7 +72,7 @@ impl Queues {
         picked(self.all.as_slice(), receivers, whos, word)
     }
 
-    // A mail to this receiver has `count` copies now.
+    // Sets the number of copies of a mail to `receiver`, in the queue of all and in the receiver's.
     fn set_copies(
         &mut self,
         receiver: u32,
@@ -91,7 +93,7 @@ impl Queues {
         recount(own, number, back, count)
     }
 
-    // A new mail to this receiver has one copy.
+    // Appends a new mail to `receiver`, with one copy, to the queue of all and to the receiver's.
     fn add_copy(&mut self, receiver: u32, number: u32) -> Result<(), OutOfMemory>
         requires receiver { (0 < receiver) × (receiver ≤ length self.old.each.items) }
         ensures all { OnOk result (self.new.all.items ≡ self.old.all.items ++ (number, 1) ∷ []) }
@@ -105,7 +107,8 @@ impl Queues {
         add_last(own, number, 1)
     }
 
-    // The mail with this number has one copy more, or one less where it has any.
+    // Adds a copy of the mail with this number, or with `more` false removes one where there is
+    // any.
     fn change(
         &mut self,
         actors: u32,
@@ -138,7 +141,8 @@ impl Queues {
         }
     }
 
-    // One more mail was sent.
+    // Adds the mail `number`, just sent to `receiver`, if the receiver is an actor that has not
+    // crashed.
     fn add(
         &mut self,
         actors: u32,
@@ -158,7 +162,7 @@ impl Queues {
         self.add_copy(receiver, number)
     }
 
-    // The actor `who` has crashed.
+    // Removes the mail of the actor `who`, which has crashed.
     fn crash(
         &mut self,
         alloc: Global,
@@ -183,7 +187,7 @@ impl Queues {
     }
 }
 
-/// The queues after an event. None for want of memory.
+/// Returns the queues after an event that is no crash. `None` where memory ran out.
 pub(crate) fn after_event<O>(
     queues: Option<Queues>,
     actors: u32,
@@ -214,14 +218,14 @@ pub(crate) fn after_event<O>(
     }
 }
 
-// Whether mail to this receiver is pending once `who` has crashed.
+// Returns whether mail with `count` copies to this receiver is pending once `who` has crashed.
 fn stays(actors: u32, crashed: &[u32], who: u32, receiver: u32, count: u32) -> bool
     ensures { result ≡ (counts_for actors (crashed.now ++ who ∷ []) 0 receiver && nat_lt 0 count) }
 {
     count > 0 && receiver != who && runs(actors, crashed, receiver)
 }
 
-// All that is pending once `who` has crashed.
+// Returns all pending mail once `who` has crashed.
 fn without(
     alloc: Global,
     actors: u32,
@@ -246,7 +250,8 @@ fn without(
     Ok(all)
 }
 
-/// The queues after a crash, if the event is one. None for want of memory.
+/// Returns the queues after the event, where it is a crash of `who`, and else unchanged. `None`
+/// where memory ran out.
 pub(crate) fn after_crash<O>(
     queues: Option<Queues>,
     alloc: Global,
@@ -277,7 +282,7 @@ pub(crate) fn after_crash<O>(
     }
 }
 
-/// The queues once these mails were sent. None for want of memory.
+/// Returns the queues once these mails were sent. `None` where memory ran out.
 pub(crate) fn after_sent<M: Parcel>(
     queues: Option<Queues>,
     actors: u32,
@@ -307,7 +312,8 @@ pub(crate) fn after_sent<M: Parcel>(
     Some(queues)
 }
 
-// Notes an event in the copies, the crashed and the queues. None for want of memory for these.
+// Notes an event in the counts, the crashed actors and the queues. `None`: memory for the queues
+// ran out, and the others are noted all the same.
 fn note_event<O>(
     queues: Option<Queues>,
     alloc: Global,
@@ -341,8 +347,8 @@ fn note_event<O>(
     queues
 }
 
-/// Notes a row in what is kept beside the rows, and in the queues. None for want of memory for
-/// these.
+/// Notes a row in the counts, the receivers, the crashed actors and the queues. `None`: memory for
+/// the queues ran out, and the others are noted all the same.
 pub(crate) fn note_row<M: Parcel, O>(
     queues: Option<Queues>,
     alloc: Global,

@@ -1,4 +1,4 @@
-//! Where each pending copy stands.
+//! Where each pending copy stands among its receiver's pending mail.
 ghost use Rattle.std.specs.Prelude.{◌≡◌, ◌+◌, ◌==◌, ◌++◌, ◌∷◌, [], List, IfOk, length, filter};
 ghost use Rattle.sc_ledger.specs.declared.spots.Spot.{Spot};
 ghost use Rattle.sc_ledger.specs.Spots.{AreCounted, IsNext, spot_after, spots_from};
@@ -10,29 +10,34 @@ use std::alloc::Global;
 /// from 1, among the receiver's pending mail.
 #[derive(Clone, Copy, Debug, PartialEq, Eq)]
 pub struct Spot {
+    /// The number of the mail.
     pub number: u32,
+    /// The receiver of the mail.
     pub who: u32,
+    /// The place among the receiver's pending mail, from 1.
     pub k: u32,
 }
 
 /// All that is pending at one moment.
 #[derive(Drop)]
 pub struct Look {
-    /// How many mails were sent so far.
+    /// The number of mails that were sent so far.
     pub sent: u32,
     /// Each pending copy of all mail, in ascending order of number.
     pub pending: Sequence<Spot>,
 }
 
-/// How many mails were sent so far, and of the pending copies for some actors one that was picked.
+/// The number of mails that were sent so far, and one pending copy that was picked.
 #[derive(Clone, Copy, Debug, PartialEq, Eq)]
 pub struct Glance {
+    /// The number of mails that were sent so far.
     pub sent: u32,
+    /// The copy that was picked, if there was any to pick.
     pub spot: Option<Spot>,
 }
 
-// How many of these copies have this receiver: by the count that is kept of it, or else by a look
-// at all of them.
+// Returns how many of the copies have the receiver `who`: by its count, where there is one, and
+// else by a look at all copies.
 fn copies_to(spots: &[Spot], counts: &[u32], who: u32) -> usize
     requires { AreCounted counts.now spots.now }
     ensures { result ≡ length (filter (λ s. s.who == who) spots.now) }
@@ -44,7 +49,7 @@ fn copies_to(spots: &[Spot], counts: &[u32], who: u32) -> usize
     spots.iter().filter(|s| s.who == who).count()
 }
 
-// The copy that comes after these.
+// Returns the copy of the mail `number` that comes after the copies `before`.
 fn spot_after(
     receivers: &[u32],
     before: &[Spot],
@@ -62,7 +67,7 @@ fn spot_after(
     Ok(Spot { number, who, k })
 }
 
-// Of each receiver up to `most`, that no copy has it.
+// Returns the counts of the receivers up to `most`, where there is no copy yet.
 fn no_counts(alloc: Global, most: u32) -> Result<Vec<u32>, OutOfMemory>
     ensures { IfOk result (λ counts. AreCounted counts.items []) }
 {
@@ -74,7 +79,7 @@ fn no_counts(alloc: Global, most: u32) -> Result<Vec<u32>, OutOfMemory>
     Ok(counts)
 }
 
-// Counts one copy more.
+// Counts one more copy of its receiver.
 fn count_spot(counts: &mut Vec<u32>, spot: Spot)
     ensures { (before : List Spot) → AreCounted counts.old.items before → IsNext before spot →
         AreCounted counts.new.items (before ++ spot ∷ []) }
@@ -85,8 +90,9 @@ fn count_spot(counts: &mut Vec<u32>, spot: Spot)
     }
 }
 
-/// The copies of these mails, each with its place. More than 2^32 - 1 are too many for the memory.
-/// It is fast where the receivers have the numbers up to `most`.
+/// Returns the copies of the mails with these numbers, each with its place. `Err(OutOfMemory)`
+/// comes also where a place would pass 2^32 - 1. It is fast where the receivers have the numbers up
+/// to `most`.
 pub(crate) fn spots_from(
     alloc: Global,
     most: u32,

@@ -1,4 +1,4 @@
--- What a clause says of an office, and of those who lend and help there.
+-- What the contracts say of an office, of its lender and of its helpers.
 use Rattle.std.specs.Prelude.{◌≡◌, ℕ, ◌+◌, ◌^◌, ◌≤◌, ◌⊎◌, List, length}
 use Rattle.crossbeam_queue.specs.Passes.{Pass, view, IsPassOf, ruled_capacity}
 use Rattle.sc_lend.specs.declared.rule.Loan.{Loan}
@@ -7,30 +7,30 @@ use Rattle.sc_lend.specs.declared.office.Office.{Office}
 use Rattle.sc_lend.specs.declared.lender.Lender.{Lender}
 
 module _ {T : Type 0} where
-  -- all that was lent, in the order of its numbers
+  -- All that the lender has lent, in the order of the numbers.
   abbrev pub lent_by : Lender T → List T
   lent_by l = (view l.pass).lent
 
-  -- it lends at this office
+  -- The lender belongs to this office.
   abbrev pub IsLenderOf : Office T → Lender T → Type 0
   IsLenderOf office l = IsPassOf office.bench l.pass
 
-  -- it helps at this office
+  -- The pass is that of a helper of this office.
   abbrev pub IsHelperOf : Office T → Pass (Loan T) (Clerk T) → Type 0
   IsHelperOf office p = IsPassOf office.bench p
 
-  -- how much may be lent here at one time
+  -- How many loans can be out in this office at one time.
   abbrev pub room_of : Office T → ℕ
   room_of office = ruled_capacity office.bench
 
-  -- the flag that was set is the office's, by which those who help end
+  -- The flag `flag` is the one whose setting closes this office.
   abbrev pub IsClosed : Office T → ℕ → Type 0
   IsClosed office flag = flag ≡ office.closed.id
 
-  -- how much the lender has taken back
+  -- How many loans the lender has taken back.
   abbrev pub collected_by : Lender T → ℕ
   collected_by l = (view l.pass).out
 
-  -- why nothing can be lent: as much is lent and not taken back as there is room for, or no number is left
+  -- Why nothing can be lent: as many loans are lent and not taken back as there is room for, or no number is left.
   abbrev pub IsFull : Office T → Lender T → Type 0
   IsFull office l = (room_of office + collected_by l ≤ length (lent_by l)) ⊎ (length (lent_by l) + 1 ≡ 2 ^ 64)

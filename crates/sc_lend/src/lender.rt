@@ -1,11 +1,11 @@
-//! The one that lends.
+//! The lender of an office.
 ghost use Rattle.std.specs.Prelude.{◌≡◌, true, length};
 ghost use Rattle.crossbeam_queue.specs.Passes.{view};
 
 use crate::rule::{Clerk, Loan};
 use crossbeam_queue::Pass;
 
-/// The one that lends, with its pass and the number that it lends under next.
+/// The lender of an office, with its pass and the number of its next loan.
 #[derive(Drop)]
 pub struct Lender<T> {
     pub(crate) pass: Pass<Loan<T>, Clerk<T>>,

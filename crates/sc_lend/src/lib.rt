@@ -1,4 +1,4 @@
-//! Work that is lent to threads which are kept, and comes back.
+//! Work that is lent to threads which stay alive, and that comes back.
 #![tactic(auto)]
 
 mod lender;

@@ -14,23 +14,23 @@ use std::sync::{OnceLock, OnceToken, Wait};
 use std::thread;
 use std::thread::Threads;
 
-/// How often one that helps looks before it sleeps: more often than there are loans at one time, so
-/// that it comes to each that was not begun.
+/// The number of looks of a helper before it sleeps: more than there are loans at one time, so that
+/// it comes to each loan that nobody has begun.
 const LOOKS_TO_HELP: u32 = 32;
 
-/// How often the one that lends looks before it sleeps.
+/// The number of looks of the lender before it sleeps.
 const LOOKS_TO_COLLECT: u32 = 1_000;
 
-/// A queue of loans under the rule.
+/// A queue of loans under the rule `Lending`.
 pub type Bench<T> = RuledArrayQueue<Loan<T>, Clerk<T>, Lending<T>>;
 
-/// A pass of one that helps.
+/// A pass of a helper.
 pub type Helper<T> = Pass<Loan<T>, Clerk<T>>;
 
-/// What shows that an office is closed. It has no bytes.
+/// The proof that an office is closed. It has no bytes at run time.
 pub type Closed<'a> = OnceToken<'a, ()>;
 
-// What working leaves of a loan, which may have been worked before.
+// Returns the loan with its work worked by `f`, or unchanged where it was worked before.
 fn finished<T: Labour, F: Fn(T) -> T>(f: &F, loan: Loan<T>) -> Loan<T>
     requires calls { F.IsAlwaysCallable f.now }
     requires leaves { (x y : T) → FnReturns F.Fn f.now (x, tt) y → T.leaves x y }
@@ -51,7 +51,8 @@ fn finished<T: Labour, F: Fn(T) -> T>(f: &F, loan: Loan<T>) -> Loan<T>
     }
 }
 
-// Gives back what it may. The queue has room for all that is lent at one time, and else this waits.
+// Gives a loan back to the queue. The queue has room for all that is lent at one time; where it is
+// full all the same, this waits.
 fn give_back<T: Labour, R: Wait>(
     rt: &R,
     bench: &Bench<T>,
@@ -77,14 +78,15 @@ fn give_back<T: Labour, R: Wait>(
     unreachable!()
 }
 
-// The number on which a sleep waits.
+// Returns the low 32 bits of a count, on which a sleep waits.
 fn low(count: u64) -> u32 {
     (count % (1 << 32)) as u32
 }
 
-/// A place where work is lent: the queue, a flag that is set once, when it is closed, and two bells.
-/// One is rung when more is lent and at the end, the other when something is given back. The bells
-/// and the counts of those who sleep carry no fact: they only save looks.
+/// A place where work is lent: the queue, a flag that is set once when the office is closed, and
+/// two counters on which threads sleep. One counts what is lent and the close, the other what is
+/// given back. No contract speaks of these counters or of the counts of sleepers: they only save
+/// looks.
 #[derive(Drop)]
 pub struct Office<T: Labour> {
     pub(crate) bench: Bench<T>,
@@ -96,8 +98,8 @@ pub struct Office<T: Labour> {
 }
 
 impl<T: Labour> Office<T> {
-    // Takes what lies first, works it where it was not begun, and gives it back. Answers whether it
-    // was to be worked, and None where there was nothing.
+    // Takes the first loan in the queue, works it where nobody has, and gives it back. Returns
+    // whether it was worked here, or `None` where the queue was empty.
     fn help_once<F: Fn(T) -> T, R: Wait>(
         &self,
         rt: &R,
@@ -122,7 +124,7 @@ impl<T: Labour> Office<T> {
         Some(fresh)
     }
 
-    // Looks for something to be worked, and works it. False where there was nothing.
+    // Looks for a loan that nobody has worked, and works it. Returns whether it found one.
     fn help_some<F: Fn(T) -> T, R: Wait>(&self, rt: &R, f: &F, helper: &mut Helper<T>) -> bool
         requires calls { F.IsAlwaysCallable f.now }
         requires leaves { (x y : T) → FnReturns F.Fn f.now (x, tt) y → T.leaves x y }
@@ -139,7 +141,7 @@ impl<T: Labour> Office<T> {
         false
     }
 
-    // Helps until the office is closed, and sleeps where there is nothing to be worked.
+    // Helps until the office is closed, and sleeps where there is nothing to work.
     fn help<F: Fn(T) -> T, R: Wait>(&self, rt: &R, f: &F, mut helper: Helper<T>) -> Closed<'_>
         requires calls { F.IsAlwaysCallable f.now }
         requires leaves { (x y : T) → FnReturns F.Fn f.now (x, tt) y → T.leaves x y }
@@ -160,8 +162,8 @@ impl<T: Labour> Office<T> {
         unreachable!()
     }
 
-    /// Closes the office for good, and wakes those who help, who then end. Answers what shows that
-    /// it is closed, which is what each that helps needs to end.
+    /// Closes the office for good, wakes the helpers so that they can end, and returns the proof
+    /// that it is closed.
     pub fn close<R: Wait>(&self, rt: &R) -> Closed<'_>
         ensures closed { IsClosed self.now result.of }
     {
@@ -171,9 +173,9 @@ impl<T: Labour> Office<T> {
         closed
     }
 
-    /// Lends a piece of work, behind all that was lent before, and answers its number there, from 0 on;
-    /// or hands it back, and lends nothing. That is only where the queue is full of what was lent, or
-    /// no number is left.
+    /// Lends a piece of work, and returns its number, counted from 0 among all that this lender has
+    /// lent. `Err`: the work is handed back and nothing is lent; this comes only where as many
+    /// loans are out as there is room for, or no number is left.
     pub fn lend<R: Wait>(&self, rt: &R, lender: &mut Lender<T>, work: T) -> Result<u64, T>
         requires pass { IsLenderOf self.now lender.old }
         ensures pass { IsLenderOf self.now lender.new }
@@ -212,7 +214,7 @@ impl<T: Labour> Office<T> {
         }
     }
 
-    // Tells those who sleep that more is lent. One wakes.
+    // Counts a new loan, and wakes one helper, if any sleeps.
     fn ring(&self) {
         self.bell.fetch_add(1, Ordering::SeqCst);
         if self.asleep.load(Ordering::SeqCst) != 0 {
@@ -220,8 +222,8 @@ impl<T: Labour> Office<T> {
         }
     }
 
-    // A look for what is left of what was lent under this number. What is found and was not begun is
-    // worked here.
+    // Takes one loan and returns it if it has the number `wanted`. Where nobody has worked it, it
+    // is worked here first; a loan of another number is given back.
     fn look<F: Fn(T) -> T, R: Wait>(
         &self,
         rt: &R,
@@ -255,7 +257,7 @@ impl<T: Labour> Office<T> {
         Some(work)
     }
 
-    // Looks for what is left of what was lent under this number.
+    // Looks several times for what is left of the loan `wanted`.
     fn looks<F: Fn(T) -> T, R: Wait>(
         &self,
         rt: &R,
@@ -281,8 +283,9 @@ impl<T: Labour> Office<T> {
         None
     }
 
-    /// What is left of what was lent under this number. Where nobody has begun it, it is worked
-    /// here.
+    /// Takes back what is left of the work that was lent under the number `wanted`, and works it
+    /// here where nobody has begun it. It may block for ever: no clause says that the loan comes
+    /// back.
     pub fn collect<F: Fn(T) -> T, R: Wait>(
         &self,
         rt: &R,
@@ -311,8 +314,9 @@ impl<T: Labour> Office<T> {
     }
 }
 
-/// Those who help, each in a thread of its own where one can be made, until the office is closed.
-/// Answers for each what shows that it is. Without memory none may help.
+/// Runs the helpers until the office is closed, each in a thread of its own where one can be
+/// started. Returns for each the proof that the office is closed. `Err(AllocError)`: there was no
+/// memory, and there may be no helper.
 pub fn help_all<'a, T: Labour + Send, F: Fn(T) -> T + Sync, R: Threads + Wait + Sync>(
     rt: &R,
     office: &'a Office<T>,
@@ -328,7 +332,7 @@ pub fn help_all<'a, T: Labour + Send, F: Fn(T) -> T + Sync, R: Threads + Wait + 
     thread::map_vec(rt, helpers, &|helper| office.help(rt, f, helper))
 }
 
-// So many passes of those who help.
+// Splits off `many` passes for helpers.
 fn hired<T: Labour>(
     alloc: Global,
     bench: &Bench<T>,
@@ -347,7 +351,8 @@ fn hired<T: Labour>(
     Ok(passes)
 }
 
-/// A new office, in which so much may be lent at one time, with so many passes for those who help.
+/// Returns a new office with room for `room` loans at one time, its lender, and the passes of
+/// `helpers` helpers.
 pub fn open<T: Labour>(
     alloc: Global,
     room: usize,

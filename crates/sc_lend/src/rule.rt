@@ -1,38 +1,42 @@
-//! What a queue of loans keeps, and what those who use it know.
+//! The rule of a queue of loans, and what the holders of its passes know.
 use crossbeam_queue::protocol::{Lesson, Outcome, Protocol, Split};
 use std::collections::LinkedList;
 use std::marker::PhantomData;
 
-/// What can be lent to be worked.
+/// Work that can be lent.
 pub trait Labour: Drop {
-    /// What may be left of it when it was worked.
+    /// Whether the second value is what working may leave of the first.
     ghost leaves: { Self → Self → Type 0 };
 }
 
-/// A piece of work that was lent, with its number among all that were, counted from 0, and whether
-/// it was worked.
+/// A piece of work that was lent, with its number among all that were lent, counted from 0, and
+/// whether it was worked.
 #[derive(Drop)]
 pub struct Loan<T> {
+    /// The number of the loan, from 0.
     pub number: u64,
+    /// Whether it was worked.
     pub done: bool,
+    /// The piece of work, or what working has left of it.
     pub work: T,
 }
 
-/// What a pass to the queue knows. No value of it is made.
+/// What the holder of a pass to the queue knows. No value of this type exists at run time;
+/// contracts speak of it.
 pub struct Clerk<T> {
-    /// Whether it is the one that lends.
+    /// Whether this is the pass that lends.
     pub lends: bool,
-    /// What it lent.
+    /// The work that the pass has lent, in the order of the numbers.
     pub lent: LinkedList<T>,
-    /// What it took, which it may give back.
+    /// The loans that the pass has taken, and so may give back.
     pub held: LinkedList<Loan<T>>,
-    /// How much it took and did not give back.
+    /// The number of loans that the pass has taken and not given back.
     pub out: u64,
 }
 
-/// The rule. Between any two steps each loan in the queue is what was lent under its number, or,
-/// where it is done, what working may leave of that; and what lies there and what was taken and not
-/// given back is as much as was lent.
+/// The rule of the queue: between any two steps each loan in it is what was lent under its number,
+/// or, where it is done, what working may leave of that. The loans in the queue and those that were
+/// taken and not given back are as many as were lent.
 pub struct Lending<T> {
     marker: PhantomData<T>,
 }
@@ -45,7 +49,7 @@ impl<T: Labour> Protocol<Loan<T>, Clerk<T>> for Lending<T> {
     ghost first = { lender };
 }
 
-/// A new pass, which lends nothing.
+/// The step that splits off a new pass, which does not lend.
 pub struct Hire<T> {
     marker: PhantomData<T>,
 }
@@ -58,7 +62,7 @@ impl<T> Split<Clerk<T>> for Hire<T> {
     ghost right = { λ _. helper };
 }
 
-/// A loan, at which no more is in the queue than this pass has lent and not taken back.
+/// The step that lends. The queue then holds at most what this pass has lent and not taken back.
 pub struct Lends<T> {
     marker: PhantomData<T>,
 }
@@ -76,7 +80,7 @@ impl<T> Lesson<Loan<T>, Clerk<T>> for Lends<T> {
     ghost fact = { IsOut };
 }
 
-/// A take, at which the one that lends learns of what it lent.
+/// The step that takes a loan. To the pass that lends it is a loan of what it has lent.
 pub struct Takes<T> {
     marker: PhantomData<T>,
 }
@@ -93,7 +97,7 @@ impl<T: Labour> Lesson<Loan<T>, Clerk<T>> for Takes<T> {
     ghost fact = { λ _ _. ⊤ };
 }
 
-/// Something is given back.
+/// The step that gives a loan back.
 pub struct GivesBack<T> {
     marker: PhantomData<T>,
 }

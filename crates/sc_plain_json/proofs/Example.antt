@@ -11,7 +11,7 @@ named_count count name = object (member (codes "count") (number (unsigned count)
 named_counts_are_plain : (n count : ℕ) (name : List ℕ) → count < 2 ^ 64 → is_seven_bit name ≡ true → IsPlain (suc (suc n)) (named_count count name)
 named_counts_are_plain n count name fits text = (refl, fits, refl, (refl, text, tt, tt))
 
--- the same at the greatest depth that a reader takes
+-- the text is read back at the greatest depth that a parser accepts
 named_counts_are_plain_for_readers : (count : ℕ) (name : List ℕ) → count < 2 ^ 64 → is_seven_bit name ≡ true → IsPlain 127 (named_count count name)
 named_counts_are_plain_for_readers count name fits text = (refl, fits, refl, (refl, text, tt, tt))
 

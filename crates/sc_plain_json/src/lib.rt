@@ -1,5 +1,5 @@
-//! The JSON that journals hold: plain data, whose one text is ASCII on one line and is read back as
-//! that data. Definitions and laws, no logic.
+//! The JSON that journals hold: plain data, whose one text is ASCII on one line, and from which the
+//! data are read back. Definitions and a law; no code runs.
 #![tactic(auto)]
 
 ghost use Rattle.std.specs.Prelude.{◌≡◌, ◌≤◌, ℕ, List, length, Bool, true, false, Some, IsUtf8};
@@ -9,11 +9,10 @@ ghost use Rattle.serde_json.specs.Read.{read};
 ghost use Rattle.serde_json.specs.Written.{has_float, compact_text, items_text, members_text};
 ghost use Rattle.sc_plain_json.specs.Plain.{IsPlain, is_one_line};
 
-/// The text that is written for plain data is read back as that data, to the depth that a reader
-/// takes: a journal's line says one row, and the row has one line. `whole` is what the writer asks
-/// of its value, `utf8` what makes the bytes a text, and `one_line` that a line ends where its row
-/// does. The last three bound a list's count and the texts of parts by the text that holds them,
-/// so that what fits as a whole fits in each part.
+/// Shows that the text which is written for plain data is read back as these data, for data that
+/// nest at most 127 deep. `whole` is what the writer asks of its value, `utf8` what makes the bytes
+/// a text, and `one_line` that the text has no line feed. `items`, `item_parts` and `member_parts`
+/// bound a list's length, and the lengths of the texts of parts, by the text that holds them.
 pub fn plain_values_read_back()
     ensures whole { (d : Data) → IsPlain 127 d → has_float d ≡ false }
     ensures back { (d : Data) → IsPlain 127 d → read (compact_text d) ≡ Some d }

@@ -1,4 +1,4 @@
-//! Where the shells of a phase are.
+//! Where the shells of a phase are: the law of one holder.
 ghost use Rattle.std.specs.Prelude.{◌≡◌, ◌+◌, ℕ, List};
 ghost use Rattle.sc_shell.specs.declared.shells.Shell.{Shell};
 ghost use Rattle.sc_queue.specs.declared.rule.Hand.{Hand};
@@ -8,9 +8,9 @@ ghost use Rattle.sc_workers.specs.Holders.{put_of, queued_of, taken_of, HasOneHo
 
 use sc_actor::Actor;
 
-/// Between any two steps each shell that was put into the queue of a phase is in the queue or with
-/// one holder, and was taken at most once: `Kept` holds then, of what lies in the queue and of what
-/// its holders know. A shell is known by its actor's number.
+/// Shows that where the rule of the queue holds (`Kept`), each shell that was put into the queue of
+/// a phase is in the queue or with one holder, and was taken at most once. A shell is known by its
+/// actor's number.
 pub fn shells_have_one_holder<A: Actor>()
     ensures all { (items : List (Item (Shell A A.Mail A.Order A.Actor A.Mail.Parcel)))
         (views : List (Hand (Shell A A.Mail A.Order A.Actor A.Mail.Parcel)))

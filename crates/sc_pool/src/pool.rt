@@ -12,17 +12,16 @@ use std::alloc::Global;
 use std::sync::Wait;
 use std::thread::Threads;
 
-/// Phases, until nothing is pending for the shells' actors, `limit` deliveries were made, or a row
-/// is refused.
+/// Plays phases until nothing is pending for the shells' actors, `limit` deliveries were made, or a
+/// row is refused. Returns how many deliveries were made, and why it ended.
 ///
 /// Before each phase every shell meets `net`, which is the network's port and makes no row. With d
-/// deliveries left and s shells, of which there are no more than d, a phase puts each shell once
-/// into a queue, with a grant of d / s turns, 16 at most. Up to `workers` workers, one for every two
-/// shells with mail and two where there are two, take shells from it, each the next one, and give it
-/// turns until the grant is used or a turn makes no row; then the shells are put back in their
-/// order. Where fewer deliveries are left than there are shells, they take turns one after the
-/// other. A phase in which no turn is refused makes at least one delivery. Without memory shells may
-/// be lost.
+/// deliveries left and s shells, s at most d, a phase puts each shell once into a queue, with a
+/// grant of d / s turns, at most 16. Up to `workers` workers (one for every two shells with mail,
+/// and two where there are two) take shells from it, each the next one, and give it turns until the
+/// grant is used or a turn makes no row. Then the shells are put back in their order. Where fewer
+/// deliveries are left than there are shells, the shells take turns one after the other. A phase in
+/// which no turn is refused makes at least one delivery. Where memory runs out, shells may be lost.
 pub fn pool_rounds<A: Actor, G: Gate, R: Threads + Wait + Sync>(
     rt: &R,
     alloc: Global,

@@ -1,4 +1,4 @@
-//! Threads that work a queue off.
+//! Threads that work through one queue until it is empty.
 ghost use Rattle.std.specs.Prelude.{◌≡◌, ◌<◌, ◌≤◌, ◌-◌, ◌+◌, true, [], List, length, map, All, vec_len, ℕ, IfOk, OnOk, slice_set};
 ghost use Rattle.crossbeam_queue.specs.Fifo.{Held};
 ghost use Rattle.crossbeam_queue.specs.Passes.{view, IsPassOf, ruled_capacity};
@@ -12,13 +12,14 @@ use std::sync::Wait;
 use std::thread;
 use std::thread::Threads;
 
-/// A queue under the rule.
+/// A queue under the rule `OneHolder`.
 pub(crate) type Bench<T> = RuledArrayQueue<Item<T>, Hand<T>, OneHolder<T>>;
 
-/// One of the passes to it. It has no bytes, and shows what was put and taken by it.
+/// A pass to the queue. It has no bytes at run time; contracts read off it what was put and taken
+/// by it.
 pub type Holder<T> = Pass<Item<T>, Hand<T>>;
 
-// Puts one more. There is room, since no more is in the queue than this pass has put.
+// Puts one more element. There is room, since the queue holds at most what this pass has put.
 fn put<T: Drop, R: Wait>(rt: &R, bench: &Bench<T>, pass: &mut Holder<T>, work: T, place: usize)
     requires pass { IsPassOf bench.now pass.old }
     requires puts { (view pass.old).puts ≡ true }
@@ -34,7 +35,7 @@ fn put<T: Drop, R: Wait>(rt: &R, bench: &Bench<T>, pass: &mut Holder<T>, work: T
     }
 }
 
-// Puts all.
+// Puts all elements, each with its place.
 fn put_all<T: Drop, R: Wait>(rt: &R, bench: &Bench<T>, pass: &mut Holder<T>, all: Vec<T>)
     requires pass { IsPassOf bench.now pass.old }
     requires fresh { view pass.old ≡ opener }
@@ -49,7 +50,7 @@ fn put_all<T: Drop, R: Wait>(rt: &R, bench: &Bench<T>, pass: &mut Holder<T>, all
     }
 }
 
-// So many more passes.
+// Splits off `many` passes that take.
 fn cut<T: Drop>(
     alloc: Global,
     bench: &Bench<T>,
@@ -71,7 +72,8 @@ fn cut<T: Drop>(
     Ok(passes)
 }
 
-/// What one thread did: its pass, what came of what it took, and whether it found the queue empty.
+/// What one thread has done: its pass, its results with their places, and whether it ended because
+/// the queue was empty.
 #[derive(Drop)]
 pub(crate) struct Done<T, X> {
     pub pass: Holder<T>,
@@ -79,8 +81,8 @@ pub(crate) struct Done<T, X> {
     pub whole: bool,
 }
 
-// Takes and works until the queue is empty, or there is no memory to keep more: so nothing that
-// was taken is lost.
+// Takes items and works them until the queue is empty, or there is no memory to keep another
+// result. The memory is reserved before an item is taken, so no item is lost.
 fn work<T: Drop, X: Drop, F: Fn(T) -> X, R: Wait>(
     rt: &R,
     alloc: Global,
@@ -122,7 +124,7 @@ fn work<T: Drop, X: Drop, F: Fn(T) -> X, R: Wait>(
     unreachable!()
 }
 
-// Puts one into its place.
+// Writes one result at its place.
 fn keep<X: Drop>(slots: &mut Vec<Option<X>>, place: usize, work: X)
     requires { place < vec_len slots.old }
     ensures { slots.new.items ≡ slice_set slots.old.items place (Some work) }
@@ -130,7 +132,7 @@ fn keep<X: Drop>(slots: &mut Vec<Option<X>>, place: usize, work: X)
     slots[place] = Some(work);
 }
 
-// Puts each into its place.
+// Writes each result at its place.
 fn fill<X: Drop>(slots: &mut Vec<Option<X>>, kept: Vec<Item<X>>)
     requires { AllInside (vec_len slots.old) kept.items }
     ensures { slots.new.items ≡ filled slots.old.items kept.items }
@@ -141,7 +143,7 @@ fn fill<X: Drop>(slots: &mut Vec<Option<X>>, kept: Vec<Item<X>>)
     }
 }
 
-// So many empty places.
+// Returns `many` empty slots.
 fn vacant<X: Drop>(alloc: Global, many: usize) -> Result<Vec<Option<X>>, AllocError>
     ensures len { IfOk result (λ v. vec_len v ≡ many) }
     ensures free { IfOk result (λ v. AllFree v.items) }
@@ -153,7 +155,7 @@ fn vacant<X: Drop>(alloc: Global, many: usize) -> Result<Vec<Option<X>>, AllocEr
     Ok(slots)
 }
 
-// What lies in the places, in order.
+// Returns the contents of the slots, in order.
 fn unwrapped<X: Drop>(alloc: Global, slots: Vec<Option<X>>) -> Result<Vec<X>, AllocError>
     requires { AllThere slots.items }
     ensures { IfOk result (λ v. map (λ x. Some x) v.items ≡ slots.items) }
@@ -168,8 +170,8 @@ fn unwrapped<X: Drop>(alloc: Global, slots: Vec<Option<X>>) -> Result<Vec<X>, Al
     Ok(all)
 }
 
-// Each pass works in a thread of its own, where one can be made, but one, which works in the
-// caller's.
+// Works with each of these passes, one in the caller's thread and each other one in a thread of its
+// own, where one can be started.
 fn by_threads<T: Send + Drop, X: Send + Drop, F: Fn(T) -> X + Sync, R: Threads + Wait + Sync>(
     rt: &R,
     alloc: Global,
@@ -186,7 +188,7 @@ fn by_threads<T: Send + Drop, X: Send + Drop, F: Fn(T) -> X + Sync, R: Threads +
     thread::map_vec(rt, passes, &|pass| work(rt, alloc, bench, f, pass))
 }
 
-// The one that puts takes in what one thread did.
+// Takes in the pass and the results of one thread.
 fn gather_one<T: Drop, X: Drop, F: Fn(T) -> X>(
     bench: &Bench<T>,
     f: &F,
@@ -213,7 +215,7 @@ fn gather_one<T: Drop, X: Drop, F: Fn(T) -> X>(
     Ok(())
 }
 
-// The one that puts takes in what all threads did.
+// Takes in the passes and the results of all threads.
 fn gather<T: Drop, X: Drop, F: Fn(T) -> X>(
     bench: &Bench<T>,
     f: &F,
@@ -238,15 +240,18 @@ fn gather<T: Drop, X: Drop, F: Fn(T) -> X>(
     Ok(())
 }
 
-/// What calls gave with the elements of a list, in their order, and the pass that put them into the
-/// queue and took in all that took from it.
+/// What the calls returned, in the order of the elements, and the pass that put them into the queue
+/// and has taken in all passes that took.
 #[derive(Drop)]
 pub struct WorkedOff<T, X> {
+    /// What the calls returned, in the order of the elements.
     pub given: Vec<X>,
+    /// The pass that put the elements and has taken in the others.
     pub holder: Holder<T>,
 }
 
-// The one that puts, which has all parts again, works what is left, and puts all into order.
+// Works what is left in the queue, with the pass that has all parts again, and puts the results
+// into order.
 fn finish<T: Drop, X: Drop, F: Fn(T) -> X, R: Wait>(
     rt: &R,
     alloc: Global,
@@ -281,12 +286,14 @@ fn finish<T: Drop, X: Drop, F: Fn(T) -> X, R: Wait>(
     Ok(WorkedOff { given, holder })
 }
 
-/// What calls of `f` give with these, in their order. Each is put into one queue, once, from which so
-/// many threads take, the caller's among them: each is taken once, by one of them. The pass that
-/// comes back shows so: what was put is each of these, at its place, and it was taken once.
+/// Returns what calls of `f` return with the elements of `all`, in their order. Each element is put
+/// once into one queue, from which `threads` threads take, the caller's among them; then the caller
+/// works what is left. The pass that is returned shows that each element was put once, at its
+/// place, and taken once.
 ///
-/// Where no thread can be made, the calls run one after another. Without memory for the queue, its
-/// passes or what the calls give it is an error, and what was not worked yet is dropped.
+/// Where no thread can be started, the calls run one after another. `Err(AllocError)`: there was no
+/// memory for the queue, its passes or the results, and elements that were not worked yet are
+/// dropped.
 pub fn work_off<T: Send + Drop, X: Send + Drop, F: Fn(T) -> X + Sync, R: Threads + Wait + Sync>(
     rt: &R,
     alloc: Global,

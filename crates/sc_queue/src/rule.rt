@@ -1,28 +1,32 @@
-//! What a queue keeps, and what those who use it know.
+//! The rule of a queue, and what the holders of its passes know.
 use crossbeam_queue::protocol::{Join, Lesson, Outcome, Protocol, Split};
 use std::collections::LinkedList;
 use std::marker::PhantomData;
 
-/// A piece of work, with its place among all that are put, counted from 0.
+/// An element of the list, with its place there, counted from 0.
 #[derive(Drop)]
 pub struct Item<T> {
+    /// The place in the list, from 0.
     pub place: usize,
+    /// The element.
     pub work: T,
 }
 
-/// What a pass to the queue knows. No value of it is made.
+/// What the holder of a pass to the queue knows. No value of this type exists at run time;
+/// contracts speak of it.
 pub struct Hand<T> {
-    /// Its parts of the right to know the whole.
+    /// The parts that the pass has of the right to know the whole queue, of 32 in all.
     pub parts: u64,
-    /// Whether it is the one that puts.
+    /// Whether this is the pass that puts.
     pub puts: bool,
-    /// What it put, and what it took.
+    /// The items that the pass has put.
     pub put: LinkedList<Item<T>>,
+    /// The items that the pass has taken.
     pub taken: LinkedList<Item<T>>,
 }
 
-/// The rule. Between any two steps each item that was put is in the queue or was taken by one
-/// pass, once, and has the place at which it was put.
+/// The rule of the queue: between any two steps each item that was put is in the queue or was taken
+/// by one pass, once, and has the place at which it was put.
 pub struct OneHolder<T> {
     marker: PhantomData<T>,
 }
@@ -35,7 +39,8 @@ impl<T> Protocol<Item<T>, Hand<T>> for OneHolder<T> {
     ghost first = { opener };
 }
 
-/// A new pass, which has put and taken nothing.
+/// The step that splits off a new pass, which has put and taken nothing, and the one by which a
+/// pass takes in another.
 pub struct Cut<T> {
     marker: PhantomData<T>,
 }
@@ -56,7 +61,7 @@ impl<T> Join<Hand<T>> for Cut<T> {
     ghost spent = { idle };
 }
 
-/// A put, at which no more is in the queue than this pass has put.
+/// The step that puts an item. The queue then holds at most what this pass has put.
 pub struct Puts<T> {
     marker: PhantomData<T>,
 }
@@ -74,7 +79,7 @@ impl<T> Lesson<Item<T>, Hand<T>> for Puts<T> {
     ghost fact = { HasRoom };
 }
 
-/// A take, at which one with all parts knows the whole.
+/// The step that takes an item. A pass that puts and has all parts knows the whole queue then.
 pub struct Takes<T> {
     marker: PhantomData<T>,
 }

@@ -79,7 +79,7 @@ inserted (y ∷ ys) x place e = by (λ p. inserted ys x p) (below x.number y) re
     by more false t zero e = rw t refl
     by more false t (suc p) e = let h = other_copy x.number y ys t in absurd (omega (arith, e, h))
 
--- copies of lower numbers stay in front
+-- copies of lower numbers stay before it
 without-past : (count n to k : ℕ) (xs : List OpenCopy) → n < k → without (replicate count (copy_of n to) ++ xs) k ≡ replicate count (copy_of n to) ++ without xs k
 without-past zero n to k xs lt = refl
 without-past (suc count) n to k xs lt = without-lower k (copy_of n to) (replicate count (copy_of n to) ++ xs) (lt-ltb n k lt) ∙ ap (λ zs. copy_of n to ∷ zs) (without-past count n to k xs lt)

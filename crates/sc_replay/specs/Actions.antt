@@ -1,4 +1,4 @@
--- Who acts next by a task, at what event: by the numbers of the actors and the rows alone.
+-- The action that a line or a step allows next, which is an actor and an event, by the numbers of the actors and the rows alone.
 use Rattle.std.specs.Prelude.{ℕ, zero, suc, ◌+◌, ◌%◌, ◌==◌, List, length, slice_get, Bool, true, false, ◌&&◌, ◌||◌, not, if◌then◌else◌, Option, None, Some, option_and_then}
 use Rattle.std.specs.Option.{option_map}
 use Rattle.std.specs.List.{list_any}
@@ -11,7 +11,7 @@ use Rattle.sc_actor.specs.Mail.{mails, numbered, may_get, pending}
 use Rattle.sc_actor.specs.System.{System, acts, network, kth, has_gone}
 use Rattle.sc_replay.specs.declared.stages.Action.{Action}
 
--- the events of the network
+-- Whether the event is one of the network: a drop or a repeat.
 abbrev pub is_of_network : {O : Type 0} → Event O → Bool
 is_of_network (Drop mail) = true
 is_of_network (Again mail) = true
@@ -21,36 +21,36 @@ is_of_network Go = false
 is_of_network (Told order) = false
 is_of_network Crash = false
 
--- whether there is an actor with this number
+-- Whether there is an actor with this number.
 abbrev pub is_number : List ℕ → ℕ → Bool
 is_number numbers who = list_any (λ number. number == who) numbers
 
--- an action of the network, or of an actor that there is
+-- Whether the action is one of the network, or of an actor that there is.
 abbrev pub can_act : {O : Type 0} → List ℕ → Action O → Bool
 can_act numbers action = is_of_network action.event || is_number numbers action.who
 
--- the row that an action makes
+-- The row that an action makes after these rows.
 abbrev pub row_made : {A M O : Type 0} → System A M O → List (Row M O) → Action O → Option (Row M O)
 row_made s rows action = if is_of_network action.event then Some (network action.event) else acts s rows action.who action.event
 
--- the action of this actor and event
+-- The action with this actor and this event.
 abbrev pub action : {O : Type 0} → ℕ → Event O → Action O
 action who event = record { who = who; event = event }
 
--- whether the test holds of what is there
+-- Whether there is a value, and the test holds of it.
 abbrev pub holds_of : {M : Type 0} → (M → Bool) → Option M → Bool
 holds_of test None = false
 holds_of test (Some mail) = test mail
 
--- whether a mail was sent to an actor that has not crashed
+-- Whether the mail with this number was sent to an actor that has not crashed.
 abbrev pub may_come_again : {M O : Type 0} → (M → ℕ) → List ℕ → List (Row M O) → ℕ → Bool
 may_come_again receiver numbers rows mail = holds_of (λ m. may_get numbers rows (receiver m)) (numbered (mails rows) mail)
 
--- the value, if the test holds
+-- The value, if the test holds.
 abbrev pub when : {X : Type 0} → Bool → X → Option X
 when b x = if b then Some x else None
 
--- the action of a line of one row
+-- The action of a line of one row after these rows, or none where the line makes no row or is one of many.
 abbrev pub line_action : {M O : Type 0} → (M → ℕ) → List ℕ → List (Row M O) → Line O → Option (Action O)
 line_action receiver numbers rows (GoLine who) = when (is_number numbers who && not (has_gone rows who)) (action who Go)
 line_action receiver numbers rows (DeliverLine who k) = option_map (λ mail. action who (Deliver mail)) (kth (pending receiver numbers rows (Some who)) k)
@@ -63,28 +63,28 @@ line_action receiver numbers rows (Settle most) = None
 line_action receiver numbers rows (Free most workers) = None
 line_action receiver numbers rows (Storm number most) = None
 
--- the delivery of a mail to its receiver
+-- The delivery of the mail with this number to its receiver.
 abbrev pub delivery_action : {M O : Type 0} → (M → ℕ) → List (Row M O) → ℕ → Option (Action O)
 delivery_action receiver rows mail = option_map (λ m. action (receiver m) (Deliver mail)) (numbered (mails rows) mail)
 
--- the delivery of the lowest-numbered pending mail of all
+-- The delivery of the lowest-numbered pending mail of all actors.
 abbrev pub lowest_action : {M O : Type 0} → (M → ℕ) → List ℕ → List (Row M O) → Option (Action O)
 lowest_action receiver numbers rows = option_and_then (delivery_action receiver rows) (kth (pending receiver numbers rows None) 1)
 
--- The delivery that a line of many may make next: the lowest of all, or, where it is free, the first of one actor.
+-- The delivery that a line of many may make next: for a `settle` line the lowest-numbered of all, for a `free` line the first of the actor `who`.
 abbrev pub chosen_action : {M O : Type 0} → (M → ℕ) → List ℕ → List (Row M O) → Bool → ℕ → Option (Action O)
 chosen_action receiver numbers rows true who = line_action receiver numbers rows (DeliverLine who 1)
 chosen_action receiver numbers rows false who = lowest_action receiver numbers rows
 
--- the pending mail at the place that a word gives
+-- The number of the pending mail at the place `v` modulo their number, from 0.
 abbrev pub picked_mail : {M O : Type 0} → (M → ℕ) → List ℕ → List (Row M O) → ℕ → Option ℕ
 picked_mail receiver numbers rows v = slice_get (pending receiver numbers rows None) (v % length (pending receiver numbers rows None))
 
--- a tick of an actor that has not crashed
+-- The tick of an actor that has not crashed.
 abbrev pub tick_action : {M O : Type 0} → List ℕ → List (Row M O) → ℕ → Option (Action O)
 tick_action numbers rows who = when (may_get numbers rows who) (action who Tick)
 
--- The action of a step of a storm, by the first word modulo 16: 0 drops, 1 repeats, 2 ticks and the others deliver what the second word picks.
+-- The action of a step of a storm, by the first word modulo 16 (0 drops, 1 repeats, 2 ticks, others deliver) and by the second, which picks the mail or the actor.
 abbrev pub storm_action : {M O : Type 0} → (M → ℕ) → List ℕ → List (Row M O) → ℕ → ℕ → Option (Action O)
 storm_action receiver numbers rows zero v = option_map (λ mail. action 0 (Drop mail)) (picked_mail receiver numbers rows v)
 storm_action receiver numbers rows (suc zero) v = line_action receiver numbers rows (AgainLine (1 + v % length (mails rows)))

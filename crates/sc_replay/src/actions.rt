@@ -1,4 +1,4 @@
-//! Who acts next by a line, at what event.
+//! The action that a line or a step of a storm allows next.
 ghost use Rattle.std.specs.Prelude.{◌≡◌, true, IfOk, IfSome};
 ghost use Rattle.sc_actor.specs.System.{numbers_of};
 ghost use Rattle.sc_replay.specs.Actions.{line_action, lowest_action, may_come_again, when, can_act, storm_action};
@@ -10,7 +10,7 @@ use sc_actor::{Event, Line, Parcel};
 use sc_base::{Dup, OutOfMemory};
 use std::alloc::Global;
 
-// Whether a mail was sent to an actor that has not crashed.
+// Returns whether the mail was sent to an actor that has not crashed.
 fn may_come_again<A, M: Parcel, O>(stage: &Stage<A, M, O>, mail: u32) -> bool
     requires { IsUpToDate M.receiver stage.now }
     ensures { result
@@ -23,7 +23,7 @@ fn may_come_again<A, M: Parcel, O>(stage: &Stage<A, M, O>, mail: u32) -> bool
     may_get(stage, receiver)
 }
 
-// The action, if it may come.
+// Returns the action, if it may come.
 fn when_may<O: Drop>(may: bool, who: u32, event: Event<O>) -> Option<Action<O>>
     ensures { result ≡ when may (record { who = who; event = event }) }
 {
@@ -43,7 +43,7 @@ fn go<A, M: Parcel, O: Drop>(stage: &Stage<A, M, O>, who: u32) -> Option<Action<
     when_may(may, who, Event::Go)
 }
 
-/// The action of a line of one row, or none where the line is skipped.
+/// Returns the action of a line of one row, or `None` where the line is skipped.
 pub(crate) fn line_action<A, M: Parcel, O: Dup + Drop>(
     alloc: Global,
     stage: &Stage<A, M, O>,
@@ -81,7 +81,8 @@ pub(crate) fn line_action<A, M: Parcel, O: Dup + Drop>(
     })
 }
 
-/// The delivery of the lowest-numbered pending mail of all, or none where no mail is pending.
+/// Returns the delivery of the lowest-numbered pending mail of all, or `None` where no mail is
+/// pending.
 pub(crate) fn lowest_action<A, M: Parcel, O>(stage: &Stage<A, M, O>) -> Option<Action<O>>
     requires { IsUpToDate M.receiver stage.now }
     ensures is { result
@@ -98,7 +99,8 @@ pub(crate) fn lowest_action<A, M: Parcel, O>(stage: &Stage<A, M, O>) -> Option<A
     }
 }
 
-/// The delivery of the first pending mail of an actor, or none where it has no pending mail.
+/// Returns the delivery of the first pending mail of an actor, or `None` where no mail is pending
+/// for it.
 pub(crate) fn first_action<A, M: Parcel, O>(stage: &Stage<A, M, O>, who: u32) -> Option<Action<O>>
     requires { IsUpToDate M.receiver stage.now }
     ensures is { result
@@ -116,7 +118,7 @@ pub(crate) fn first_action<A, M: Parcel, O>(stage: &Stage<A, M, O>, who: u32) ->
     }
 }
 
-// The mail that a word picks is repeated, if its receiver may get it.
+// Returns the repeat of the mail that the word picks, if its receiver may get it.
 fn repeated<A, M: Parcel, O: Drop>(stage: &Stage<A, M, O>, word: u32) -> Option<Action<O>>
     requires { IsUpToDate M.receiver stage.now }
     ensures { result
@@ -129,7 +131,7 @@ fn repeated<A, M: Parcel, O: Drop>(stage: &Stage<A, M, O>, word: u32) -> Option<
     when_may(may_come_again(stage, mail), 0, Event::Again(mail))
 }
 
-// The actor that a word picks ticks, unless it has crashed.
+// Returns the tick of the actor that the word picks, unless it has crashed.
 fn ticked<A, M: Parcel, O: Drop>(stage: &Stage<A, M, O>, word: u32) -> Option<Action<O>>
     requires { IsUpToDate M.receiver stage.now }
     ensures { result
@@ -143,7 +145,7 @@ fn ticked<A, M: Parcel, O: Drop>(stage: &Stage<A, M, O>, word: u32) -> Option<Ac
     when_may(may, who, Event::Tick)
 }
 
-// The pending mail that a word picks is delivered, if any is pending.
+// Returns the delivery of the pending mail that the word picks, if any is pending.
 fn delivered<A, M: Parcel, O>(stage: &Stage<A, M, O>, word: u32) -> Option<Action<O>>
     requires { IsUpToDate M.receiver stage.now }
     ensures { result
@@ -158,8 +160,8 @@ fn delivered<A, M: Parcel, O>(stage: &Stage<A, M, O>, word: u32) -> Option<Actio
     }
 }
 
-/// The action of a step of a storm, by its first word modulo 16 and by the second, or none where it
-/// does nothing.
+/// Returns the action of a step of a storm, by its first word modulo 16, `kind`, and by its second,
+/// `word`; `None` where it does nothing.
 pub(crate) fn storm_action<A, M: Parcel, O: Drop>(
     stage: &Stage<A, M, O>,
     kind: u32,

@@ -1,4 +1,4 @@
-//! A row joins the journal, and what is kept beside it.
+//! Appending of a row to a stage, with all that is kept beside the rows.
 ghost use Rattle.std.specs.Prelude.{◌≡◌, ℕ, ◌<◌, ◌≤◌, ◌+◌, ◌^◌, ◌++◌, ◌∷◌, [], ◌||◌, ◌&&◌, ◌==◌, nat_lt, length, replicate, OnOk};
 ghost use Rattle.std.specs.List.{list_any, prefix_len};
 ghost use Rattle.sc_actor.specs.Mail.{mails, numbered, is_crash};
@@ -12,7 +12,7 @@ use sc_actor::{Event, Parcel, Row, Seat};
 use sc_base::{Dup, OutOfMemory};
 use std::alloc::Global;
 
-// How many of the copies come first with lower numbers.
+// Returns the number of copies at the beginning that have lower numbers.
 fn lower(pending: &[OpenCopy], number: u32) -> usize
     ensures place { result ≡ prefix_len (λ copy. nat_lt copy.number number) pending.now }
     ensures bound { result ≤ length pending.now }
@@ -25,7 +25,7 @@ fn lower(pending: &[OpenCopy], number: u32) -> usize
     pending.len()
 }
 
-// A copy of a mail is pending no more, if one was.
+// Removes a pending copy of a mail, if there is one.
 fn close_one(pending: &mut Vec<OpenCopy>, number: u32)
     ensures { pending.new.items ≡ without pending.old.items number }
 {
@@ -35,7 +35,7 @@ fn close_one(pending: &mut Vec<OpenCopy>, number: u32)
     }
 }
 
-// One more copy is pending.
+// Adds one more pending copy.
 fn open_one(pending: &mut Vec<OpenCopy>, copy: OpenCopy) -> Result<(), OutOfMemory>
     ensures { OnOk result (pending.new.items ≡ with_copy pending.old.items copy) }
 {
@@ -44,14 +44,14 @@ fn open_one(pending: &mut Vec<OpenCopy>, copy: OpenCopy) -> Result<(), OutOfMemo
     Ok(())
 }
 
-// The copies for an actor that crashed are pending no more.
+// Removes the pending copies for an actor that crashed.
 fn close_all(pending: &mut Vec<OpenCopy>, who: u32)
     ensures { pending.new.items ≡ without_to pending.old.items who }
 {
     pending.retain(|copy| copy.to != who);
 }
 
-// A mail is repeated, if it was sent to an actor that runs.
+// Adds a pending copy of a mail that is repeated, if it was sent to an actor that has not crashed.
 fn repeat<A, M: Parcel>(
     seats: &[Seat<A>],
     crashed: &[u32],
@@ -74,7 +74,7 @@ fn repeat<A, M: Parcel>(
     Ok(())
 }
 
-// What an event makes of the pending copies.
+// Changes the pending copies by an event.
 fn note_event<A, M: Parcel, O>(
     seats: &[Seat<A>],
     crashed: &[u32],
@@ -97,7 +97,7 @@ fn note_event<A, M: Parcel, O>(
     Ok(())
 }
 
-// An actor joins those that were told to go.
+// Adds the actor of a Go to those that have gone.
 fn note_go<O>(gone: &mut Vec<u32>, who: u32, event: &Event<O>) -> Result<(), OutOfMemory>
     ensures { OnOk result
         ((number : ℕ) → list_any (λ n. n == number) gone.new.items
@@ -109,7 +109,7 @@ fn note_go<O>(gone: &mut Vec<u32>, who: u32, event: &Event<O>) -> Result<(), Out
     Ok(())
 }
 
-// An actor joins those that crashed.
+// Adds the actor of a Crash to the crashed ones.
 fn note_crash<O>(crashed: &mut Vec<u32>, who: u32, event: &Event<O>) -> Result<(), OutOfMemory>
     ensures { OnOk result
         ((number : ℕ) → list_any (λ n. n == number) crashed.new.items
@@ -121,7 +121,8 @@ fn note_crash<O>(crashed: &mut Vec<u32>, who: u32, event: &Event<O>) -> Result<(
     Ok(())
 }
 
-// A copy each of mails that are sent to actors that run. The first has this number.
+// Adds a pending copy for each of these mails whose receiver is an actor that has not crashed. The
+// first mail has the number `first`.
 fn add_open<A, M: Parcel>(
     seats: &[Seat<A>],
     crashed: &[u32],
@@ -146,7 +147,7 @@ fn add_open<A, M: Parcel>(
     Ok(())
 }
 
-/// Copies of the mails that are sent.
+/// Appends copies of the mails that are sent.
 pub(crate) fn add_mails<M: Dup + Drop>(
     alloc: Global,
     mails: &mut Vec<M>,
@@ -160,7 +161,8 @@ pub(crate) fn add_mails<M: Dup + Drop>(
     Ok(())
 }
 
-/// Appends a row to the journal of a stage.
+/// Appends a row to the stage, and updates what is kept beside the rows. `Err(OutOfMemory)`: the
+/// actors and the counts of lines are unchanged.
 pub(crate) fn append<A, M: Parcel + Drop, O: Drop>(
     alloc: Global,
     stage: &mut Stage<A, M, O>,

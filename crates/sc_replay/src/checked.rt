@@ -1,6 +1,7 @@
-//! How a line of a schedule stands with given rows.
+//! The answer of a check of one line of a schedule.
 
-/// The rows go on after the line, they end in it, or one of them is wrong.
+/// The answer of a check of one line: the rows go on after it, they end in it, or the next row is
+/// not lawful.
 #[derive(Clone, Copy, Debug, PartialEq, Eq)]
 pub(crate) enum Checked {
     On,

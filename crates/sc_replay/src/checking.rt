@@ -1,4 +1,4 @@
-//! Whether rows are those of a schedule, line by line.
+//! The check of given rows against a schedule, line by line.
 ghost use Rattle.std.specs.Prelude.{◌≡◌, ◌<◌, ◌≤◌, ◌+◌, ◌^◌, ◌-◌, [], ◌∷◌, true, length, IfOk, IfSome, OnOk, MatchBool};
 ghost use Rattle.sc_actor.specs.Mail.{mails};
 ghost use Rattle.sc_actor.specs.System.{numbers_of};
@@ -20,7 +20,8 @@ use sc_base::{OutOfMemory, Same};
 use sc_chance::Chance;
 use std::alloc::Global;
 
-// Does an action, if its row is this one.
+// Does the action, and appends the row if it is the one that the action makes. Returns whether it
+// is.
 fn take_row<A: Actor>(
     alloc: Global,
     stage: &mut Stage<A, A::Mail, A::Order>,
@@ -47,7 +48,7 @@ where
     Ok(true)
 }
 
-// A line of one row.
+// Checks a line of one row.
 fn check_once<A: Actor>(
     alloc: Global,
     stage: &mut Stage<A, A::Mail, A::Order>,
@@ -81,7 +82,8 @@ where
     }
 }
 
-// The delivery that a line of many may make next: the lowest of all, or the first of one actor.
+// Returns the delivery that a line of many may make next: the lowest-numbered of all, or with
+// `free` the first of the actor `who`.
 fn chosen_action<A, M: Parcel, O>(stage: &Stage<A, M, O>, free: bool, who: u32) -> Option<Action<O>>
     requires { IsUpToDate M.receiver stage.now }
     ensures is { result
@@ -96,7 +98,7 @@ fn chosen_action<A, M: Parcel, O>(stage: &Stage<A, M, O>, free: bool, who: u32) 
     }
 }
 
-// A line of many deliveries, free or not.
+// Checks a line of many deliveries: a `free` line or a `settle` line.
 fn check_many<A: Actor>(
     alloc: Global,
     stage: &mut Stage<A, A::Mail, A::Order>,
@@ -137,7 +139,7 @@ where
     Ok(Checked::On)
 }
 
-// A step of a storm, by its two words.
+// Checks a step of a storm, by its two words.
 fn check_step<A: Actor>(
     alloc: Global,
     stage: &mut Stage<A, A::Mail, A::Order>,
@@ -169,7 +171,7 @@ where
     }
 }
 
-// A storm of so many steps, by the words that its number gives.
+// Checks `most` steps of the storm with this number.
 fn check_storm<A: Actor>(
     alloc: Global,
     stage: &mut Stage<A, A::Mail, A::Order>,
@@ -200,7 +202,7 @@ where
     Ok(Checked::On)
 }
 
-/// Checks a line against the rows from where the stage stands.
+/// Checks a line against the rows behind those that the stage has taken.
 pub(crate) fn check_line<A: Actor>(
     alloc: Global,
     stage: &mut Stage<A, A::Mail, A::Order>,

@@ -1,4 +1,4 @@
-//! What a journal leaves of its actors, or its first row that is not lawful.
+//! The replay of a whole journal: what it leaves, or its first row that is not lawful.
 ghost use Rattle.std.specs.Prelude.{◌≡◌, ◌<◌, ◌^◌, ◌↔◌, [], None, true, false, length, IfOk, IsTrue, is_none};
 ghost use Rattle.sc_actor.specs.Mail.{mails, pending};
 ghost use Rattle.sc_actor.specs.System.{are_apart, system, numbers_of, kth};
@@ -15,26 +15,29 @@ use sc_actor::{Actor, Journal, Line, Row, Seat};
 use sc_base::{OutOfMemory, Same};
 use std::alloc::Global;
 
-/// What rows leave: the actors, whether no mail is pending, how many lines were skipped, and
-/// whether a line of many deliveries ended with mail pending.
+/// What lawful rows leave.
 #[derive(Drop)]
 pub struct Replayed<A> {
+    /// The actors with their numbers, as their rows leave them.
     pub seats: Vec<Seat<A>>,
+    /// Whether no mail is pending.
     pub quiet: bool,
+    /// The number of lines that were skipped.
     pub skipped: u64,
+    /// Whether a line of many deliveries ended with mail pending.
     pub unsettled: bool,
 }
 
-/// What a replay says of rows.
+/// The answer of a replay.
 #[derive(Drop)]
 pub enum Verdict<A> {
-    /// They are lawful, and leave this.
+    /// The rows are lawful, and leave this.
     Lawful(Replayed<A>),
-    /// The row at this place, from 1, is the first that is not lawful.
+    /// The row at the place `at`, from 1, is the first that is not lawful.
     BadRow { at: usize },
 }
 
-// What a stage leaves.
+// Returns what a stage leaves.
 fn left_by<A: Actor>(stage: Stage<A, A::Mail, A::Order>) -> Replayed<A>
     requires { IsUpToDate A.Mail.receiver stage }
     ensures { result
@@ -55,7 +58,7 @@ fn left_by<A: Actor>(stage: Stage<A, A::Mail, A::Order>) -> Replayed<A>
     }
 }
 
-// Before the first row.
+// Returns the stage before the first row.
 fn begun<A, M, O>(alloc: Global, seats: Vec<Seat<A>>) -> Stage<A, M, O>
     ensures seats { result.seats ≡ seats }
     ensures rows { result.rows ≡ [] }
@@ -78,11 +81,12 @@ fn begun<A, M, O>(alloc: Global, seats: Vec<Seat<A>>) -> Stage<A, M, O>
     }
 }
 
-/// Replays rows of a schedule of these actors, from their births, row by row, and stops at the
-/// first that the schedule does not allow: what they leave where they are lawful, and else which
-/// row, from 1, is the first that is not. They may end before the schedule does.
+/// Replays the rows over a schedule of these actors, from their births, row by row, and stops at
+/// the first that the schedule does not allow. Returns what they leave where they are lawful, and
+/// else which row, from 1, is the first that is not lawful. The rows may end before the schedule
+/// does.
 ///
-/// The actors have different numbers, and there are fewer than 2^31 rows and mails.
+/// The numbers of the actors must differ, and there must be fewer than 2^31 rows and mails.
 pub fn replay<A: Actor>(
     alloc: Global,
     seats: Vec<Seat<A>>,
@@ -120,7 +124,7 @@ where
     Ok(Verdict::Lawful(left_by(stage)))
 }
 
-// Whether rows are lawful by what a replay says of them.
+// Returns whether the answer of a replay is that the rows are lawful.
 fn says_lawful<A>(verdict: &Verdict<A>) -> bool
     ensures { result ≡ says_lawful verdict.now }
 {
@@ -130,7 +134,8 @@ fn says_lawful<A>(verdict: &Verdict<A>) -> bool
     }
 }
 
-/// Whether rows are lawful for a schedule of these actors, as `replay` says.
+/// Returns whether the rows are lawful for a schedule of these actors. The numbers of the actors
+/// must differ, and there must be fewer than 2^31 rows and mails.
 pub fn is_lawful<A: Actor>(
     alloc: Global,
     seats: Vec<Seat<A>>,

@@ -1,5 +1,5 @@
-//! What rows leave of the actors of a schedule, or the first of them that is not lawful, and plain
-//! functions that look a journal over.
+//! The plain check of rows: what they leave of the actors of a schedule, or the first of them that
+//! is not lawful; and plain functions that read a journal from its start.
 #![tactic(auto)]
 
 mod actions;

@@ -1,4 +1,4 @@
-//! Plain functions that look a journal over from its start.
+//! Plain functions that read a journal from its start.
 ghost use Rattle.std.specs.Prelude.{◌≡◌, ◌<◌, ◌-◌, ◌^◌, ◌++◌, All, replicate, length, IfOk, OnOk, if◌then◌else◌};
 ghost use Rattle.sc_actor.specs.Mail.{mails, copies, counts_at, has_crashed, may_get, is_for, pending};
 ghost use Rattle.sc_actor.specs.System.{numbers_of};
@@ -9,7 +9,7 @@ use sc_actor::{Event, Parcel, Row, Seat};
 use sc_base::{Dup, OutOfMemory, Sequence};
 use std::alloc::Global;
 
-// A delivery or a drop takes a copy away, and a repeat adds one.
+// Counts an event: a delivery or a drop removes a copy of its mail, and a repeat adds one.
 fn count<O>(copies: &mut Vec<u32>, event: &Event<O>)
     requires { All (λ count. count < 2 ^ 32 - 1) copies.old.items }
     ensures { copies.new.items ≡ counts_at copies.old.items event.now }
@@ -31,7 +31,7 @@ fn count<O>(copies: &mut Vec<u32>, event: &Event<O>)
     }
 }
 
-// One copy each of so many mails that are sent.
+// Appends a count of one copy for each of `n` mails that are sent.
 fn add_copies(copies: &mut Vec<u32>, n: usize) -> Result<(), OutOfMemory>
     ensures { OnOk result (copies.new.items ≡ copies.old.items ++ replicate n 1) }
 {
@@ -49,14 +49,15 @@ fn has_crashed<M, O>(rows: &[Row<M, O>], who: u32) -> bool
         .any(|row| row.who == who && is_crash(&row.event))
 }
 
-// Whether there is an actor with a number that has not crashed.
+// Returns whether there is an actor with this number that has not crashed.
 fn may_get<A, M, O>(seats: &[Seat<A>], rows: &[Row<M, O>], who: u32) -> bool
     ensures { result ≡ may_get (numbers_of seats.now) rows.now who }
 {
     is_actor(seats, who) && !has_crashed(rows, who)
 }
 
-// Whether mail is for an actor, or for any, that may get it.
+// Returns whether the mail is for this actor, or for any where `whose` is `None`, and the receiver
+// may get it.
 fn is_for<A, M: Parcel, O>(
     seats: &[Seat<A>],
     rows: &[Row<M, O>],
@@ -71,7 +72,8 @@ fn is_for<A, M: Parcel, O>(
     }
 }
 
-// The copies of a mail that count, which is looked up only where there are some.
+// Returns the copies of a mail that count, 0 where the receiver does not. The receiver is checked
+// only where there are copies.
 fn open_copies<A, M: Parcel, O>(
     seats: &[Seat<A>],
     rows: &[Row<M, O>],
@@ -89,7 +91,7 @@ fn open_copies<A, M: Parcel, O>(
     }
 }
 
-// Of each mail, in order of number, how many copies are under way.
+// Returns for each mail, in order of number, how many copies are under way.
 fn copies_of<M, O>(alloc: Global, rows: &[Row<M, O>]) -> Result<Vec<u32>, OutOfMemory>
     requires { length rows.now < 2 ^ 31 }
     ensures { IfOk result (λ counts. counts.items ≡ copies rows.now) }
@@ -102,7 +104,7 @@ fn copies_of<M, O>(alloc: Global, rows: &[Row<M, O>]) -> Result<Vec<u32>, OutOfM
     Ok(counts)
 }
 
-// All that was sent, in order.
+// Returns all mail that was sent, in order.
 fn mails_of<M: Dup + Drop, O>(alloc: Global, rows: &[Row<M, O>]) -> Result<Vec<M>, OutOfMemory>
     ensures { IfOk result (λ sent. sent.items ≡ mails rows.now) }
 {
@@ -113,7 +115,7 @@ fn mails_of<M: Dup + Drop, O>(alloc: Global, rows: &[Row<M, O>]) -> Result<Vec<M
     Ok(sent)
 }
 
-// A number, so many times.
+// Appends a number `times` times.
 fn add_number(found: &mut Sequence<u32>, number: u32, times: u32) -> Result<(), OutOfMemory>
     ensures { OnOk result (found.new ≡ found.old ++ replicate times number) }
 {
@@ -124,10 +126,10 @@ fn add_number(found: &mut Sequence<u32>, number: u32, times: u32) -> Result<(), 
     Ok(())
 }
 
-/// The numbers of the pending mail of one actor, or of all, in ascending order: slowly, from all
-/// rows.
+/// Returns the numbers of the pending mail of one actor, or of all where `whose` is `None`, in
+/// ascending order. It goes through all rows, and is slow.
 ///
-/// There are fewer than 2^31 rows and mails.
+/// There must be fewer than 2^31 rows and mails.
 pub fn pending_of<A, M: Parcel + Drop, O>(
     alloc: Global,
     seats: &[Seat<A>],

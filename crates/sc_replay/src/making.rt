@@ -1,4 +1,4 @@
-//! What an action makes of its actor, and its row.
+//! The step of an action: what it makes of its actor, and its row.
 ghost use Rattle.std.specs.Prelude.{◌≡◌, ◌<◌, length, IfSome, IfOk, OnOk, true};
 ghost use Rattle.sc_actor.specs.Replay.{acted, input_of};
 ghost use Rattle.sc_actor.specs.System.{numbers_of};
@@ -10,7 +10,7 @@ use sc_actor::{Actor, Event, Input, Row, Seat};
 use sc_base::{Dup, OutOfMemory, Sequence};
 use std::alloc::Global;
 
-// The place of the actor with a number.
+// Returns the place of the actor with this number, if there is one.
 fn place_of<A>(seats: &[Seat<A>], who: u32) -> Option<usize>
     ensures place { result ≡ place_of seats.now who }
     ensures bound { IfSome result (λ i. i < length seats.now) }
@@ -23,7 +23,7 @@ fn place_of<A>(seats: &[Seat<A>], who: u32) -> Option<usize>
     None
 }
 
-// What an event gives to its actor.
+// Returns the input of the actor at an event.
 fn input_of<M: Dup, O: Dup>(
     alloc: Global,
     mails: &[M],
@@ -48,7 +48,7 @@ fn input_of<M: Dup, O: Dup>(
     }
 }
 
-// What an actor sends at an event.
+// Lets the actor step at an event, and returns what it sends.
 fn respond<A: Actor>(
     alloc: Global,
     actor: &mut A,
@@ -74,7 +74,7 @@ fn is_of_network<O>(event: &Event<O>) -> bool
     }
 }
 
-/// Does an action: its actor takes the event, and its row is answered.
+/// Does an action: lets its actor step, and returns its row.
 pub(crate) fn make_row<A: Actor>(
     alloc: Global,
     seats: &mut Vec<Seat<A>>,

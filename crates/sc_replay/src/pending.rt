@@ -1,4 +1,4 @@
-//! Which mail is pending, by what a stage keeps.
+//! Pending mail, by what a stage keeps.
 ghost use Rattle.std.specs.Prelude.{◌≡◌, ◌<◌, ◌%◌, ◌==◌, length, map, filter, is_none, None, IfSome, IsSomeAnd, true};
 ghost use Rattle.std.specs.List.{list_any};
 ghost use Rattle.sc_actor.specs.Mail.{numbered, may_get, is_crash, is_for, pending};
@@ -10,7 +10,7 @@ ghost use Rattle.sc_replay.specs.Stages.{IsUpToDate};
 use crate::stages::{OpenCopy, Stage};
 use sc_actor::{Event, Parcel, Seat};
 
-/// Whether an event is a crash.
+/// Returns whether the event is a crash.
 pub(crate) fn is_crash<O>(event: &Event<O>) -> bool
     ensures { result ≡ is_crash event.now }
 {
@@ -20,7 +20,7 @@ pub(crate) fn is_crash<O>(event: &Event<O>) -> bool
     }
 }
 
-/// Whether an event tells to go.
+/// Returns whether the event is a Go.
 pub(crate) fn is_go<O>(event: &Event<O>) -> bool
     ensures { result ≡ is_go event.now }
 {
@@ -30,7 +30,7 @@ pub(crate) fn is_go<O>(event: &Event<O>) -> bool
     }
 }
 
-/// Whether a number is among these.
+/// Returns whether the number is among these.
 fn is_among(numbers: &[u32], who: u32) -> bool
     ensures { result ≡ list_any (λ number. number == who) numbers.now }
 {
@@ -43,21 +43,21 @@ fn has_seat<A>(seats: &[Seat<A>], who: u32) -> bool
     seats.iter().any(|seat| seat.who == who)
 }
 
-/// Whether there is an actor with a number.
+/// Returns whether there is an actor with this number.
 pub(crate) fn is_actor<A>(seats: &[Seat<A>], who: u32) -> bool
     ensures { result ≡ is_number (numbers_of seats.now) who }
 {
     has_seat(seats, who)
 }
 
-/// Whether there is an actor with a number that is not among the crashed.
+/// Returns whether there is an actor with this number that is not among the crashed.
 pub(crate) fn runs<A>(seats: &[Seat<A>], crashed: &[u32], who: u32) -> bool
     ensures { result ≡ runs (numbers_of seats.now) crashed.now who }
 {
     is_actor(seats, who) && !is_among(crashed, who)
 }
 
-/// Whether an actor was told to go.
+/// Returns whether the actor has a Go row.
 pub(crate) fn has_gone<A, M: Parcel, O>(stage: &Stage<A, M, O>, who: u32) -> bool
     requires { IsUpToDate M.receiver stage.now }
     ensures { result ≡ has_gone stage.now.rows who }
@@ -65,7 +65,7 @@ pub(crate) fn has_gone<A, M: Parcel, O>(stage: &Stage<A, M, O>, who: u32) -> boo
     is_among(&stage.gone, who)
 }
 
-/// Whether there is an actor with a number that has not crashed.
+/// Returns whether there is an actor with this number that has not crashed.
 pub(crate) fn may_get<A, M: Parcel, O>(stage: &Stage<A, M, O>, who: u32) -> bool
     requires { IsUpToDate M.receiver stage.now }
     ensures { result ≡ may_get (numbers_of stage.now.seats.items) stage.now.rows who }
@@ -73,7 +73,7 @@ pub(crate) fn may_get<A, M: Parcel, O>(stage: &Stage<A, M, O>, who: u32) -> bool
     runs(&stage.seats, &stage.crashed, who)
 }
 
-// The number of the k-th copy, from 1.
+// Returns the number of the k-th copy, counted from 1.
 fn kth_of_all(copies: &[OpenCopy], k: u64) -> Option<u32>
     ensures { result ≡ kth (map (λ copy. copy.number) copies.now) k }
 {
@@ -83,7 +83,7 @@ fn kth_of_all(copies: &[OpenCopy], k: u64) -> Option<u32>
     Some(copies[k as usize - 1].number)
 }
 
-// The number of the k-th copy for one receiver, from 1.
+// Returns the number of the k-th copy for one receiver, counted from 1.
 fn kth_for(copies: &[OpenCopy], who: u32, k: u64) -> Option<u32>
     requires { 0 < k }
     ensures { result
@@ -101,7 +101,8 @@ fn kth_for(copies: &[OpenCopy], who: u32, k: u64) -> Option<u32>
     None
 }
 
-/// The number of the k-th pending mail of a stage, from 1, of one actor or of all.
+/// Returns the number of the k-th pending mail of a stage, counted from 1, of one actor, or of all
+/// where `whose` is `None`.
 pub(crate) fn waiting<A, M: Parcel, O>(
     stage: &Stage<A, M, O>,
     whose: Option<u32>,
@@ -123,7 +124,7 @@ pub(crate) fn waiting<A, M: Parcel, O>(
     }
 }
 
-/// Whether a stage has no pending mail.
+/// Returns whether a stage has no pending mail.
 pub(crate) fn is_quiet<A, M: Parcel, O>(stage: &Stage<A, M, O>) -> bool
     requires { IsUpToDate M.receiver stage.now }
     ensures { result
@@ -133,7 +134,7 @@ pub(crate) fn is_quiet<A, M: Parcel, O>(stage: &Stage<A, M, O>) -> bool
     waiting(stage, None, 1).is_none()
 }
 
-// How many pending mails there are.
+// Returns the number of pending mails.
 fn count_pending<A, M: Parcel, O>(stage: &Stage<A, M, O>) -> usize
     requires { IsUpToDate M.receiver stage.now }
     ensures { result
@@ -142,7 +143,8 @@ fn count_pending<A, M: Parcel, O>(stage: &Stage<A, M, O>) -> usize
     stage.pending.len()
 }
 
-/// The number of the pending mail at the place that a word gives, counted from 0.
+/// Returns the number of the pending mail at the place `word` modulo their number, counted from 0,
+/// or `None` where none is pending.
 pub(crate) fn picked<A, M: Parcel, O>(stage: &Stage<A, M, O>, word: u32) -> Option<u32>
     requires { IsUpToDate M.receiver stage.now }
     ensures number { result

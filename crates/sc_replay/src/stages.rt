@@ -1,16 +1,17 @@
-//! The actors, the journal, and what is kept of it while a schedule is walked.
+//! What a check keeps while it goes through the rows.
 use sc_actor::{Event, Journal, Seat};
 
-/// A pending copy of a mail: the mail's number, and the actor that it goes to.
+/// A pending copy of a mail: the mail's number, and its receiver.
 #[derive(Clone, Copy, Debug, PartialEq, Eq)]
 pub(crate) struct OpenCopy {
     pub number: u32,
     pub to: u32,
 }
 
-/// The actors as they are, the journal, its mail, and what the walk has counted. So that no row
-/// asks for a look at all rows before it, the pending copies are kept in ascending order of their
-/// mail, and the actors that were told to go, and that crashed, in the order of their rows.
+/// What a check keeps of the rows that it has taken: the actors as they are then, the rows, their
+/// mail, and what the walk has counted. The pending copies are kept in ascending order of their
+/// mail, and the actors that have gone or crashed in the order of their rows, so that no row needs
+/// a look at all rows before it.
 #[derive(Drop)]
 pub(crate) struct Stage<A, M, O> {
     pub seats: Vec<Seat<A>>,
@@ -23,7 +24,8 @@ pub(crate) struct Stage<A, M, O> {
     pub unsettled: bool,
 }
 
-/// Who acts next, at what event. The network's number counts for nothing.
+/// The actor and the event of the next row. For an event of the network the actor's number is not
+/// used.
 #[derive(Drop)]
 pub(crate) struct Action<O> {
     pub who: u32,

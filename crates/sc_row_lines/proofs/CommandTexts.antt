@@ -1,4 +1,4 @@
--- Commands at the front of a text.
+-- Commands at the beginning of a text.
 use Rattle.std.proofs.Common.{◌≡◌, ℕ, List, ◌++◌, codes, refl, ◌∙◌, append_assoc}
 use Rattle.json.specs.Print.{escape_byte}
 use Rattle.serde_json.specs.Written.{compact_text}

@@ -1,4 +1,4 @@
--- Operations and replies at the front of a text.
+-- Operations and replies at the beginning of a text.
 use Rattle.std.proofs.Common.{◌≡◌, ℕ, List, ◌++◌, codes, refl, ap, ◌∙◌, append_assoc}
 use Rattle.json.specs.Print.{escape_byte}
 use Rattle.serde_json.specs.Data.{string}

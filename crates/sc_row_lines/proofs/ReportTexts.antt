@@ -1,4 +1,4 @@
--- Reports, and the promises that have them, at the front of a text.
+-- Reports, and the promises that have them, at the beginning of a text.
 use Rattle.std.proofs.Common.{◌≡◌, ℕ, List, ◌++◌, codes, refl, ap₂, ◌∙◌, append_assoc}
 use Rattle.json.specs.Print.{escape_byte}
 use Rattle.serde_json.specs.Written.{compact_text}

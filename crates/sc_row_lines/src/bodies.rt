@@ -1,4 +1,4 @@
-//! What mails say: requests, answers to clients, and the mail of Paxos.
+//! Bodies of mails, read from their texts: requests, answers to clients, and the mail of Paxos.
 ghost use Rattle.std.specs.Prelude.{IfSome};
 ghost use Rattle.sc_row_text.specs.Answers.{answer_body_json, FitsAnswerBody};
 ghost use Rattle.sc_row_text.specs.Mails.{mail_body_json, FitsMailBody};

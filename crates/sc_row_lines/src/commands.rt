@@ -1,4 +1,4 @@
-//! Commands: of clients, and the empty one.
+//! Commands, read from their texts: requests of clients, and the empty command.
 ghost use Rattle.std.specs.Prelude.{IfSome};
 ghost use Rattle.sc_row_text.specs.Commands.{command_json, FitsCommand};
 ghost use Rattle.sc_row_lines.specs.Fronts.{TextBegins};

@@ -1,4 +1,4 @@
-//! Lists.
+//! Lists, read from their texts.
 ghost use Rattle.std.specs.Prelude.{IfSome};
 ghost use Rattle.sc_base.specs.Among.{Each};
 ghost use Rattle.sc_row_text.specs.Shapes.{list_json};
@@ -10,7 +10,7 @@ use crate::words::behind;
 use sc_base::Sequence;
 use std::alloc::Global;
 
-// The items of an array that begins some bytes and is not empty.
+// Returns the items of an array that begins the bytes and is not empty.
 fn items_at<T: FromText + Drop>(alloc: Global, bytes: &[u8]) -> Option<(Sequence<T>, &[u8])>
     ensures { IfSome result
         (λ found. TextBegins (list_json T.json_of) (Each T.Fits) bytes.now found.0 found.1.now) }

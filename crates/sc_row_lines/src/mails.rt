@@ -1,4 +1,4 @@
-//! Mails.
+//! Mails, read from their texts.
 ghost use Rattle.sc_row_text.specs.Mails.{mail_json, FitsMail};
 
 use crate::from_text::FromText;

@@ -1,4 +1,4 @@
-//! Names and ballots.
+//! Names and ballots, read from their texts.
 ghost use Rattle.sc_row_text.specs.Names.{draw_json, FitsDraw, ballot_json, FitsBallot};
 
 use crate::from_text::FromText;

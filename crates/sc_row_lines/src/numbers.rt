@@ -1,4 +1,4 @@
-//! Numbers.
+//! Numbers, read from their texts.
 ghost use Rattle.std.specs.Prelude.{◌≡◌, ◌<◌, ◌≤◌, ◌^◌, ◌++◌, decimal, length, IfSome};
 ghost use Rattle.sc_row_text.specs.Shapes.{number_json, option_json};
 ghost use Rattle.sc_row_text.specs.Held.{FitsU16, FitsU32, OptionFits};
@@ -8,7 +8,7 @@ use crate::words::behind;
 use sc_base::read_number;
 use std::alloc::Global;
 
-// How many digits begin some bytes.
+// Returns the number of digits at the beginning of the bytes.
 fn digit_count(bytes: &[u8]) -> usize
     ensures { result ≤ length bytes.now }
 {
@@ -18,7 +18,7 @@ fn digit_count(bytes: &[u8]) -> usize
     }
 }
 
-// The number that begins some bytes.
+// Returns the number at the beginning of the bytes, at most `most`, without a leading zero.
 fn number_at(bytes: &[u8], most: u64) -> Option<(u64, &[u8])>
     requires { most < 2 ^ 64 }
     ensures text { IfSome result (λ found. bytes.now ≡ decimal found.0 ++ found.1.now) }

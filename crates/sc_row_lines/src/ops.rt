@@ -1,4 +1,4 @@
-//! Operations and replies.
+//! Operations and replies, read from their texts.
 ghost use Rattle.std.specs.Prelude.{IfSome};
 ghost use Rattle.sc_row_text.specs.Ops.{op_json, FitsOp, reply_json, FitsReply};
 ghost use Rattle.sc_row_lines.specs.Fronts.{TextBegins};

@@ -1,4 +1,4 @@
-//! Values between fixed words.
+//! Values between fixed words of a text.
 ghost use Rattle.std.specs.Prelude.{◌≡◌, ◌++◌, IfSome};
 ghost use Rattle.serde_json.specs.Written.{compact_text};
 ghost use Rattle.sc_row_lines.specs.Fronts.{IsOnly};
@@ -7,7 +7,7 @@ use crate::from_text::FromText;
 use crate::words::behind;
 use std::alloc::Global;
 
-/// A value behind a word.
+/// Returns the value behind a fixed word that begins the bytes, and the bytes behind it.
 #[inline]
 pub(crate) fn next<'a, T: FromText>(
     alloc: Global,
@@ -21,7 +21,7 @@ pub(crate) fn next<'a, T: FromText>(
     T::take(alloc, behind(bytes, word)?)
 }
 
-/// A value between two words, and what stands behind them.
+/// Returns the value between two fixed words, and the bytes behind them.
 #[inline]
 pub(crate) fn one_of<'a, T: FromText + Drop>(
     alloc: Global,
@@ -38,7 +38,7 @@ pub(crate) fn one_of<'a, T: FromText + Drop>(
     Some((value, rest))
 }
 
-/// Two values between three words, and what stands behind them.
+/// Returns the two values between three fixed words, and the bytes behind them.
 #[inline]
 pub(crate) fn two_of<'a, A: FromText + Drop, B: FromText + Drop>(
     alloc: Global,
@@ -58,7 +58,7 @@ pub(crate) fn two_of<'a, A: FromText + Drop, B: FromText + Drop>(
     Some((a, b, rest))
 }
 
-/// Three values between four words, and what stands behind them.
+/// Returns the three values between four fixed words, and the bytes behind them.
 #[inline]
 pub(crate) fn three_of<'a, A: FromText + Drop, B: FromText + Drop, C: FromText + Drop>(
     alloc: Global,
@@ -81,7 +81,7 @@ pub(crate) fn three_of<'a, A: FromText + Drop, B: FromText + Drop, C: FromText +
     Some((a, b, c, rest))
 }
 
-/// Four values between five words, and what stands behind them.
+/// Returns the four values between five fixed words, and the bytes behind them.
 #[inline]
 pub(crate) fn four_of<
     'a,

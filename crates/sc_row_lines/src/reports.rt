@@ -1,4 +1,4 @@
-//! Reports of what was accepted.
+//! Acceptors' reports of accepted commands, read from their texts.
 ghost use Rattle.sc_row_text.specs.Commands.{report_json, FitsReport};
 
 use crate::from_text::FromText;

@@ -1,4 +1,4 @@
-//! Rows and their events.
+//! Rows and their events, read from their texts.
 ghost use Rattle.std.specs.Prelude.{◌≡◌, IfSome};
 ghost use Rattle.sc_actor.specs.declared.rows.Row.{Row};
 ghost use Rattle.sc_cmd.specs.declared.orders.OrderLine.{OrderLine};
@@ -107,8 +107,9 @@ impl FromText for Row<Mail, OrderLine> {
     }
 }
 
-/// The row with that text, if it is read here: then no other row has the text. `None` says nothing:
-/// there may be no such row, or one of a shape that is not read here, or memory may be short.
+/// Returns the row with this text, if it has a shape that is read here; then no other row has the
+/// text. `None` says nothing: there may be no such row, it may have another shape, or memory may
+/// have run out.
 pub fn common_row(alloc: Global, text: &[u8]) -> Option<Row<Mail, OrderLine>>
     ensures text { IfSome result (λ row. text_of row ≡ text.now) }
     ensures held { IfSome result (λ row. IsHeld row) }

@@ -1,4 +1,4 @@
-//! Keys and values: strings.
+//! Keys and values, read from their texts, which are JSON strings.
 ghost use Rattle.std.specs.Prelude.{◌≡◌, ◌≤◌, ◌++◌, length, IfSome};
 ghost use Rattle.std.specs.List.{list_all};
 ghost use Rattle.serde_json.specs.Data.{string};
@@ -13,7 +13,7 @@ use crate::words::behind;
 use sc_base::{Key, Value};
 use std::alloc::Global;
 
-// How many bytes stand before the first quote.
+// Returns the number of bytes before the first quote.
 fn quote_at(bytes: &[u8]) -> usize
     ensures { result ≤ length bytes.now }
 {
@@ -23,21 +23,22 @@ fn quote_at(bytes: &[u8]) -> usize
     }
 }
 
-// Whether a string has the byte as it is.
+// Returns whether a JSON string has the byte as it is.
 fn is_bare(byte: u8) -> bool
     ensures { result ≡ is_bare byte }
 {
     32 <= byte && byte != b'"' && byte != b'\\'
 }
 
-// Whether a string has each of the bytes as it is.
+// Returns whether a JSON string has each of the bytes as it is.
 fn are_bare(bytes: &[u8]) -> bool
     ensures { result ≡ list_all is_bare bytes.now }
 {
     bytes.iter().all(|byte| is_bare(*byte))
 }
 
-// The bytes of the string that begins some bytes, if it has each of them as it is.
+// Returns the content of the JSON string that begins the bytes, if it has each byte as it is, and
+// the bytes behind it.
 fn string_at(bytes: &[u8]) -> Option<(&[u8], &[u8])>
     ensures { IfSome result
         (λ found. bytes.now ≡ compact_text (string found.0.now) ++ found.1.now) }

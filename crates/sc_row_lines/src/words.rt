@@ -1,7 +1,7 @@
 //! Fixed words of a text.
 ghost use Rattle.std.specs.Prelude.{◌≡◌, ◌++◌, IfSome};
 
-/// What stands behind a word that begins some bytes.
+/// Returns the bytes behind a fixed word that begins the bytes.
 #[inline]
 pub(crate) fn behind<'a>(bytes: &'a [u8], word: &[u8]) -> Option<&'a [u8]>
     ensures { IfSome result (λ rest. bytes.now ≡ word.now ++ rest.now) }

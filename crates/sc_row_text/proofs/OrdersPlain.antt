@@ -1,4 +1,4 @@
--- Orders and what is told of them are plain JSON.
+-- Orders and their results are plain JSON.
 use Rattle.std.proofs.Common.{◌≡◌, ℕ, suc, refl}
 use Rattle.sc_cmd.specs.declared.orders.Order.{Order}
 use Rattle.sc_cmd.specs.declared.orders.Order.TheVariants as TheOrder

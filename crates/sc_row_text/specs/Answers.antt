@@ -1,4 +1,4 @@
--- Answers as JSON.
+-- A node's answers to clients as JSON.
 use Rattle.std.specs.Prelude.{[], ◌∷◌, codes}
 use Rattle.serde_json.specs.Data.{Data}
 use Rattle.sc_mail.specs.declared.bodies.AnswerBody.{AnswerBody}
@@ -9,7 +9,7 @@ use Rattle.sc_row_text.specs.Ops.{reply_json, FitsReply}
 use Rattle.sc_row_text.specs.Links.{link_json, FitsLink, route_json, FitsRoute}
 use Rattle.sc_row_text.specs.Sets.{arc_json}
 
--- an answer
+-- The JSON of an answer: the variant that it is, with its content.
 unfoldable pub answer_body_json : AnswerBody → Data
 answer_body_json (TheAnswerBody.Value content) = variant (codes "Value") (reply_json content)
 answer_body_json (TheAnswerBody.NotLeader hint) = variant (codes "NotLeader") (fields ((codes "hint", option_json number_json hint) ∷ []))
@@ -17,7 +17,7 @@ answer_body_json (TheAnswerBody.NotMine arc succ) = variant (codes "NotMine") (f
 answer_body_json (TheAnswerBody.Gone into) = variant (codes "Gone") (fields ((codes "into", route_json into) ∷ []))
 answer_body_json (TheAnswerBody.Stale last) = variant (codes "Stale") (fields ((codes "last", number_json last) ∷ []))
 
--- each part of it is as it is to be
+-- An answer that the program's type can hold: each of its parts is valid.
 unfoldable pub FitsAnswerBody : AnswerBody → Type 0
 FitsAnswerBody (TheAnswerBody.Value content) = FitsReply content
 FitsAnswerBody (TheAnswerBody.NotLeader hint) = OptionFits FitsU16 hint

@@ -1,4 +1,4 @@
--- Commands and reports of them as JSON.
+-- Commands of the logs, and acceptors' reports of them, as JSON.
 use Rattle.std.specs.Prelude.{[], ◌∷◌, codes, ⊤}
 use Rattle.serde_json.specs.Data.{Data, string}
 use Rattle.sc_cmd.specs.declared.commands.Command.{Command}
@@ -12,7 +12,7 @@ use Rattle.sc_row_text.specs.Votes.{vote_json, FitsVote, past_json, FitsPast}
 use Rattle.sc_row_text.specs.Outcomes.{outcome_json, FitsOutcome}
 use Rattle.sc_row_text.specs.Names.{draw_json, FitsDraw, ballot_json, FitsBallot}
 
--- a command
+-- The JSON of a command: the variant that it is, with its content.
 unfoldable pub command_json : Command → Data
 command_json TheCommand.Noop = string (codes "Noop")
 command_json (TheCommand.Call client seq op) = variant (codes "Call") (fields ((codes "client", number_json client) ∷ (codes "op", op_json op) ∷ (codes "seq", number_json seq) ∷ []))
@@ -27,7 +27,7 @@ command_json (TheCommand.Finish tx outcome) = variant (codes "Finish") (fields (
 command_json (TheCommand.Watched tx watch) = variant (codes "Watched") (fields ((codes "tx", draw_json tx) ∷ (codes "watch", watch_json watch) ∷ []))
 command_json (TheCommand.RecordWatch tx vote by) = variant (codes "RecordWatch") (fields ((codes "by", number_json by) ∷ (codes "tx", draw_json tx) ∷ (codes "vote", past_json vote) ∷ []))
 
--- each part of it is as it is to be
+-- A command that the program's type can hold: each of its parts is valid.
 unfoldable pub FitsCommand : Command → Type 0
 FitsCommand TheCommand.Noop = ⊤
 FitsCommand (TheCommand.Call client seq op) = FitsU16 client × FitsOp op × FitsU32 seq
@@ -42,7 +42,7 @@ FitsCommand (TheCommand.Finish tx outcome) = FitsOutcome outcome × FitsDraw tx
 FitsCommand (TheCommand.Watched tx watch) = FitsDraw tx × FitsWatch watch
 FitsCommand (TheCommand.RecordWatch tx vote by) = FitsU16 by × FitsDraw tx × FitsPast vote
 
--- a report
+-- The JSON of an acceptor's report of a slot: the ballot, the slot and the command.
 unfoldable pub report_json : Report Command → Data
 report_json report = fields
     ((codes "ballot", ballot_json report.ballot)
@@ -50,6 +50,6 @@ report_json report = fields
     ∷ (codes "value", command_json report.value)
     ∷ [])
 
--- each part of it is as it is to be
+-- A report that the program's type can hold: each of its parts is valid.
 unfoldable pub FitsReport : Report Command → Type 0
 FitsReport report = FitsBallot report.ballot × FitsU32 report.slot × FitsCommand report.value

@@ -15,21 +15,21 @@ use Rattle.sc_row_text.specs.Outcomes.{outcome_json, FitsOutcome}
 use Rattle.sc_row_text.specs.Names.{draw_json, FitsDraw}
 use Rattle.sc_row_text.specs.Sets.{arc_json, nodes_json, pairs_json, FitsPairs, clients_json, FitsClients}
 
--- a lock
+-- The JSON of a group's lock, which says what the group is bound to.
 unfoldable pub lock_json : Lock → Data
 lock_json TheLock.Free = string (codes "Free")
 lock_json (TheLock.Coordinating tx body order heard) = variant (codes "Coordinating") (fields ((codes "body", body_json body) ∷ (codes "heard", option_json heard_json heard) ∷ (codes "order", number_json order) ∷ (codes "tx", draw_json tx) ∷ []))
 lock_json (TheLock.Promised tx offer) = variant (codes "Promised") (fields ((codes "offer", offer_json offer) ∷ (codes "tx", draw_json tx) ∷ []))
 lock_json (TheLock.Watching tx watch) = variant (codes "Watching") (fields ((codes "tx", draw_json tx) ∷ (codes "watch", watch_json watch) ∷ []))
 
--- each part of it is as it is to be
+-- A lock that the program's type can hold: each of its parts is valid.
 unfoldable pub FitsLock : Lock → Type 0
 FitsLock TheLock.Free = ⊤
 FitsLock (TheLock.Coordinating tx body order heard) = FitsBody body × OptionFits FitsHeard heard × FitsU32 order × FitsDraw tx
 FitsLock (TheLock.Promised tx offer) = FitsOffer offer × FitsDraw tx
 FitsLock (TheLock.Watching tx watch) = FitsDraw tx × FitsWatch watch
 
--- a core
+-- The JSON of a group without its pairs and its client table.
 unfoldable pub core_json : Core → Data
 core_json core = fields
     ((codes "arc", arc_json core.arc)
@@ -46,12 +46,12 @@ core_json core = fields
     ∷ (codes "voted", list_json (pair_json draw_json past_json) core.voted)
     ∷ [])
 
--- each part of it is as it is to be
+-- A group without pairs and client table that the program's type can hold: each of its parts is valid.
 unfoldable pub FitsCore : Core → Type 0
 FitsCore core = (FitsArc core.arc × FitsU32 core.begun × Each FitsDraw core.born × Each (PairFits FitsDraw FitsOutcome) core.decided × FitsU16 core.first × OptionFits FitsRoute core.gone)
     × (FitsDraw core.id × FitsLock core.lock × FitsMembers core.members × FitsLink core.pred × FitsLink core.succ × Each (PairFits FitsDraw FitsPast) core.voted)
 
--- a base
+-- The JSON of a whole group, with its pairs and its client table.
 unfoldable pub base_json : Base → Data
 base_json base = fields
     ((codes "clients", clients_json base.clients)
@@ -59,6 +59,6 @@ base_json base = fields
     ∷ (codes "pairs", pairs_json base.pairs)
     ∷ [])
 
--- each part of it is as it is to be
+-- A whole group that the program's type can hold: each of its parts is valid.
 unfoldable pub FitsBase : Base → Type 0
 FitsBase base = FitsClients base.clients × FitsCore base.core × FitsPairs base.pairs

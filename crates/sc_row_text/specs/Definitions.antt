@@ -1,4 +1,4 @@
--- The definitions of this crate that others cite, under one name.
+-- The definitions of this crate that other crates cite, under one name.
 pub use Rattle.sc_row_text.specs.Shapes.{items_json, variant, variant_name, first_name, number_json, option_json, list_json, fields, pair_json, members_json}
 pub use Rattle.sc_row_text.specs.Held.{FitsU16, PairFits, FitsArc, FitsMembers, FitsU32, OptionFits, FitsKey, FitsValue, FitsU8}
 unfoldable pub use Rattle.sc_row_text.specs.Names.{draw_json, FitsDraw, ballot_json, FitsBallot}

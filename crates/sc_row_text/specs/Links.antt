@@ -1,4 +1,4 @@
--- Links and routes as JSON.
+-- Links to neighbour groups, and routes to groups, as JSON.
 use Rattle.std.specs.Prelude.{[], ◌∷◌, codes}
 use Rattle.serde_json.specs.Data.{Data}
 use Rattle.sc_cmd.specs.declared.links.Link.{Link}
@@ -8,18 +8,18 @@ use Rattle.sc_row_text.specs.Held.{FitsU32, FitsMembers}
 use Rattle.sc_row_text.specs.Names.{draw_json, FitsDraw}
 use Rattle.sc_row_text.specs.Sets.{nodes_json}
 
--- a link
+-- The JSON of a link to a neighbour group: its name and its members.
 unfoldable pub link_json : Link → Data
 link_json link = fields
     ((codes "group", draw_json link.group)
     ∷ (codes "members", nodes_json link.members)
     ∷ [])
 
--- each part of it is as it is to be
+-- A link that the program's type can hold: each of its parts is valid.
 unfoldable pub FitsLink : Link → Type 0
 FitsLink link = FitsDraw link.group × FitsMembers link.members
 
--- a route
+-- The JSON of a route to a group: its name, where its arc starts, and its members.
 unfoldable pub route_json : Route → Data
 route_json route = fields
     ((codes "group", draw_json route.group)
@@ -27,6 +27,6 @@ route_json route = fields
     ∷ (codes "members", nodes_json route.members)
     ∷ [])
 
--- each part of it is as it is to be
+-- A route that the program's type can hold: each of its parts is valid.
 unfoldable pub FitsRoute : Route → Type 0
 FitsRoute route = FitsDraw route.group × FitsU32 route.lo × FitsMembers route.members

@@ -18,7 +18,7 @@ use Rattle.sc_row_text.specs.Answers.{answer_body_json, FitsAnswerBody}
 use Rattle.sc_row_text.specs.Names.{draw_json, FitsDraw, ballot_json, FitsBallot}
 use Rattle.sc_row_text.specs.Sets.{nodes_json}
 
--- what a mail says
+-- The JSON of a mail's body: the variant that it is, with its content.
 unfoldable pub mail_body_json : MailBody → Data
 mail_body_json (TheMailBody.Request group client seq op) = variant (codes "Request") (fields ((codes "client", number_json client) ∷ (codes "group", draw_json group) ∷ (codes "op", op_json op) ∷ (codes "seq", number_json seq) ∷ []))
 mail_body_json (TheMailBody.Answer group seq answer) = variant (codes "Answer") (fields ((codes "answer", answer_body_json answer) ∷ (codes "group", draw_json group) ∷ (codes "seq", number_json seq) ∷ []))
@@ -38,7 +38,7 @@ mail_body_json (TheMailBody.TxWatch tx watch) = variant (codes "TxWatch") (field
 mail_body_json (TheMailBody.TxWatched tx coord part vote) = variant (codes "TxWatched") (fields ((codes "coord", draw_json coord) ∷ (codes "part", draw_json part) ∷ (codes "tx", draw_json tx) ∷ (codes "vote", past_json vote) ∷ []))
 mail_body_json (TheMailBody.Told order result) = variant (codes "Told") (fields ((codes "order", number_json order) ∷ (codes "result", told_result_json result) ∷ []))
 
--- each part of it is as it is to be
+-- The body of a mail that the program's type can hold: each of its parts is valid.
 unfoldable pub FitsMailBody : MailBody → Type 0
 FitsMailBody (TheMailBody.Request group client seq op) = FitsU16 client × FitsDraw group × FitsOp op × FitsU32 seq
 FitsMailBody (TheMailBody.Answer group seq answer) = FitsAnswerBody answer × FitsDraw group × FitsU32 seq
@@ -58,7 +58,7 @@ FitsMailBody (TheMailBody.TxWatch tx watch) = FitsDraw tx × FitsWatch watch
 FitsMailBody (TheMailBody.TxWatched tx coord part vote) = FitsDraw coord × FitsDraw part × FitsDraw tx × FitsPast vote
 FitsMailBody (TheMailBody.Told order result) = FitsU32 order × FitsToldResult result
 
--- a mail
+-- The JSON of a mail: its body, its sender and its receiver.
 unfoldable pub mail_json : Mail → Data
 mail_json mail = fields
     ((codes "body", mail_body_json mail.body)
@@ -66,6 +66,6 @@ mail_json mail = fields
     ∷ (codes "to", number_json mail.to)
     ∷ [])
 
--- each part of it is as it is to be
+-- A mail that the program's type can hold: each of its parts is valid.
 unfoldable pub FitsMail : Mail → Type 0
 FitsMail mail = FitsMailBody mail.body × FitsU32 mail.from × FitsU32 mail.to

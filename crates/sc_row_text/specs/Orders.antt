@@ -1,4 +1,4 @@
--- Orders and what is told of them as JSON.
+-- Orders and their results as JSON.
 use Rattle.std.specs.Prelude.{[], ◌∷◌, codes, ⊤}
 use Rattle.serde_json.specs.Data.{Data, string}
 use Rattle.sc_cmd.specs.declared.orders.Order.{Order}
@@ -12,7 +12,7 @@ use Rattle.sc_row_text.specs.Shapes.{number_json, option_json, fields, variant}
 use Rattle.sc_row_text.specs.Held.{FitsU8, FitsU16, FitsU32, OptionFits}
 use Rattle.sc_row_text.specs.Names.{draw_json, FitsDraw}
 
--- an order
+-- The JSON of an order: the variant that it is, with its content.
 unfoldable pub order_json : Order → Data
 order_json (TheOrder.Join node group) = variant (codes "Join") (fields ((codes "group", draw_json group) ∷ (codes "node", number_json node) ∷ []))
 order_json (TheOrder.Leave node group) = variant (codes "Leave") (fields ((codes "group", draw_json group) ∷ (codes "node", number_json node) ∷ []))
@@ -21,7 +21,7 @@ order_json (TheOrder.Merge group) = variant (codes "Merge") (fields ((codes "gro
 order_json (TheOrder.Repart group at) = variant (codes "Repart") (fields ((codes "at", number_json at) ∷ (codes "group", draw_json group) ∷ []))
 order_json (TheOrder.Migrate group node) = variant (codes "Migrate") (fields ((codes "group", draw_json group) ∷ (codes "node", number_json node) ∷ []))
 
--- each part of it is as it is to be
+-- An order that the program's type can hold: each of its parts is valid.
 unfoldable pub FitsOrder : Order → Type 0
 FitsOrder (TheOrder.Join node group) = FitsDraw group × FitsU16 node
 FitsOrder (TheOrder.Leave node group) = FitsDraw group × FitsU16 node
@@ -30,18 +30,18 @@ FitsOrder (TheOrder.Merge group) = FitsDraw group
 FitsOrder (TheOrder.Repart group at) = FitsU32 at × FitsDraw group
 FitsOrder (TheOrder.Migrate group node) = FitsDraw group × FitsU16 node
 
--- an order with its number
+-- The JSON of an order with its number.
 unfoldable pub order_line_json : OrderLine → Data
 order_line_json line = fields
     ((codes "number", number_json line.number)
     ∷ (codes "order", order_json line.order)
     ∷ [])
 
--- each part of it is as it is to be
+-- An order with its number, as the program's type can hold it: each of its parts is valid.
 unfoldable pub FitsOrderLine : OrderLine → Type 0
 FitsOrderLine line = FitsU32 line.number × FitsOrder line.order
 
--- why an order is refused
+-- The JSON of the cause for which an order is refused.
 unfoldable pub order_refusal_json : OrderRefusal → Data
 order_refusal_json (TheOrderRefusal.NotLeader hint) = variant (codes "NotLeader") (fields ((codes "hint", option_json number_json hint) ∷ []))
 order_refusal_json (TheOrderRefusal.InTransaction tx) = variant (codes "InTransaction") (fields ((codes "tx", draw_json tx) ∷ []))
@@ -53,7 +53,7 @@ order_refusal_json TheOrderRefusal.LastMember = string (codes "LastMember")
 order_refusal_json TheOrderRefusal.TxLimit = string (codes "TxLimit")
 order_refusal_json TheOrderRefusal.IsMember = string (codes "IsMember")
 
--- each part of it is as it is to be
+-- The cause of a refused order, as the program's type can hold it: each of its parts is valid.
 unfoldable pub FitsOrderRefusal : OrderRefusal → Type 0
 FitsOrderRefusal (TheOrderRefusal.NotLeader hint) = OptionFits FitsU16 hint
 FitsOrderRefusal (TheOrderRefusal.InTransaction tx) = FitsDraw tx
@@ -65,14 +65,14 @@ FitsOrderRefusal TheOrderRefusal.LastMember = ⊤
 FitsOrderRefusal TheOrderRefusal.TxLimit = ⊤
 FitsOrderRefusal TheOrderRefusal.IsMember = ⊤
 
--- what is told of an order
+-- The JSON of the result of an order.
 unfoldable pub told_result_json : ToldResult → Data
 told_result_json TheToldResult.Done = string (codes "Done")
 told_result_json TheToldResult.Committed = string (codes "Committed")
 told_result_json TheToldResult.Aborted = string (codes "Aborted")
 told_result_json (TheToldResult.Refused content) = variant (codes "Refused") (order_refusal_json content)
 
--- each part of it is as it is to be
+-- The result of an order, as the program's type can hold it: each of its parts is valid.
 unfoldable pub FitsToldResult : ToldResult → Type 0
 FitsToldResult TheToldResult.Done = ⊤
 FitsToldResult TheToldResult.Committed = ⊤

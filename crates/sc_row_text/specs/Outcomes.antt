@@ -1,4 +1,4 @@
--- Outcomes as JSON.
+-- Outcomes of transactions as JSON.
 use Rattle.std.specs.Prelude.{[], ◌∷◌, codes, ⊤}
 use Rattle.serde_json.specs.Data.{Data, string}
 use Rattle.sc_cmd.specs.declared.votes.Gift.{Gift}
@@ -9,18 +9,18 @@ use Rattle.sc_row_text.specs.Held.{FitsU16, FitsU32, OptionFits}
 use Rattle.sc_row_text.specs.Links.{route_json, FitsRoute}
 use Rattle.sc_row_text.specs.Sets.{pairs_json, FitsPairs, clients_json, FitsClients}
 
--- a gift
+-- The JSON of what a moved boundary brings to the group that gains the arc: its pairs and the client table.
 unfoldable pub gift_json : Gift → Data
 gift_json gift = fields
     ((codes "clients", clients_json gift.clients)
     ∷ (codes "pairs", pairs_json gift.pairs)
     ∷ [])
 
--- each part of it is as it is to be
+-- What a moved boundary brings, as the program's type can hold it: each of its parts is valid.
 unfoldable pub FitsGift : Gift → Type 0
 FitsGift gift = FitsClients gift.clients × FitsPairs gift.pairs
 
--- an outcome
+-- The JSON of the outcome of a transaction.
 unfoldable pub outcome_json : Outcome → Data
 outcome_json TheOutcome.Abort = string (codes "Abort")
 outcome_json (TheOutcome.Merged into) = variant (codes "Merged") (fields ((codes "into", route_json into) ∷ []))
@@ -28,7 +28,7 @@ outcome_json (TheOutcome.Moved at gift) = variant (codes "Moved") (fields ((code
 outcome_json (TheOutcome.Migrated node) = variant (codes "Migrated") (fields ((codes "node", number_json node) ∷ []))
 outcome_json TheOutcome.Divided = string (codes "Divided")
 
--- each part of it is as it is to be
+-- The outcome of a transaction, as the program's type can hold it: each of its parts is valid.
 unfoldable pub FitsOutcome : Outcome → Type 0
 FitsOutcome TheOutcome.Abort = ⊤
 FitsOutcome (TheOutcome.Merged into) = FitsRoute into

@@ -12,7 +12,7 @@ use Rattle.sc_row_text.specs.Held.{FitsU32}
 use Rattle.sc_row_text.specs.Orders.{order_line_json, FitsOrderLine}
 use Rattle.sc_row_text.specs.Mails.{mail_json, FitsMail}
 
--- an event
+-- The JSON of an event: the variant that it is, with its content.
 unfoldable pub event_json : Event OrderLine → Data
 event_json (TheEvent.Deliver content) = variant (codes "Deliver") (number_json content)
 event_json TheEvent.Tick = string (codes "Tick")
@@ -22,7 +22,7 @@ event_json TheEvent.Crash = string (codes "Crash")
 event_json (TheEvent.Drop content) = variant (codes "Drop") (number_json content)
 event_json (TheEvent.Again content) = variant (codes "Again") (number_json content)
 
--- each part of it is as it is to be
+-- An event that the program's type can hold: each of its parts is valid.
 unfoldable pub FitsEvent : Event OrderLine → Type 0
 FitsEvent (TheEvent.Deliver content) = FitsU32 content
 FitsEvent TheEvent.Tick = ⊤
@@ -32,7 +32,7 @@ FitsEvent TheEvent.Crash = ⊤
 FitsEvent (TheEvent.Drop content) = FitsU32 content
 FitsEvent (TheEvent.Again content) = FitsU32 content
 
--- a row
+-- The JSON of a row: its event, the mail that it sends, and the actor that made it.
 unfoldable pub row_json : Row Mail OrderLine → Data
 row_json row = fields
     ((codes "event", event_json row.event)
@@ -40,6 +40,6 @@ row_json row = fields
     ∷ (codes "who", number_json row.who)
     ∷ [])
 
--- each part of it is as it is to be
+-- A row that the program's type can hold: each of its parts is valid.
 unfoldable pub FitsRow : Row Mail OrderLine → Type 0
 FitsRow row = FitsEvent row.event × Each FitsMail row.sent × FitsU32 row.who

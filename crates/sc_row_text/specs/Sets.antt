@@ -9,34 +9,34 @@ use Rattle.sc_row_text.specs.Shapes.{number_json, list_json, pair_json}
 use Rattle.sc_row_text.specs.Held.{FitsU16, FitsU32, FitsKey, FitsValue, OrderedFits}
 use Rattle.sc_row_text.specs.Ops.{reply_json, FitsReply}
 
--- an arc is [lo,len]
+-- The JSON of an arc: the array [lo,len].
 unfoldable pub arc_json : Arc → Data
 arc_json arc = array (item (number_json arc.lo) (item (number_json arc.len) no_items))
 
--- a set of nodes is an ascending array
+-- The JSON of a set of nodes: the array of the nodes, in the order of the list.
 unfoldable pub nodes_json : List ℕ → Data
 nodes_json = list_json number_json
 
--- the pairs of a group: [key,value], by ascending keys
+-- The JSON of the pairs of a group: the array of [key,value], in the order of the list.
 unfoldable pub pairs_json : List (List ℕ × List ℕ) → Data
 pairs_json = list_json (pair_json string string)
 
--- each is as it is to be
+-- The pairs of a group that the program's type can hold: each key and value is valid, and the keys ascend.
 unfoldable pub FitsPairs : List (List ℕ × List ℕ) → Type 0
 FitsPairs = OrderedFits (slice_cmp nat_cmp) FitsKey FitsValue
 
--- an entry of a client table: [client,number,reply]
+-- The JSON of an entry of a client table: the array [client,number,reply].
 unfoldable pub client_json : ℕ × Noted → Data
 client_json entry = array (item (number_json entry.0) (item (number_json entry.1.seq) (item (reply_json entry.1.reply) no_items)))
 
--- a client table is an array of its entries, by ascending clients
+-- The JSON of a client table: the array of its entries, in the order of the list.
 unfoldable pub clients_json : List (ℕ × Noted) → Data
 clients_json = list_json client_json
 
--- what is noted of a request is as it is to be
+-- What a client table notes of a client's last request, as the program's type can hold it: each of its parts is valid.
 unfoldable pub FitsNoted : Noted → Type 0
 FitsNoted noted = FitsU32 noted.seq × FitsReply noted.reply
 
--- each is as it is to be
+-- A client table that the program's type can hold: each entry is valid, and the clients ascend.
 unfoldable pub FitsClients : List (ℕ × Noted) → Type 0
 FitsClients = OrderedFits nat_cmp FitsU16 FitsNoted

@@ -1,4 +1,4 @@
--- Votes as JSON.
+-- Votes in transactions as JSON.
 use Rattle.std.specs.Prelude.{[], ◌∷◌, codes, ⊤}
 use Rattle.serde_json.specs.Data.{Data, string}
 use Rattle.sc_cmd.specs.declared.votes.No.{No}
@@ -15,21 +15,21 @@ use Rattle.sc_row_text.specs.Links.{link_json, FitsLink}
 use Rattle.sc_row_text.specs.Names.{draw_json, FitsDraw}
 use Rattle.sc_row_text.specs.Sets.{arc_json, nodes_json, pairs_json, FitsPairs, clients_json, FitsClients}
 
--- a No
+-- The JSON of the cause for which a group votes No.
 unfoldable pub no_json : No → Data
 no_json (TheNo.Busy tx) = variant (codes "Busy") (fields ((codes "tx", draw_json tx) ∷ []))
 no_json TheNo.Gone = string (codes "Gone")
 no_json TheNo.Apart = string (codes "Apart")
 no_json (TheNo.TooMany n) = variant (codes "TooMany") (fields ((codes "n", number_json n) ∷ []))
 
--- each part of it is as it is to be
+-- The cause of a No, as the program's type can hold it: each of its parts is valid.
 unfoldable pub FitsNo : No → Type 0
 FitsNo (TheNo.Busy tx) = FitsDraw tx
 FitsNo TheNo.Gone = ⊤
 FitsNo TheNo.Apart = ⊤
 FitsNo (TheNo.TooMany n) = FitsU8 n
 
--- a frozen record
+-- The JSON of the record of a participant, which stays as it is from its Yes to the outcome.
 unfoldable pub frozen_json : Frozen → Data
 frozen_json frozen = fields
     ((codes "arc", arc_json frozen.arc)
@@ -39,38 +39,38 @@ frozen_json frozen = fields
     ∷ (codes "succ", link_json frozen.succ)
     ∷ [])
 
--- each part of it is as it is to be
+-- The record of a participant that the program's type can hold: each of its parts is valid.
 unfoldable pub FitsFrozen : Frozen → Type 0
 FitsFrozen frozen = FitsArc frozen.arc × FitsClients frozen.clients × FitsMembers frozen.members × FitsPairs frozen.pairs × FitsLink frozen.succ
 
--- what was heard
+-- The JSON of what a coordinator has heard from its participant, and from which node.
 unfoldable pub heard_json : Heard → Data
 heard_json heard = fields
     ((codes "by", number_json heard.by)
     ∷ (codes "frozen", frozen_json heard.frozen)
     ∷ [])
 
--- each part of it is as it is to be
+-- What a coordinator has heard, as the program's type can hold it: each of its parts is valid.
 unfoldable pub FitsHeard : Heard → Type 0
 FitsHeard heard = FitsU16 heard.by × FitsFrozen heard.frozen
 
--- a vote
+-- The JSON of a participant's vote.
 unfoldable pub vote_json : Vote → Data
 vote_json (TheVote.Yes content) = variant (codes "Yes") (frozen_json content)
 vote_json (TheVote.No content) = variant (codes "No") (no_json content)
 
--- each part of it is as it is to be
+-- A vote that the program's type can hold: each of its parts is valid.
 unfoldable pub FitsVote : Vote → Type 0
 FitsVote (TheVote.Yes content) = FitsFrozen content
 FitsVote (TheVote.No content) = FitsNo content
 
--- a past vote
+-- The JSON of what a group remembers of a vote of its own, or that the transaction has ended there.
 unfoldable pub past_json : Past → Data
 past_json ThePast.Yes = string (codes "Yes")
 past_json (ThePast.No content) = variant (codes "No") (no_json content)
 past_json ThePast.Ended = string (codes "Ended")
 
--- each part of it is as it is to be
+-- What a group remembers of its vote, as the program's type can hold it: each of its parts is valid.
 unfoldable pub FitsPast : Past → Type 0
 FitsPast ThePast.Yes = ⊤
 FitsPast (ThePast.No content) = FitsNo content

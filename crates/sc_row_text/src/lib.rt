@@ -1,4 +1,4 @@
-//! What the rows of a journal look like as JSON: definitions, and what holds of every such text.
+//! The JSON of the rows of a journal: a definition for each type, and laws of every such text.
 #![tactic(auto)]
 
 ghost use Rattle.std.specs.Prelude.{◌≡◌, ◌≤◌, length, true, false, Some, IsUtf8};
@@ -11,8 +11,8 @@ ghost use Rattle.sc_plain_json.specs.Plain.{is_one_line};
 ghost use Rattle.sc_row_text.specs.Rows.{row_json};
 ghost use Rattle.sc_row_text.specs.RowText.{text_of, IsHeld};
 
-/// The text of each row that a value can hold is one line, and has a byte for each mail of the row
-/// at least.
+/// Shows that the text of each row that the program's types can hold is one line, and has at least
+/// as many bytes as the row sends mails.
 pub fn row_texts_are_lines()
     ensures one_line { (row : Row Mail OrderLine) → IsHeld row
         → is_one_line (text_of row) ≡ true }
@@ -20,8 +20,8 @@ pub fn row_texts_are_lines()
         → length row.sent ≤ length (text_of row) }
 {}
 
-/// The text of each row that a value can hold is UTF-8, and a reader of JSON finds the row's JSON
-/// in it: two rows with one text have one JSON.
+/// Shows that the text of each row that the program's types can hold is UTF-8, and that
+/// `serde_json`'s parser finds the row's JSON in it. So two rows with one text have one JSON.
 pub fn row_texts_read_back()
     ensures whole { (row : Row Mail OrderLine) → IsHeld row → has_float (row_json row) ≡ false }
     ensures back { (row : Row Mail OrderLine) → IsHeld row

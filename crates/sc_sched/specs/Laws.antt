@@ -1,4 +1,4 @@
--- The rows that deeds make.
+-- The rows that the deeds of a storm make.
 use Rattle.std.specs.Prelude.{◌≡◌, ℕ, ◌%◌, ◌<◌, ◌≤◌, List, Option, All, option_and_then}
 use Rattle.sc_actor.specs.declared.rows.Row.{Row}
 use Rattle.sc_actor.specs.declared.actors.Seat.{Seat}
@@ -9,15 +9,15 @@ use Rattle.sc_exchange.specs.Answers.{IsLook}
 use Rattle.sc_sched.specs.declared.deeds.Deed.{Deed}
 use Rattle.sc_sched.specs.Deeds.{deed_of, deed_line}
 
--- the row of a deed, or none: that of its line
+-- The row of a deed after these rows: the row of its line, if there is one.
 abbrev pub deed_row : {A M O : Type 0} → System A M O → List (Row M O) → Deed → Option (Row M O)
 deed_row s rows deed = option_and_then (line_row s rows) (deed_line deed)
 
--- the actors have numbers from 1 to n
+-- The actors have numbers from 1 to `n`.
 abbrev pub AreWithin : {A : Type 0} → ℕ → List (Seat A) → Type 0
 AreWithin n births = All (λ (seat : Seat _). (0 < seat.who) × (seat.who ≤ n)) births
 
--- a step of a storm makes the row of its deed, where the exchange of n actors was looked at after these rows
+-- With these words, the row of the storm's step after these rows is the row of its deed, where the actors have numbers from 1 to `n` and `look` is what is pending after these rows.
 abbrev pub MakesItsRow : {A M O : Type 0} → System A M O → ℕ → List (Row M O) → Look → ℕ × ℕ → Type 0
 MakesItsRow s n rows look words =
     AreWithin n s.births → IsLook s.receiver n rows look →

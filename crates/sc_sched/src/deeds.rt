@@ -7,11 +7,11 @@ ghost use Rattle.sc_sched.specs.Deeds.{copy_lost, copy_delivered, clock_ticked, 
 use sc_actor::Line;
 use sc_exchange::{Glance, Look, Spot};
 
-/// What a step of a storm does.
+/// What a step of a storm does: one event of the network or of an actor, or nothing.
 #[derive(Clone, Copy, Debug, PartialEq, Eq)]
 pub enum Deed {
-    /// A pending copy of the mail with this number is lost: the k-th pending mail of the actor,
-    /// counted from 1.
+    /// A pending copy of the mail with this number is lost: the k-th pending mail of the actor
+    /// `who`, counted from 1.
     Drop { number: u32, who: u32, k: u32 },
     /// The mail with this number is repeated, if its receiver may get it.
     Again { number: u32 },
@@ -19,14 +19,14 @@ pub enum Deed {
     Tick { who: u32 },
     /// The k-th pending mail of the actor, counted from 1, is delivered.
     Deliver { who: u32, k: u32 },
-    /// Nothing: no mail was pending that could be lost or delivered, or none was sent that could
-    /// be repeated.
+    /// Nothing happens: no mail was pending that could be lost or delivered, or none was sent that
+    /// could be repeated, or there is no actor.
     Nothing,
 }
 
 impl Deed {
-    /// The line of one row that it is. A storm's step makes the row of that line, if the line makes
-    /// one.
+    /// Returns the schedule line of one row that the deed is, if it is one. The step of a storm
+    /// makes the row of that line, if the line makes one.
     pub fn line<O>(self) -> Option<Line<O>>
         ensures { result ≡ deed_line self }
     {
@@ -40,7 +40,7 @@ impl Deed {
     }
 }
 
-/// The deed by the first word modulo 16, and by the second.
+/// Returns the deed by the first word modulo 16, `kind`, and by the second, `word`.
 pub(crate) fn deed_by(look: &Look, actors: &[u32], kind: u32, word: u32) -> Deed
     ensures { result ≡ deed_by actors.now look.now kind word }
 {
@@ -52,7 +52,8 @@ pub(crate) fn deed_by(look: &Look, actors: &[u32], kind: u32, word: u32) -> Deed
     }
 }
 
-/// The same by a glance at what was seen.
+/// Returns the deed by the first word modulo 16, `kind`, and by the second, `word`, from a glance
+/// at what is pending.
 pub(crate) fn deed_shown(glance: &Glance, actors: &[u32], kind: u32, word: u32) -> Deed
     ensures { (look : Look) → Shows actors.now word look glance.now →
         result ≡ deed_by actors.now look kind word }
@@ -90,7 +91,8 @@ fn nth_for(actors: &[u32], spots: &[Spot], n: usize) -> Option<Spot>
         .nth(n)
 }
 
-// The copy for one of the actors at the place that a word gives.
+// Returns, of the copies for the actors, the one at the place `word` modulo their number, if there
+// is any.
 fn picked(spots: &[Spot], actors: &[u32], word: u32) -> Option<Spot>
     ensures { result ≡ picked_spot (copies_for actors.now spots.now) word }
 {

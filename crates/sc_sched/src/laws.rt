@@ -1,4 +1,4 @@
-//! What holds of the steps of storms.
+//! The law of the steps of storms.
 ghost use Rattle.std.specs.Prelude.{ℕ, List};
 ghost use Rattle.sc_actor.specs.declared.actors.Seat.{Seat};
 ghost use Rattle.sc_actor.specs.declared.rows.Row.{Row};
@@ -8,8 +8,8 @@ ghost use Rattle.sc_sched.specs.Laws.{MakesItsRow};
 
 use sc_actor::Actor;
 
-/// The line of a step's deed makes the row that the walk has for that step, and none where the
-/// walk has none.
+/// Shows that the line of a step's deed makes the row that the walk of the schedule has for this
+/// step, and none where the walk has none.
 pub fn deeds_are_rows_of_the_walk<A: Actor>()
     ensures { (draws : ℕ → ℕ → ℕ × ℕ) (births : List (Seat A)) (actors : ℕ)
         (rows : List (Row A.Mail A.Order)) (look : Look) (words : ℕ × ℕ) →

@@ -1,4 +1,4 @@
-//! Storms: what each of their steps does to a journal that was looked at.
+//! Storms: what each of their steps does after a look at the journal.
 #![tactic(auto)]
 
 mod deeds;

@@ -1,4 +1,4 @@
-//! Storms: steps that words draw.
+//! Storms, whose steps are drawn.
 ghost use Rattle.std.specs.Prelude.{◌≡◌};
 ghost use Rattle.sc_chance.specs.Words.{two_words, after_step};
 ghost use Rattle.sc_ledger.specs.declared.spots.Look.{Look};
@@ -9,8 +9,8 @@ use sc_chance::Chance;
 use sc_exchange::{Glance, Look};
 use std::marker::Model;
 
-/// A storm: what draws its steps, each by the two words that the storm's number gives. Contracts
-/// see its number and which step comes next.
+/// A storm: it draws its steps, each by the two words that the generator gives for the storm's
+/// number. Contracts see its number and which step is next.
 #[derive(Drop)]
 pub struct Storm {
     chance: Chance,
@@ -25,7 +25,7 @@ impl Model for Storm {
 }
 
 impl Storm {
-    /// The storm of that number, at its first step.
+    /// Returns the storm with this number, at its first step.
     pub fn start(number: u64) -> Storm
         ensures { result ≡ record { number = number; step = 0 } }
     {
@@ -34,7 +34,7 @@ impl Storm {
         }
     }
 
-    /// The two words of the next step.
+    /// Draws the two words of the next step.
     pub fn draw(&mut self) -> (u32, u32)
         ensures words { result ≡ two_words self.old.number self.old.step }
         ensures next { self.new ≡ after_step self.old }
@@ -42,9 +42,9 @@ impl Storm {
         self.chance.draw()
     }
 
-    /// Draws the two words of the next step, and answers what that step does where these are the
-    /// numbers of the actors in their order, and this was seen at the network's port. Mail to other
-    /// actors is passed over. Takes no memory.
+    /// Draws the two words of the next step, and returns what this step does. `actors` are the
+    /// numbers of the actors in their order, and `look` is what the network's port has seen
+    /// pending. Mail to other actors is passed over. It takes no memory.
     pub fn deed(&mut self, look: &Look, actors: &[u32]) -> Deed
         ensures deed { result
             ≡ deed_of actors.now look.now (two_words self.old.number self.old.step) }
@@ -55,9 +55,9 @@ impl Storm {
     }
 }
 
-/// What a step with these words does where these are the numbers of the actors in their order: of
-/// what was seen a glance is enough, which tells how many mails were sent and which copy the second
-/// word picks.
+/// Returns what a step with these words does. `actors` are the numbers of the actors in their
+/// order. Of what is pending a glance is enough: the number of mails that were sent, and the copy
+/// that the second word picks.
 pub fn deed_at(glance: &Glance, actors: &[u32], words: (u32, u32)) -> Deed
     ensures { (look : Look) → Shows actors.now words.1 look glance.now →
         result ≡ deed_of actors.now look words }

@@ -1,4 +1,4 @@
--- Events and answers.
+-- The events that a shell may get beside deliveries, and its answer to a refused row.
 use Rattle.std.specs.Prelude.{⊤}
 use Rattle.sc_actor.specs.declared.rows.Event.{Event}
 use Rattle.sc_actor.specs.declared.rows.Event.TheVariants.{Deliver, Drop, Again, Tick, Go, Told, Crash}
@@ -7,7 +7,7 @@ use Rattle.sc_ledger.specs.declared.faults.PostFault.TheVariants.{JournalFull, O
 use Rattle.sc_shell.specs.declared.turns.Turn.{Turn}
 use Rattle.sc_shell.specs.declared.turns.Turn.TheVariants.{Full, OutOfMemory}
 
--- an event that a shell is told of: no delivery, and none of the network's
+-- The event is one for `Shell::event`: a tick, a go, an order or a crash; no delivery, and no event of the network.
 abbrev pub MayHappen : {O : Type 0} → Event O → Type 0
 MayHappen (Deliver number) = ⊥
 MayHappen (Drop number) = ⊥
@@ -17,7 +17,7 @@ MayHappen Go = ⊤
 MayHappen (Told order) = ⊤
 MayHappen Crash = ⊤
 
--- the answer where a row was refused
+-- The answer of a shell whose row was refused for this cause.
 abbrev pub turn_of : PostFault → Turn
 turn_of (JournalFull bytes) = Full bytes
 turn_of NoMemory = OutOfMemory

@@ -1,4 +1,4 @@
-//! Shells.
+//! The shells, each with an actor and its port.
 ghost use Rattle.std.specs.Prelude.{◌≡◌, ◌<◌, ◌++◌, [], ◌||◌, List, not, true, false, None, Some, IfOk};
 ghost use Rattle.sc_turn.specs.Turn.{StartsWith as Begins};
 ghost use Rattle.sc_actor.specs.declared.rows.Row.{Row};
@@ -15,7 +15,8 @@ use sc_exchange::{Fetched, Port, PostFault};
 use std::alloc::Global;
 use std::sync::Wait;
 
-/// An actor, seated at its port. A shell that is spent posts no row any more.
+/// An actor with its port. It lets the actor step and posts the row of the step. A shell that is
+/// spent posts no row any more.
 ///
 /// Its meaning is its actor, its port, whether it is spent, and its last answer.
 #[derive(Drop)]
@@ -31,7 +32,8 @@ pub struct Shell<A: Actor> {
 impl<A: Actor> Shell<A> {
     ghost use Rattle.sc_shell.specs.Shells.{actor_of, port_of, is_spent, last_of, Replays, KeepsReplay, HasRested, HasVouched, Acts, Takes, Happens, state};
 
-    /// The actor at its port, which has made no row. The actor is as it was born.
+    /// Returns a shell of the actor with its port, which must have made no row. The actor is taken
+    /// as it is at its birth.
     pub fn new(actor: A, port: Port<A::Mail, A::Order>) -> Shell<A>
         requires own { 0 < port.who }
         requires fresh { (made port ≡ []) × (port.crashed ≡ false) }
@@ -47,36 +49,36 @@ impl<A: Actor> Shell<A> {
         }
     }
 
-    /// The actor's number.
+    /// Returns the number of the actor.
     pub fn who(&self) -> u32
         ensures { result ≡ (port_of self.now).who }
     {
         self.port.who
     }
 
-    /// Whether the shell posts no row any more: it has posted a Crash, or has answered Full or
-    /// OutOfMemory.
+    /// Returns whether the shell posts no row any more: it has posted a Crash, or has answered
+    /// `Full` or `OutOfMemory`.
     pub fn is_spent(&self) -> bool
         ensures { result ≡ is_spent self.now }
     {
         self.spent
     }
 
-    /// Whether the shell has posted a Crash.
+    /// Returns whether the shell has posted a Crash.
     pub fn has_crashed(&self) -> bool
         ensures { result ≡ (port_of self.now).crashed }
     {
         self.port.crashed
     }
 
-    /// The answer of the last turn or event. None where there was none.
+    /// Returns the answer of the last turn or event, or `None` where there was none.
     pub fn last(&self) -> Option<Turn>
         ensures { result ≡ last_of self.now }
     {
         self.last
     }
 
-    // The actor takes an input, and the row of it is posted.
+    // Lets the actor step with an input, and posts the row of the step.
     fn act<R: Wait>(
         &mut self,
         rt: &R,
@@ -128,7 +130,8 @@ impl<A: Actor> Shell<A> {
     }
 
     /// Fetches the k-th pending mail, counted from 1, passes the gate, lets the actor step, and
-    /// posts the row.
+    /// posts the row. The answer is `Empty` where fewer mails are pending; then the actor makes no
+    /// step, and the gate is not passed.
     pub fn turn<G: Gate, R: Wait>(&mut self, rt: &R, alloc: Global, k: u32, gate: &G) -> Turn
         requires { 0 < k }
         ensures takes { Takes (state self.old) (state self.new) k result }
@@ -157,7 +160,8 @@ impl<A: Actor> Shell<A> {
         self.act(rt, alloc, event, input)
     }
 
-    /// The same at an event that is no delivery, without a fetch or a gate.
+    /// Lets the actor step at an event that is no delivery, and posts the row. No mail is fetched,
+    /// and no gate is passed.
     pub fn event<R: Wait>(&mut self, rt: &R, alloc: Global, event: Event<A::Order>) -> Turn
         requires { MayHappen event }
         ensures happens { Happens (state self.old) (state self.new) event result }
@@ -170,8 +174,8 @@ impl<A: Actor> Shell<A> {
         answer
     }
 
-    /// The shell's port and `net` tell each other: afterwards what each has seen begins with what
-    /// the two had seen before.
+    /// Lets the shell's port and `net` exchange what they have seen. Afterwards what each has seen
+    /// begins with what both had seen before.
     pub fn meet<R: Wait>(
         &mut self,
         rt: &R,
@@ -186,9 +190,9 @@ impl<A: Actor> Shell<A> {
         self.port.meet(rt, net)
     }
 
-    /// Vouches for what `net` has seen, which begins with what this shell's port has seen: the rows
-    /// of this actor in it are exactly those that this shell's port made, and the actor is their
-    /// replay if it is that of its rows. Nobody sees more by it.
+    /// Shows that in what `net` has seen, which has to begin with what this shell's port has seen,
+    /// the rows of this actor are exactly those that this shell's port has made, and that the actor
+    /// is their replay if it is that of its rows. Neither port sees more rows afterwards.
     pub fn vouch(&mut self, net: &mut Port<A::Mail, A::Order>)
         requires one { SameExchange (port_of self.old) net.old }
         requires later { Begins (seen net.old) (seen (port_of self.old)) }
@@ -200,8 +204,8 @@ impl<A: Actor> Shell<A> {
         self.port.vouch(net);
     }
 
-    /// The number of the first pending mail of this actor. None exactly where at this turn there
-    /// was none.
+    /// Returns the number of the first pending mail of this actor; `None` exactly where at this
+    /// turn there is none.
     pub fn waiting<R: Wait>(&mut self, rt: &R) -> Option<u32>
         ensures rested { HasRested self.old self.new }
         ensures looked { HasLooked (port_of self.old) (port_of self.new)
@@ -214,7 +218,7 @@ impl<A: Actor> Shell<A> {
         self.port.pending(rt, who, 1)
     }
 
-    /// The actor and its port. It takes no memory.
+    /// Returns the actor and its port. It takes no memory.
     pub fn parts(self) -> (A, Port<A::Mail, A::Order>)
         ensures { (result.0 ≡ actor_of self) × (result.1 ≡ port_of self) }
     {
@@ -228,7 +232,7 @@ impl<A: Actor> Shell<A> {
     }
 }
 
-// What the actor sends at an input. Without one it stays as it is.
+// Returns what the actor sends at an input. Without an input it sends nothing and stays as it is.
 fn sent_at<A: Actor>(
     alloc: Global,
     actor: &mut A,
@@ -242,7 +246,7 @@ fn sent_at<A: Actor>(
     }
 }
 
-// The input of an event that is no delivery.
+// Returns the input of an event that is no delivery; a crash has none.
 fn input_at<M, O: Dup>(alloc: Global, event: &Event<O>) -> Result<Option<Input<M, O>>, OutOfMemory>
     requires { MayHappen event.now }
     ensures { IfOk result (λ input. input ≡ input_of [] event.now) }

@@ -1,4 +1,4 @@
-//! What comes to a group, and what it comes to, in brief.
+//! Commands for a group and their effects, in brief.
 use crate::starts::{BEFORE, LAST, TX, frozen, offer, watch};
 use sc_base::{Boxed, Draw, Key, Members, Op, Pairs, SeenList, Value};
 use sc_cmd::{Body, Command, Effect, Gift, No, Outcome, Past, Route, Vote};
@@ -7,7 +7,7 @@ use std::alloc::Global;
 use std::mem::forget;
 use std::process::Abort;
 
-// What comes to the group.
+// A command for the group, in brief.
 #[derive(Clone, Copy)]
 pub(crate) enum Ask {
     Noop,
@@ -16,10 +16,10 @@ pub(crate) enum Ask {
     Leave(u16),
     Split(Draw, u32),
     Begin(Draw, Body),
-    // An offer of a group whose arc starts there, of so many members.
+    // An offer of a group whose arc starts at this position, with this number of members.
     Prepared(u32, u16, Body),
     Watched(Draw),
-    // The vote of Yes on a transaction, of a group before that one, and the vote of No.
+    // The vote of Yes on a transaction, of a group with this successor; and the vote of No.
     Yes(Draw, Draw),
     No,
     GiveUp,
@@ -46,7 +46,7 @@ fn put(rt: &impl Abort, alloc: Global, seq: u32, key: &[u8]) -> Command {
     Command::Call { client: 1, seq, op }
 }
 
-// A gift of nothing.
+// Returns a gift without pairs or clients.
 fn gift(alloc: Global) -> Gift {
     Gift {
         pairs: Pairs::new(alloc),
@@ -124,10 +124,10 @@ pub(crate) fn command(rt: &impl Abort, alloc: Global, ask: Ask) -> Command {
     }
 }
 
-// An effect in brief.
+// The effect of a command, in brief.
 #[derive(Clone, Copy, PartialEq)]
 pub(crate) enum Was {
-    // Done, and the key had no value; and where it had one.
+    // The request was executed: with `Done` the key had no value before, with `Found` it had one.
     Done,
     Found,
     Again,
@@ -194,7 +194,7 @@ fn brief(effect: &Effect) -> Was {
     }
 }
 
-// What a command comes to, in brief.
+// Returns the effect of a command, in brief.
 pub(crate) fn applied(rt: &impl Abort, machine: &mut Machine, command: Command) -> Was {
     let effect = machine.apply(&command).expect(rt, "memory");
     let was = brief(&effect);

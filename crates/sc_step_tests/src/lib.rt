@@ -1,5 +1,5 @@
-//! Tests of the step machines, over public calls alone. They stand apart, since a crate with tests
-//! is proved twice.
+//! Tests of the step machines, by public calls alone. They are in a crate of their own, since a
+//! crate with tests is proved twice.
 #![tactic(auto)]
 
 #[cfg(test)]

@@ -13,7 +13,7 @@ fn was(rt: &impl Abort, alloc: Global, start: Start, ask: Ask) -> Was {
     was
 }
 
-// A command that comes to a group which starts so, and its effect.
+// How the group starts, a command for it, and the command's effect.
 type Line = (Start, Ask, Was);
 
 fn all_are(rt: &impl Abort, alloc: Global, lines: &[Line]) {
@@ -115,7 +115,7 @@ fn splits(rt: HostRuntime) {
     all_are(&rt, rt.alloc(), SPLITS);
 }
 
-// An order to begin the transaction of a migration, of a boundary that moves.
+// Commands that begin a migration, or move a boundary.
 const LEAVES: Ask = Ask::Begin(TX, Body::Migrate { node: 1 });
 
 const STRANGER_LEAVES: Ask = Ask::Begin(TX, Body::Migrate { node: 3 });
@@ -216,7 +216,7 @@ fn coordinators_that_give_up(rt: HostRuntime) {
     all_are(&rt, rt.alloc(), GIVEN_UP);
 }
 
-// The vote of Yes of a group before another one, and before this one.
+// The vote of Yes of a group before another one, and of a group before this one.
 const YES: Ask = Ask::Yes(TX, LAST);
 
 const CLOSING: Ask = Ask::Yes(TX, GROUP);
@@ -248,7 +248,7 @@ fn votes_that_are_recorded(rt: HostRuntime) {
     all_are(&rt, rt.alloc(), RECORDED);
 }
 
-// The watcher's vote of Yes and of No, and that the transaction has ended.
+// The watcher's vote of Yes and of No, and that the transaction has ended at it.
 const WATCH_YES: Ask = Ask::Watch(Past::Yes);
 
 const WATCH_NO: Ask = Ask::Watch(Past::No(No::Gone));
@@ -326,7 +326,7 @@ fn outcomes(rt: HostRuntime) {
     all_are(&rt, rt.alloc(), OUTCOMES);
 }
 
-// Whether the command makes a child of the group that starts so.
+// Returns whether the command makes a child of the group that starts so.
 fn makes(rt: &impl Abort, alloc: Global, start: Start, ask: Ask) -> bool {
     let machine = machine(rt, alloc, start);
     let command = command(rt, alloc, ask);

@@ -38,7 +38,7 @@ fn core(alloc: Global, arc: RingArc, members: &Members) -> Core {
     }
 }
 
-// A group on the positions from 0 to that of the key `b`, which it does not hold.
+// Returns a group on the positions from 0 to that of the key `b`, which it does not hold.
 fn group(rt: &impl Abort, alloc: Global) -> Base {
     let arc = RingArc::try_new(0, 0x6200_0000).expect(rt, "an arc");
     Base {
@@ -56,8 +56,8 @@ fn put(rt: &impl Abort, alloc: Global, seq: u32, key: &[u8], value: &[u8]) -> Co
     Command::Call { client: 1, seq, op }
 }
 
-// What is asked of a machine: of nodes, of the boundary of a split, or a put of client 1 by its
-// number, key and value.
+// A command in brief: a node that joins or leaves, the boundary of a split, or a put of client 1 by
+// its number, key and value.
 #[derive(Clone, Copy)]
 enum Ask {
     Join(u16),
@@ -66,7 +66,7 @@ enum Ask {
     Put(u32, &'static [u8], &'static [u8]),
 }
 
-// What is asked, and what it comes to.
+// A command, and its effect.
 type Step = (Ask, Was);
 
 fn command_of(rt: &impl Abort, alloc: Global, ask: Ask) -> Command {
@@ -82,7 +82,7 @@ fn command_of(rt: &impl Abort, alloc: Global, ask: Ask) -> Command {
     }
 }
 
-// Carries out these commands, one after the other, each with the effect beside it.
+// Carries out these commands, one after the other, and checks the effect of each.
 fn take(rt: &impl Abort, alloc: Global, machine: &mut Machine, steps: &[Step]) {
     for (ask, effect) in steps {
         let was = applied(rt, machine, command_of(rt, alloc, *ask));
@@ -90,7 +90,7 @@ fn take(rt: &impl Abort, alloc: Global, machine: &mut Machine, steps: &[Step]) {
     }
 }
 
-// A new machine that has carried these out.
+// Returns a new machine that has carried out these commands.
 fn machine_after(rt: &impl Abort, alloc: Global, steps: &[Step]) -> Machine {
     let mut machine = Machine::born(alloc, group(rt, alloc)).expect(rt, "memory");
     take(rt, alloc, &mut machine, steps);
@@ -119,7 +119,7 @@ fn has_one_of_each(record: &Base) -> bool {
 
 const ONE: &[Step] = &[(Ask::Put(1, b"a", b"x"), Was::Done)];
 
-// The record of a machine that carried out a request, with one pair and one client.
+// Returns the record of a machine that carried out one request, with one pair and one client.
 fn record_after_one(rt: &impl Abort, alloc: Global) -> Base {
     let machine = machine_after(rt, alloc, ONE);
     let record = machine.base().expect(rt, "memory");
@@ -163,7 +163,7 @@ fn nodes_join_and_leave(rt: HostRuntime) {
     assert!(rt; joined && left);
 }
 
-// Of a group of the nodes 1 and 2 with a pair at each of `a` and `az`.
+// The commands of a group of the nodes 1 and 2 with a pair at each of `a` and `az`.
 const TWO_NODES: &[Step] = &[
     (Ask::Join(2), Was::Changed),
     (Ask::Put(1, b"a", b"x"), Was::Done),
@@ -186,7 +186,7 @@ fn a_group_splits_and_serves_what_it_keeps(rt: HostRuntime) {
     assert!(rt; left);
 }
 
-// The child of that group.
+// Returns the record of the child of that group.
 fn child_record(rt: &impl Abort, alloc: Global) -> Base {
     let machine = machine_after(rt, alloc, TWO_NODES);
     assert!(rt; can_split(machine.core(), AA));

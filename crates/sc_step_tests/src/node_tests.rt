@@ -1,4 +1,4 @@
-//! A node of one group steps as its replica.
+//! A node of one group steps as its replica does.
 ghost use Rattle.std.specs.Prelude.{◌≡◌, true, IfSome};
 ghost use Rattle.sc_node_table.specs.Node.{may_come};
 ghost use Rattle.sc_node.specs.Given.{may_take};
@@ -14,7 +14,7 @@ use std::alloc::Global;
 use std::mem::forget;
 use std::process::Abort;
 
-// What the input is: a mail for its group, or a tick.
+// An input: a mail for the group, or a tick.
 #[derive(Clone, Copy)]
 enum Step {
     Request(u32),
@@ -39,7 +39,7 @@ fn mail(from: u32, body: MailBody) -> Mail
     Mail { from, to: 1, body }
 }
 
-// The mail of a step; none at a tick.
+// Returns the mail of a step, or `None` at a tick.
 fn mail_of(rt: &impl Abort, alloc: Global, step: Step, op: &Op) -> Option<Mail>
     ensures { IfSome result (λ mail. may_come mail.from mail.body ≡ true) }
 {
@@ -96,7 +96,7 @@ fn replica_sends(
     sent
 }
 
-// How many mails both send at a step, or 99 where these are not the same in each part.
+// Returns how many mails both send at a step, or 99 where the two differ.
 fn alike(
     rt: &impl Abort,
     alloc: Global,
@@ -117,7 +117,7 @@ fn alike(
     count
 }
 
-// Whether both send one mail at each step.
+// Returns whether both send one mail at each step.
 fn all_alike(
     rt: &impl Abort,
     alloc: Global,
@@ -142,8 +142,9 @@ fn born_node(rt: &impl Abort, alloc: Global) -> NodeCore {
     node
 }
 
-// Each step sends one mail: a request is offered, a tick offers it again, the accept is answered, and
-// the client is answered once the slot is executed. The repeat gets a slot of its own.
+// Shows that a node of one group sends what its replica sends. Each step sends one mail: a request
+// is proposed, a tick proposes it again, the accept is answered, and the client is answered once
+// the slot is executed. The repeated request gets a slot of its own.
 #[test]
 fn a_node_of_one_group_sends_what_its_replica_sends(rt: HostRuntime) {
     let mut node = born_node(&rt, rt.alloc());

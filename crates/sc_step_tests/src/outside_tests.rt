@@ -10,7 +10,7 @@ use std::alloc::Global;
 use std::mem::forget;
 use std::process::Abort;
 
-// The one group, of node 1, on the whole ring.
+// Returns the birth of the one group, of node 1, on the whole ring.
 fn birth(rt: &impl Abort) -> GroupBirth {
     let group = Draw { node: 0, count: 1 };
     let members = Members::one(1);
@@ -45,7 +45,7 @@ fn client(rt: &impl Abort, alloc: Global, birth: &GroupBirth) -> ClientCore {
     ClientCore::born(alloc, 1, requests, birth.route()).expect(rt, "memory")
 }
 
-// The one mail that is sent.
+// Returns the one mail that is sent, as an input.
 fn only(rt: &impl Abort, mails: Sequence<Mail>) -> Input<Mail, OrderLine> {
     let mut all = mails.into_vec();
     let first = all.pop().expect(rt, "a mail");
@@ -53,7 +53,8 @@ fn only(rt: &impl Abort, mails: Sequence<Mail>) -> Input<Mail, OrderLine> {
     Input::Got(first)
 }
 
-// The group's own question and its vote stand between the request and its answer.
+// Returns whether the client's request is answered. Between the request and its answer are the
+// group's own accept and its vote.
 fn is_answered(
     rt: &impl Abort,
     alloc: Global,

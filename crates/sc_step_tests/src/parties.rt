@@ -11,8 +11,8 @@ use std::alloc::Global;
 use std::mem::forget;
 use std::process::Abort;
 
-// What happens: an order to a node, the lowest pending mail so many times, a pending mail of a node
-// that is delivered or lost, a tick, a crash.
+// An event: an order to a node, up to this many deliveries of the lowest pending mail, a pending
+// mail of a node that is delivered or lost, a tick, a crash.
 #[derive(Clone, Copy)]
 pub(crate) enum Event {
     Told(u32, Order),
@@ -23,7 +23,7 @@ pub(crate) enum Event {
     Crash(u32),
 }
 
-// What an order came to.
+// The result of an order, in brief.
 #[derive(Clone, Copy, PartialEq)]
 pub(crate) enum Came {
     Done,
@@ -32,7 +32,7 @@ pub(crate) enum Came {
     Refused(u8),
 }
 
-// Where a group's arc begins, how long it is, and its members.
+// The start of a group's arc, its length, and the group's members.
 pub(crate) type Place = (u32, u64, &'static [u16]);
 
 #[derive(Drop)]
@@ -83,7 +83,7 @@ fn link_to(rt: &impl Abort, groups: &[Place], i: usize) -> Link
     }
 }
 
-// The group at a place of the ring.
+// Returns the group at a place of the ring.
 fn base_at(rt: &impl Abort, alloc: Global, groups: &[Place], i: usize) -> Base
     requires within { i < length groups.now }
     requires few { length groups.now ≤ 16 }
@@ -187,7 +187,7 @@ fn place_of(node: u32) -> usize {
     node.saturating_sub(1) as usize
 }
 
-// A node steps.
+// Lets a node step, and posts what it sends.
 fn act(rt: &impl Abort, alloc: Global, run: &mut Run, node: u32, input: Input<Mail, OrderLine>) {
     let Some(party) = run.parties.get_mut(place_of(node)) else {
         panic!(rt; "no such node");
@@ -206,7 +206,7 @@ fn is_alive(parties: &[Party], node: u32) -> bool {
     }
 }
 
-// The first pending mail, of a node or (0) of any.
+// Returns the place of the first pending mail of a node, or of any where `node` is 0.
 fn first(run: &Run, node: u32) -> Option<usize> {
     for (i, posted) in run.mails.iter().enumerate() {
         let to = posted.mail.to;
@@ -228,7 +228,7 @@ fn take(rt: &impl Abort, alloc: Global, mails: &mut Vec<Posted>, i: usize) -> Ma
     }
 }
 
-// The first pending mail is delivered, if there is one.
+// Delivers the first pending mail, if there is one.
 fn deliver(rt: &impl Abort, alloc: Global, run: &mut Run, node: u32) {
     if let Some(i) = first(run, node) {
         let mail = take(rt, alloc, &mut run.mails, i);
@@ -279,7 +279,7 @@ fn happen(rt: &impl Abort, alloc: Global, run: &mut Run, event: Event) {
     }
 }
 
-// The nodes, with a policy or without, and their mails after all that happened.
+// Returns the nodes, with a policy or without, and their mails after all these events.
 pub(crate) fn played(
     rt: &impl Abort,
     alloc: Global,

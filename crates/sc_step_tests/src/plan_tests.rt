@@ -26,7 +26,7 @@ fn link(group: Draw, members: Members) -> Link {
     Link { group, members }
 }
 
-// A group with this arc and these members, and the other group as both neighbours.
+// Returns a group with this arc and these members, and the other group as both neighbours.
 fn core_on(alloc: Global, arc: RingArc, members: Members, lock: Lock) -> Core {
     Core {
         id: FIRST,
@@ -44,12 +44,12 @@ fn core_on(alloc: Global, arc: RingArc, members: Members, lock: Lock) -> Core {
     }
 }
 
-// One half of the ring, with these members, free.
+// Returns a free group on one half of the ring with these members.
 fn half(rt: &impl Abort, alloc: Global, lo: u32, members: Members) -> Core {
     core_on(alloc, half_arc(rt, lo), members, Lock::Free)
 }
 
-// The other half, as it was frozen; its successor is this group.
+// Returns the record of the other half, as it was frozen. Its successor is the first group.
 fn other_half(rt: &impl Abort, alloc: Global, members: Members) -> Frozen {
     Frozen {
         arc: half_arc(rt, MIDDLE),
@@ -71,14 +71,14 @@ fn offer(rt: &impl Abort, members: Members, body: Body) -> Offer {
     }
 }
 
-// Where an arc begins, and how long it is.
+// The start of an arc, and its length.
 type Place = (u32, u64);
 
 fn place(arc: RingArc) -> Place {
     (arc.lo(), arc.len())
 }
 
-// The arc that a group has after the boundary moved, and the one that changed hands.
+// Returns the arc that a group has after the boundary moved, and the one that changed hands.
 fn moved(
     rt: &impl Abort,
     alloc: Global,
@@ -93,7 +93,7 @@ fn moved(
     (kept, arc)
 }
 
-// The same of the first half.
+// Returns the arc that the first half has after the boundary moved, and the one that changed hands.
 fn moved_of_half(rt: &impl Abort, alloc: Global, at: u32) -> (RingArc, RingArc) {
     let core = half(rt, alloc, 0, Members::one(1));
     let frozen = other_half(rt, alloc, Members::one(2));
@@ -103,7 +103,7 @@ fn moved_of_half(rt: &impl Abort, alloc: Global, at: u32) -> (RingArc, RingArc) 
     arcs
 }
 
-// The arc that the second half has then.
+// Returns the arc that the second half has after the boundary moved.
 fn other_arc(rt: &impl Abort, alloc: Global, at: u32) -> RingArc {
     let core = half(rt, alloc, MIDDLE, Members::one(2));
     let offer = offer(rt, Members::one(1), Body::Repart { at });
@@ -116,8 +116,8 @@ fn other_arc(rt: &impl Abort, alloc: Global, at: u32) -> RingArc {
     arc.expect(rt, "an arc that can be made")
 }
 
-// The arcs that the two halves have after the boundary moved, and before the second that which
-// changed hands.
+// Returns the arcs of the first half, of the part that changed hands, and of the second half after
+// the boundary moved.
 fn places_after(rt: &impl Abort, alloc: Global, at: u32) -> [Place; 3] {
     let (kept, piece) = moved_of_half(rt, alloc, at);
     [place(kept), place(piece), place(other_arc(rt, alloc, at))]
@@ -143,7 +143,7 @@ fn repart_plans(rt: HostRuntime) {
     assert!(rt; after == BEHIND_MIDDLE);
 }
 
-// The number of the refusal of a transaction, or 0 where it is accepted.
+// Returns the number of the cause for which a transaction is refused, or 0 where it is accepted.
 fn begin_code(core: &Core, body: Body) -> u8 {
     let command = Command::Begin {
         tx: TX,
@@ -173,7 +173,7 @@ fn transactions_are_refused_at_the_ends_and_for_members(rt: HostRuntime) {
     assert!(rt; codes == [4, 4, 0, 6, 7, 0]);
 }
 
-// The word for a vote on a merge with a group of the members 1 to 5.
+// Returns the name of a group's vote on a merge with a group of the members 1 to 5.
 fn merge_vote(rt: &impl Abort, core: &Core) -> &'static str {
     let offer = offer(rt, nodes(1, 5), Body::Merge);
     match vote(core, &offer) {
@@ -189,7 +189,7 @@ fn merge_vote(rt: &impl Abort, core: &Core) -> &'static str {
     }
 }
 
-// The word of a free group of these members.
+// Returns the name of the vote of a free group with these members.
 fn free_vote(rt: &impl Abort, alloc: Global, lo: u32, first: u16, last: u16) -> &'static str {
     let core = half(rt, alloc, lo, nodes(first, last));
     let word = merge_vote(rt, &core);
@@ -208,7 +208,7 @@ fn votes(rt: HostRuntime) {
     }
 }
 
-// A group that is promised to a transaction.
+// Returns a group that is promised to a transaction.
 fn promised(rt: &impl Abort, alloc: Global) -> Core {
     let lock = Lock::Promised {
         tx: TX,
@@ -227,7 +227,7 @@ fn a_locked_group_votes_no(rt: HostRuntime) {
     assert!(rt; decision == Decision::Undecided);
 }
 
-// The arc, the members and the successor of a group after a merge with a frozen one.
+// Returns the arc, the members and the successor of a group after a merge with a frozen one.
 fn merged(
     rt: &impl Abort,
     alloc: Global,
@@ -258,7 +258,8 @@ fn a_merge_closes_the_ring(rt: HostRuntime) {
     assert!(rt; same_draw(succ.group, FIRST));
 }
 
-// The members of a group after node 3 left it for its successor, and those of the successor.
+// Returns the members of a group after node 3 left it for its successor, and those of the
+// successor.
 fn migrated(rt: &impl Abort, alloc: Global, core: &Core, frozen: &Frozen) -> (Members, Members) {
     assert!(rt; can_migrate(core, 3, frozen));
     let after = plan_migrate(alloc, core, 3, frozen).expect(rt, "memory");

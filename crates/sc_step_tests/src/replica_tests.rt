@@ -1,4 +1,4 @@
-//! What a replica answers of slots that it has forgotten, and a replica that is made of a state.
+//! A replica's answers about slots that it has forgotten, and a replica that is made from a state.
 ghost use Rattle.std.specs.Prelude.{◌≡◌, length, true};
 ghost use Rattle.sc_node_table.specs.Slots.{slots_ahead};
 ghost use Rattle.sc_node_table.specs.Node.{may_come};
@@ -15,7 +15,7 @@ use std::process::Abort;
 
 const SECOND: Ballot = Ballot { round: 2, node: 2 };
 
-// What node 2 wants, from a slot on.
+// What node 2 asks for, from a slot on.
 #[derive(Clone, Copy)]
 enum Wanted {
     Entries(u32),
@@ -38,7 +38,7 @@ fn asking(wanted: Wanted) -> MailBody
     }
 }
 
-// What a mail is, and its slot, or how many reports it has.
+// A mail in brief: its kind, with its slot or the number of its reports.
 #[derive(Clone, Copy, PartialEq)]
 enum Brief {
     Install(u32),
@@ -58,8 +58,8 @@ fn in_brief(body: &MailBody) -> Brief {
     }
 }
 
-// The first mail in brief, how many there are, and how many of these are the entries of that many
-// slots in order, from slot 65 on.
+// The first mail in brief, the number of mails, and how many of them are, in order, the entries of
+// the slots from 65 on.
 type Sent = (Brief, usize, u32);
 
 fn first_in(sent: &[Mail]) -> Brief {
@@ -103,7 +103,7 @@ fn take(
     forget(body);
 }
 
-// A client's request, which the only member offers, accepts, counts and executes.
+// Sends a client's request, which the only member proposes, accepts, counts and executes.
 fn execute_one(
     rt: &impl Abort,
     alloc: Global,
@@ -139,7 +139,7 @@ fn execute_all(rt: &impl Abort, alloc: Global, replica: &mut Replica, out: &mut 
     forget(op);
 }
 
-// What node 2 is told.
+// Returns what node 2 is sent.
 fn told(rt: &impl Abort, alloc: Global, replica: &mut Replica, wanted: Wanted) -> Sent {
     let mut out = Sequence::new(alloc);
     take(rt, alloc, replica, 2, asking(wanted), &mut out);
@@ -148,7 +148,7 @@ fn told(rt: &impl Abort, alloc: Global, replica: &mut Replica, wanted: Wanted) -
     told
 }
 
-// What a replica of the only member that executed 128 calls tells node 2.
+// Returns what node 2 is sent by a replica of the only member after 128 executed requests.
 fn told_after_128(rt: &impl Abort, alloc: Global, wanted: Wanted) -> Sent {
     let mut replica = Replica::born(alloc, 1, group(rt, alloc, 1)).expect(rt, "memory");
     let mut out = Sequence::new(alloc);
@@ -179,7 +179,7 @@ fn a_kept_slot_is_promised_with_the_reports_that_are_kept(rt: HostRuntime) {
     assert!(rt; promise == (Brief::Promise(64), 1, 0));
 }
 
-// The members of the four open slots.
+// Returns the members of the four open slots.
 fn four(rt: &impl Abort, alloc: Global, members: Members) -> MemberSets
     ensures { length result ≡ slots_ahead }
 {
@@ -187,8 +187,8 @@ fn four(rt: &impl Abort, alloc: Global, members: Members) -> MemberSets
     Sequence::from_vec(Vec::from_slice(alloc, &sets).expect(rt, "memory"))
 }
 
-// A replica of the only member, node 2, that is made of the state after slot 70, as node 1 sent it,
-// and what it sends first.
+// Returns a replica of the only member, node 2, that is made from the state after slot 70, as node
+// 1 sent it, and what it sends first.
 fn installed(rt: &impl Abort, alloc: Global) -> (Replica, Sequence<Mail>) {
     let sets = four(rt, alloc, Members::one(2));
     let base = group(rt, alloc, 2);
@@ -198,7 +198,7 @@ fn installed(rt: &impl Abort, alloc: Global) -> (Replica, Sequence<Mail>) {
     installed
 }
 
-// What that replica sends first, and what it then tells node 2.
+// Returns what that replica sends first, and what it then sends to node 2.
 fn installed_tells(rt: &impl Abort, alloc: Global, wanted: Wanted) -> (Sent, Sent) {
     let (mut replica, sent) = installed(rt, alloc);
     let first = told_in(sent.as_slice());
@@ -208,7 +208,8 @@ fn installed_tells(rt: &impl Abort, alloc: Global, wanted: Wanted) -> (Sent, Sen
     (first, then)
 }
 
-// The sender is no member, so the replica looks for a leader, and is the only one that can lead.
+// Shows what a replica that is made from a state sends. The sender of the state is no member, so
+// the replica looks for a leader, and is the only one that can lead.
 #[test]
 fn a_replica_is_made_of_a_state(rt: HostRuntime) {
     let (first, then) = installed_tells(&rt, rt.alloc(), Wanted::Entries(70));

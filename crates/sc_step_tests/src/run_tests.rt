@@ -1,5 +1,5 @@
-//! Whole transactions between nodes, mail by mail. How many rows and mails there are, what the desk
-//! is told and what the parties say to each other is as in the worked scenarios of the same names.
+//! Whole transactions between nodes, mail by mail. The numbers of rows and mails, what the desk
+//! gets, and what the parties send each other are those of the worked scenarios of the same names.
 use crate::parties::{Came, Event, Place, Run, played};
 use sc_base::Draw;
 use sc_cmd::Order;
@@ -8,11 +8,11 @@ use std::alloc::Global;
 use std::mem::forget;
 use std::process::Abort;
 
-// How many rows and mails there are, how many mails were delivered, and what the desk was told of
-// the orders by their numbers.
+// The numbers of rows, of mails and of delivered mails, and the results that the desk gets, by the
+// numbers of the orders.
 type Counts = (u32, usize, u32, &'static [(u32, Came)]);
 
-// How many nodes there are, the groups, what happens, and the counts then.
+// The number of nodes, the groups, the events, and the counts after them.
 type Case = (u16, &'static [Place], &'static [Event], Counts);
 
 fn has_counts(run: &Run, counts: Counts) -> bool {
@@ -31,7 +31,7 @@ fn plays(rt: &impl Abort, alloc: Global, policy: bool, case: Case) -> bool {
     plays
 }
 
-// Plays each of these, with a policy or without.
+// Plays each of these cases, with a policy or without.
 fn all_play(rt: &impl Abort, alloc: Global, policy: bool, cases: &[Case]) {
     for case in cases {
         assert!(rt; plays(rt, alloc, policy, *case));
@@ -258,20 +258,21 @@ const NO_POLICY: Case = (
 
 const POLICIES: &[Case] = &[POLICY_SPLIT, POLICY_MERGE];
 
-// Of the orders that a policy makes nothing is told.
+// Shows that a policy splits and merges groups. The desk gets no result of its orders.
 #[test]
 fn a_policy_splits_and_merges(rt: HostRuntime) {
     all_play(&rt, rt.alloc(), true, POLICIES);
     all_play(&rt, rt.alloc(), false, &[NO_POLICY]);
 }
 
-// An order is begun or refused as without a policy: at its tick the group is locked.
+// Shows that a policy leaves a locked group alone: an order is begun or refused as without a
+// policy, since the group is locked at its tick.
 #[test]
 fn a_policy_leaves_a_locked_group_alone(rt: HostRuntime) {
     all_play(&rt, rt.alloc(), true, &[GIVE_UP]);
 }
 
-// The mails of transactions.
+// The mails of transactions, by kind.
 #[derive(Clone, Copy, PartialEq)]
 enum Word {
     Prepare,
@@ -294,7 +295,7 @@ fn word_of(body: &MailBody) -> Option<Word> {
     }
 }
 
-// What is said, from which node to which.
+// A mail of a transaction: its kind, its sender and its receiver.
 type Said = (Word, u32, u32);
 
 fn is_nth(said: &[Said], n: usize, word: Said) -> bool {

@@ -1,4 +1,4 @@
-//! What the tests of replicas and of nodes step on.
+//! Groups, operations and mails for the tests of replicas and of nodes.
 ghost use Rattle.std.specs.Prelude.{◌≡◌, ◌≤◌, true};
 ghost use Rattle.sc_node_table.specs.Node.{may_come};
 
@@ -19,7 +19,7 @@ fn link(members: &Members) -> Link {
     }
 }
 
-// A group of one node that holds the whole ring, whose first leader is node 1.
+// Returns a group of one node that holds the whole ring, whose first leader is node 1.
 fn core(alloc: Global, arc: RingArc, members: &Members) -> Core {
     Core {
         id: GROUP,
@@ -60,7 +60,7 @@ pub(crate) fn copy(rt: &impl Abort, alloc: Global, op: &Op) -> Op {
     op.dup(alloc).expect(rt, "memory")
 }
 
-// An operation as the request of client 1 with a number.
+// Returns an operation as the request of client 1 with a number.
 pub(crate) fn request(seq: u32, op: Op) -> MailBody
     ensures { may_come 33 result ≡ true }
 {

@@ -1,4 +1,4 @@
-//! Groups that the lines of the machine's table are tried on.
+//! The groups on which the lines of the machine's table are tried.
 use sc_base::{Draw, Members, Noted, Pairs, Reply, RingArc, SeenList, Sequence};
 use sc_cmd::{Base, Body, Core, Frozen, Heard, Link, Lock, Offer, Outcome, Past, Route, Watch};
 use sc_machine::Machine;
@@ -21,23 +21,24 @@ pub(crate) const B: u32 = 0x6200_0000;
 pub(crate) const D: u32 = 0x6400_0000;
 
 // How a group starts, on the arc from `b` to `d`: free, of two nodes, before the group `NEXT`, and
-// without a memory of `TX`, but for what is said here.
+// without a memory of `TX`, except for what its variant says.
 #[derive(Clone, Copy)]
 pub(crate) enum Start {
     Free,
-    // Of so many nodes, and the only group of its ring.
+    // With this number of nodes; and alone on its ring with this number of nodes.
     Of(u16),
     Alone(u16),
-    // With so many transactions begun.
+    // With this number of transactions begun.
     Busy(u32),
-    // The coordinator of `TX`: of a merge and of so many nodes; of any transaction; after a Yes.
+    // The coordinator of `TX`: of a merge, with this number of nodes; of any transaction; after a
+    // Yes.
     Merging(u16),
     Begun(Body),
     Heard(Body),
-    // Promised to `TX`, and its watcher.
+    // The participant that promised `TX`; and the watcher of `TX`.
     Promised(Body),
     Watching,
-    // What it remembers of `TX`, and a put of client 1 with the number 2.
+    // What it remembers of `TX`; and a put of client 1 with the number 2.
     Gone,
     Born,
     Decided,
@@ -68,7 +69,7 @@ fn begun_of(start: Start) -> u32 {
     }
 }
 
-// The nodes from `first` to `last`; `first` alone where that is no set.
+// Returns the nodes from `first` to `last`, or `first` alone where that is no set of members.
 pub(crate) fn nodes(first: u16, last: u16) -> Members {
     let mut members = Members::one(first);
     for node in first.saturating_add(1)..=last {
@@ -85,7 +86,7 @@ fn link(group: Draw, members: Members) -> Link {
     Link { group, members }
 }
 
-// The group after this one, of the nodes 11 and 12, when it was frozen.
+// Returns the record of the group after this one, of the nodes 11 and 12, when it was frozen.
 pub(crate) fn frozen(rt: &impl Abort, alloc: Global, succ: Draw) -> Frozen {
     let members = nodes(11, 12);
     Frozen {
@@ -97,7 +98,8 @@ pub(crate) fn frozen(rt: &impl Abort, alloc: Global, succ: Draw) -> Frozen {
     }
 }
 
-// The offer of the group before this one, whose arc starts at `lo` and has so many members.
+// Returns the offer of the group before this one, whose arc starts at `lo` and which has `members`
+// members.
 pub(crate) fn offer(rt: &impl Abort, lo: u32, members: u16, body: Body) -> Offer {
     Offer {
         coord: LAST,
@@ -155,7 +157,7 @@ fn lock_of(rt: &impl Abort, alloc: Global, start: Start) -> Lock {
     }
 }
 
-// The list of one item where the group starts so that it has it, and else of none.
+// Returns the list of the item, if there is one, and else the empty list.
 fn one<T: Drop>(rt: &impl Abort, alloc: Global, item: Option<T>) -> Sequence<T> {
     let mut list = Sequence::new(alloc);
     if let Some(item) = item {
@@ -214,7 +216,7 @@ fn core(rt: &impl Abort, alloc: Global, start: Start) -> Core {
     }
 }
 
-// What the group knows of its clients.
+// Returns what the group knows of its clients.
 fn clients(rt: &impl Abort, alloc: Global, start: Start) -> SeenList {
     let mut clients = SeenList::new(alloc);
     if let Start::Noted = start {

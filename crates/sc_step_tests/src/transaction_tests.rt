@@ -28,7 +28,7 @@ fn link(group: Draw, node: u16) -> Link {
     }
 }
 
-// One of three groups on a ring.
+// Returns one of three groups on a ring.
 fn core(alloc: Global, id: Draw, node: u16, arc: RingArc, around: (Link, Link)) -> Core {
     Core {
         id,
@@ -59,7 +59,7 @@ fn machine_of(rt: &impl Abort, alloc: Global, core: Core) -> Machine {
     Machine::born(alloc, base).expect(rt, "memory")
 }
 
-// The first group, of node 1, holds the positions before that of `b`.
+// Returns the first group, of node 1, which holds the positions before that of `b`.
 fn first_group(rt: &impl Abort, alloc: Global) -> Machine {
     let around = (link(SECOND, 2), link(THIRD, 3));
     machine_of(
@@ -69,7 +69,7 @@ fn first_group(rt: &impl Abort, alloc: Global) -> Machine {
     )
 }
 
-// The second group, of node 2, holds the positions from there to that of `d`.
+// Returns the second group, of node 2, which holds the positions from that of `b` to that of `d`.
 fn second_group(rt: &impl Abort, alloc: Global) -> Machine {
     let around = (link(THIRD, 3), link(FIRST, 1));
     machine_of(
@@ -87,8 +87,8 @@ fn put(rt: &impl Abort, alloc: Global, client: u16, key: &[u8]) -> Command {
     Command::Call { client, seq: 1, op }
 }
 
-// What is asked of a machine: a put of a client, or a step of a transaction. `Yes` is the second
-// group's vote, and `Divided` an outcome that fits no transaction here.
+// A command in brief: a put of a client, or a step of a transaction. `Yes` is the second group's
+// vote, and `Divided` an outcome that fits no transaction here.
 #[derive(Clone, Copy)]
 enum Ask {
     Put(u16, &'static [u8]),
@@ -101,7 +101,7 @@ enum Ask {
     Divided,
 }
 
-// What is asked, and what it comes to.
+// A command, and its effect.
 type Step = (Ask, Was);
 
 fn offer(rt: &impl Abort, body: Body) -> Offer {
@@ -167,7 +167,7 @@ fn command_of(rt: &impl Abort, alloc: Global, ask: Ask) -> Command {
     }
 }
 
-// Carries out these commands, one after the other, each with the effect beside it.
+// Carries out these commands, one after the other, and checks the effect of each.
 fn take(rt: &impl Abort, alloc: Global, machine: &mut Machine, steps: &[Step]) {
     for (ask, effect) in steps {
         let was = applied(rt, machine, command_of(rt, alloc, *ask));
@@ -207,7 +207,7 @@ fn watching_machine(rt: HostRuntime) {
 
 const MOVED: Body = Body::Repart { at: 0x6170_0000 };
 
-// By which the first group gives what lies from `az` on.
+// The commands by which the first group gives away what it holds from `az` on.
 const GIVING: &[Step] = &[
     (Ask::Put(1, b"a"), Was::Done),
     (Ask::Put(2, b"az"), Was::Done),
@@ -215,7 +215,7 @@ const GIVING: &[Step] = &[
     (Ask::Yes, Was::Given),
 ];
 
-// After that.
+// The commands after the boundary has moved.
 const GIVEN: &[Step] = &[
     (Ask::Put(1, b"a"), Was::Again),
     (Ask::Put(2, b"az"), Was::NotMine),
@@ -229,7 +229,7 @@ fn a_boundary_moves_with_its_pairs(rt: HostRuntime) {
     forget(first);
 }
 
-// What a group decided, if it decided one transaction.
+// Returns what a group has decided, if it has decided one transaction.
 fn decided(rt: &impl Abort, alloc: Global, machine: &Machine) -> Outcome {
     match machine.core().decided.as_slice() {
         [entry] => entry.1.dup(alloc).expect(rt, "memory"),
@@ -237,7 +237,7 @@ fn decided(rt: &impl Abort, alloc: Global, machine: &Machine) -> Outcome {
     }
 }
 
-// The gift of the first group, as the second finishes with it.
+// Returns the command by which the second group ends the transaction with the gift of the first.
 fn gift(rt: &impl Abort, alloc: Global) -> Command {
     let mut first = first_group(rt, alloc);
     take(rt, alloc, &mut first, GIVING);

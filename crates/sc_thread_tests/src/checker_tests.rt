@@ -9,7 +9,7 @@ use std::alloc::Global;
 use std::mem::forget;
 use std::process::Abort;
 
-// A player that has two notes left for another.
+// Returns a player that has two notes left for another.
 fn player(other: u32) -> Player {
     Player {
         other,
@@ -18,7 +18,7 @@ fn player(other: u32) -> Player {
     }
 }
 
-// Actors 1 and 2, which send to each other, with two notes each.
+// Returns the actors 1 and 2, which send to each other, with two notes each.
 fn pair(rt: &impl Abort, alloc: Global) -> Vec<Seat<Player>> {
     let one = Seat {
         who: 1,
@@ -34,7 +34,7 @@ fn pair(rt: &impl Abort, alloc: Global) -> Vec<Seat<Player>> {
     seats
 }
 
-// At what event an actor acted.
+// The event of a row, in brief.
 #[derive(Clone, Copy)]
 enum When {
     Deliver(u32),
@@ -45,7 +45,7 @@ enum When {
     Again(u32),
 }
 
-// A row: who acted, at what event, and to whom it sent a note, or 0 for nobody.
+// A row: its actor, its event, and the receiver of the note that it sends, or 0 for none.
 type Act = (u32, When, u32);
 
 fn event_of(when: When) -> Event<u32> {
@@ -84,7 +84,7 @@ fn journal(rt: &impl Abort, alloc: Global, acts: &[Act]) -> Journal<Note, u32> {
     rows
 }
 
-// Whether rows are lawful for these lines.
+// Returns whether the rows are lawful for these lines.
 fn lawful(rt: &impl Abort, alloc: Global, lines: &[Line<u32>], acts: &[Act]) -> bool {
     let rows = journal(rt, alloc, acts);
     let seats = pair(rt, alloc);
@@ -94,7 +94,7 @@ fn lawful(rt: &impl Abort, alloc: Global, lines: &[Line<u32>], acts: &[Act]) -> 
     is_lawful
 }
 
-// Which row, from 1, is the first that is not lawful, or 0 where all are.
+// Returns which row, from 1, is the first that is not lawful, or 0 where all are.
 fn bad_row(rt: &impl Abort, alloc: Global, lines: &[Line<u32>], acts: &[Act]) -> usize {
     let rows = journal(rt, alloc, acts);
     let seats = pair(rt, alloc);
@@ -110,7 +110,8 @@ fn bad_row(rt: &impl Abort, alloc: Global, lines: &[Line<u32>], acts: &[Act]) ->
     bad
 }
 
-// How many first parts of rows are lawful, all of them among these.
+// Returns how many prefixes of the rows are lawful, of all prefixes from the empty one to the
+// whole.
 fn lawful_parts(rt: &impl Abort, alloc: Global, lines: &[Line<u32>], acts: &[Act]) -> usize {
     let mut parts = 0usize;
     for n in 0..=acts.len() {
@@ -121,8 +122,8 @@ fn lawful_parts(rt: &impl Abort, alloc: Global, lines: &[Line<u32>], acts: &[Act
     parts
 }
 
-// Lines, rows, how many first parts of these are lawful, and which row is the first that is not
-// lawful, or 0, where that is asked.
+// Lines, rows, the number of prefixes of these that are lawful, and, where it is asked for, which
+// row is the first that is not lawful, or 0.
 type Case = (&'static [Line<u32>], &'static [Act], usize, Option<usize>);
 
 fn is_so(rt: &impl Abort, alloc: Global, case: Case) -> bool {
@@ -148,7 +149,7 @@ struct Left {
     unsettled: bool,
     // Whether no mail is pending.
     quiet: bool,
-    // The notes that each actor has left.
+    // The numbers of notes that each actor has left.
     notes: (u32, u32),
 }
 
@@ -173,7 +174,7 @@ fn is_told(verdict: &Verdict<Player>, wanted: Option<Left>) -> bool {
     }
 }
 
-// Whether rows leave this, or are not lawful where nothing is wanted.
+// Returns whether the rows leave this, or, where nothing is wanted, are not lawful.
 fn leave(
     rt: &impl Abort,
     alloc: Global,
@@ -201,7 +202,7 @@ fn are_left(rt: &impl Abort, alloc: Global, cases: &[Leaving]) {
     }
 }
 
-// Whether the mail that rows leave pending has these numbers.
+// Returns whether the mail that the rows leave pending has these numbers.
 fn leave_pending(
     rt: &impl Abort,
     alloc: Global,
@@ -229,7 +230,7 @@ const SETTLED: [Act; 5] = [
     (1, When::Deliver(4), 0),
 ];
 
-// A repeat, two losses, a tick and a crash.
+// Rows with a repeat, two losses, a tick and a crash.
 const TROUBLED: [Act; 8] = [
     (1, When::Go, 2),
     (0, When::Again(1), 0),
@@ -267,8 +268,8 @@ fn the_tables_rows_are_lawful(rt: HostRuntime) {
     are_so(&rt, rt.alloc(), LAWFUL);
 }
 
-// The second row left out, the first one twice, the second one by another, to another, without its
-// note, and at another event.
+// Rows that are changed: the second row left out, the first one twice, and the second one by
+// another actor, to another receiver, without its note, and at another event.
 const LEFT_OUT: [Act; 2] = [(1, When::Go, 2), (1, When::Deliver(2), 2)];
 
 const TWICE: [Act; 2] = [(1, When::Go, 2), (1, When::Go, 2)];
@@ -281,7 +282,7 @@ const WITHOUT_NOTE: [Act; 2] = [(1, When::Go, 2), (2, When::Deliver(1), 0)];
 
 const AT_ANOTHER: [Act; 2] = [(1, When::Go, 2), (2, When::Tick, 1)];
 
-// A note too many.
+// Rows with one note too many.
 const ONE_MORE: [Act; 5] = [
     (1, When::Go, 2),
     (2, When::Deliver(1), 1),
@@ -327,7 +328,7 @@ const SECOND_FIRST: [Act; 4] = [
     (2, When::Deliver(1), 1),
 ];
 
-// Of one actor's mail only the first may come.
+// Rows in which an actor gets a later mail before its first.
 const LATER_MAIL: [Act; 4] = [
     (1, When::Go, 2),
     (2, When::Go, 1),
@@ -461,7 +462,7 @@ fn a_replay_tells_what_rows_leave(rt: HostRuntime) {
     are_left(&rt, rt.alloc(), PARTS_LEFT);
 }
 
-// After so many rows of `TROUBLED` the mail of all actors, or of one.
+// The pending mail of all actors, or of one, after this number of rows of `TROUBLED`.
 const PENDING: &[(usize, Option<u32>, &[u32])] = &[
     (0, None, &[]),
     (1, None, &[1]),

@@ -12,7 +12,8 @@ use std::sync::Wait;
 use std::sync::atomic::{AtomicU64, Ordering};
 use std::thread::Threads;
 
-// How a schedule of a pair is driven, within so many bytes. There is no actor with the number 3.
+// Drives a schedule of the pair of players, with a limit of `bytes`, and returns how it ends. There
+// is no actor with the number 3.
 fn driven_to<G: Gate, R: Threads + Wait + Abort + Sync>(
     rt: &R,
     alloc: Global,
@@ -32,7 +33,7 @@ fn driven_to<G: Gate, R: Threads + Wait + Abort + Sync>(
     end
 }
 
-// All mail is delivered.
+// Drives a schedule that delivers all mail.
 fn delivered<R: Threads + Wait + Abort + Sync>(
     rt: &R,
     alloc: Global,
@@ -51,7 +52,7 @@ fn delivered<R: Threads + Wait + Abort + Sync>(
     driven_to(rt, alloc, bytes, 2, starves, &lines, &Open)
 }
 
-// The line of deliveries is cut off, and the last line delivers the rest.
+// Drives a schedule whose line of deliveries is cut off, and whose last line delivers the rest.
 fn cut_off<R: Threads + Wait + Abort + Sync>(rt: &R, alloc: Global, workers: u32) -> Played {
     let lines: [Line<u32>; 4] = [
         Line::Go { who: 1 },
@@ -103,7 +104,8 @@ const LINES_OF_ONE_ROW: &[Line<u32>] = &[
     Line::Settle { most: 0 },
 ];
 
-// Both are told to go, a storm delivers, loses and repeats some of it, and the rest is delivered.
+// Both actors go, a storm delivers, loses and repeats some of their mail, and the rest is
+// delivered.
 const LINES_WITH_A_STORM: &[Line<u32>] = &[
     Line::Go { who: 1 },
     Line::Go { who: 2 },
@@ -114,7 +116,7 @@ const LINES_WITH_A_STORM: &[Line<u32>] = &[
     Line::Settle { most: 100 },
 ];
 
-// No step of a storm is skipped.
+// Shows that no step of a storm counts as skipped.
 #[test]
 fn storms_are_driven(rt: HostRuntime) {
     let end = driven_to(&rt, rt.alloc(), 1 << 19, 2, 0, LINES_WITH_A_STORM, &Open);
@@ -126,8 +128,8 @@ fn storms_are_driven(rt: HostRuntime) {
     assert!(rt; end == wanted);
 }
 
-// Skipped are: the first, the second loss, the repeat of a mail that was not sent, and the two last
-// ticks. A note to the first actor is pending at the end.
+// Shows that five lines are skipped: the first, the second loss, the repeat of a mail that was not
+// sent, and the two last ticks. A note to the first actor is pending at the end.
 #[test]
 fn lines_of_one_row_are_made_or_skipped(rt: HostRuntime) {
     let some = driven_to(&rt, rt.alloc(), 1 << 19, 2, 0, LINES_OF_ONE_ROW, &Open);
@@ -155,7 +157,7 @@ fn mail_to_nobody_is_passed_over(rt: HostRuntime) {
     assert!(rt; passed == wanted);
 }
 
-// How two deliveries are driven, and how many of the two waited in vain for the other.
+// Returns how two deliveries are driven, and how many of the two waited in vain for the other.
 fn met<R: Threads + Wait + Abort + Sync>(
     rt: &R,
     alloc: Global,

@@ -17,7 +17,7 @@ use std::process::Abort;
 use std::sync::Wait;
 use std::thread::Threads;
 
-// The numbers of the rows' actors, as the digits of one number.
+// Returns the numbers of the rows' actors, as the digits of one number.
 fn makers(rows: &[Row<Note, u32>]) -> u32 {
     let mut digits = 0u32;
     for row in rows {
@@ -26,7 +26,8 @@ fn makers(rows: &[Row<Note, u32>]) -> u32 {
     digits
 }
 
-// Two digits more: to whom an actor sends, and how many notes it has left.
+// Returns the number with two more digits: the actor to whom this one sends, and how many notes it
+// has left.
 fn with_player(digits: u32, actor: &Player) -> u32 {
     let more = digits.wrapping_mul(10).wrapping_add(actor.other);
     more.wrapping_mul(10).wrapping_add(actor.left)
@@ -48,7 +49,7 @@ fn seated(seats: &[Seat<Player>]) -> u32 {
     digits
 }
 
-// What is left at the end, where all gather before.
+// Returns what is left at the end, where all gather before it.
 fn ended<R: Wait + Abort>(rt: &R, alloc: Global, company: Company<Player>) -> (u32, u32)
     requires net { company.net.who ≡ 0 }
     requires exchange { AllOf company.net company.shells.items }
@@ -64,7 +65,7 @@ fn ended<R: Wait + Abort>(rt: &R, alloc: Global, company: Company<Player>) -> (u
     left
 }
 
-// What is left where the actors at these places went.
+// Returns what is left after the actors at these places went.
 fn left_after<R: Wait + Abort>(rt: &R, alloc: Global, places: &[usize]) -> (u32, u32) {
     let seats = seats(rt, alloc, 2, 7, 0);
     let mut company = open(alloc, seats, 2, 1 << 19).expect(rt, "memory");
@@ -91,7 +92,8 @@ fn drive_all<R: Threads + Wait + Abort + Sync>(
     }
 }
 
-// What a plain replay of rows leaves of the actors, or nothing where the rows are not lawful.
+// Returns what a plain replay of the rows leaves of the actors, or `None` where the rows are not
+// lawful.
 fn replayed(
     rt: &impl Abort,
     alloc: Global,
@@ -109,8 +111,8 @@ fn replayed(
     }
 }
 
-// What is left where a schedule was driven, and whether a plain replay leaves the same actors.
-// Nobody gathers before the end but the driver.
+// Returns what is left after a schedule was driven, and whether a plain replay leaves the same
+// actors. Only the driver gathers before the end.
 fn left_by<R: Threads + Wait + Abort + Sync>(
     rt: &R,
     alloc: Global,
@@ -141,7 +143,7 @@ fn what_was_driven_is_given_back(rt: HostRuntime) {
     assert!(rt; left == (2122, 1126, true));
 }
 
-// What is left by so many workers, whatever the order of their rows.
+// Returns what is left by this number of workers, without the order of their rows.
 fn left_by_workers<R: Threads + Wait + Abort + Sync>(
     rt: &R,
     alloc: Global,

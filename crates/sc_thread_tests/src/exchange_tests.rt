@@ -14,7 +14,7 @@ use std::process::Abort;
 use std::sync::Wait;
 use std::thread::{Threads, join};
 
-// The number of the mail; or 100, and how many rows there were where there is none.
+// Returns the number of the fetched mail, or 100 and the number of rows where there is none.
 fn number_of(found: &Fetched<Note>) -> u32 {
     match found {
         Fetched::Mail { number, mail: _ } => *number,
@@ -32,7 +32,7 @@ fn fetched<R: Wait + Abort>(rt: &R, port: &mut Port<Note, u32>, k: u32) -> u32
     number
 }
 
-// The number of the mail that is pending for an actor at this place, or 0.
+// Returns the number of the mail that is pending for an actor at this place, or 0.
 fn pending<R: Wait + Abort>(rt: &R, port: &mut Port<Note, u32>, who: u32, k: u32) -> u32
     ensures { Stays port.old port.new × (port.new.crashed ≡ port.old.crashed) }
 {
@@ -40,7 +40,7 @@ fn pending<R: Wait + Abort>(rt: &R, port: &mut Port<Note, u32>, who: u32, k: u32
     port.pending(rt, who, k).unwrap_or(0)
 }
 
-// How many mails were sent, and how many copies are pending, as two digits.
+// Returns how many mails were sent, and how many copies are pending, as two digits.
 fn looked<R: Wait + Abort>(rt: &R, net: &mut Port<Note, u32>) -> u32
     requires { net.old.who ≡ 0 }
     ensures { Stays net.old net.new }
@@ -52,14 +52,15 @@ fn looked<R: Wait + Abort>(rt: &R, net: &mut Port<Note, u32>) -> u32
     sent.wrapping_mul(10).wrapping_add(pending)
 }
 
-// To whom the first pending mail of all goes, or 0.
+// Returns the receiver of the first pending mail of all, or 0.
 fn first_goes<R: Wait>(rt: &R, net: &mut Port<Note, u32>) -> u32
     ensures { Stays net.old net.new }
 {
     net.first_receiver(rt).unwrap_or(0)
 }
 
-// The number of the copy that a word picks of those for actor 1, and its place, as two digits; or 0.
+// Returns, of the copies for actor 1, the number and the place of the one that a word picks, as two
+// digits; or 0.
 fn picked<R: Wait + Abort>(rt: &R, net: &mut Port<Note, u32>, word: u32) -> u32
     requires { net.old.who ≡ 0 }
     ensures { Stays net.old net.new }
@@ -71,7 +72,8 @@ fn picked<R: Wait + Abort>(rt: &R, net: &mut Port<Note, u32>, word: u32) -> u32
     }
 }
 
-// Whether the network changed its mail: 1, or 0 where it may not, or 9 where the row is refused.
+// Returns 1 where the mail was lost or repeated, 0 where it may not be, and 9 where the row is
+// refused.
 fn told(done: &Result<bool, Unposted<Note, u32>>) -> u32 {
     match done {
         Ok(true) => 1,
@@ -100,7 +102,8 @@ fn loses<R: Wait>(rt: &R, net: &mut Port<Note, u32>, number: u32) -> u32
     told
 }
 
-// Takes the mail at this place, and sends a note to each of these.
+// Delivers the mail at this place, sends a note to each of these receivers, and returns the number
+// of the mail, or 0.
 fn take<R: Wait + Abort>(
     rt: &R,
     alloc: Global,
@@ -141,7 +144,8 @@ fn post_one<R: Wait + Abort>(
     }
 }
 
-// Whether mail is pending for actor 1, for nobody and for actor 2, as three digits after a 1.
+// Returns whether mail is pending for actor 1, for the number 7 and for actor 2, as three digits
+// behind a 1.
 fn waits_of<R: Wait + Abort>(rt: &R, net: &mut Port<Note, u32>) -> u32
     ensures { Stays net.old net.new }
 {
@@ -160,7 +164,7 @@ fn digits_of(flags: &[bool]) -> u32 {
     digits
 }
 
-// The ports of the network and of two actors that run.
+// The ports of the network and of two actors that have not crashed.
 #[derive(Drop)]
 struct Ports {
     net: Port<Note, u32>,
@@ -170,16 +174,16 @@ struct Ports {
     ghost run: { (one.crashed ≡ false) × (two.crashed ≡ false) },
 }
 
-// What is done at these ports.
+// A step of a story at these ports.
 #[derive(Clone, Copy)]
 enum Deed {
     // The first actor fetches the mail at this place.
     Fetch(u32),
-    // It looks for the mail at this place.
+    // The first actor looks for the mail at this place.
     Look(u32),
-    // It takes the mail at this place, and sends a note to this actor.
+    // The first actor delivers the mail at this place, and sends a note to this actor.
     Take(u32, u32),
-    // The second sends so many notes to the first.
+    // The second actor sends this number of notes to the first.
     Send(usize),
     // The network looks for the mail of an actor at a place.
     Pending(u32, u32),
@@ -187,9 +191,9 @@ enum Deed {
     Repeat(u32),
     Count,
     Waits,
-    // The network asks to whom the first mail goes.
+    // The network asks for the receiver of the first mail.
     First,
-    // It picks a copy for actor 1 by a word.
+    // The network picks a copy for actor 1 by a word.
     Pick(u32),
 }
 
@@ -233,7 +237,7 @@ fn done<R: Wait + Abort>(rt: &R, alloc: Global, ports: &mut Ports, deed: Deed) -
     }
 }
 
-// All stories begin with new ports. Each deed has its answer.
+// Takes the steps of a story with new ports, and checks the answer of each.
 fn come_true<R: Wait + Abort>(rt: &R, alloc: Global, story: &[(Deed, u32)]) {
     let mut net: Port<Note, u32> = Port::start(alloc, 2, 1 << 20).expect(rt, "memory");
     let one = net.split(1).expect(rt, "memory");
@@ -260,8 +264,8 @@ fn fresh_ports(rt: HostRuntime) {
     come_true(&rt, rt.alloc(), FRESH);
 }
 
-// Actor 2 sends three notes to actor 1, which takes the second and sends one to the desk. The
-// second is repeated twice, and one copy of it is lost.
+// Actor 2 sends three notes to actor 1, which delivers the second and sends one to the desk. The
+// second note is repeated twice, and one copy of it is lost.
 const DOUBLED: &[(Deed, u32)] = &[
     (Deed::Send(3), 1),
     (Deed::Take(2, 0), 2),
@@ -299,7 +303,7 @@ fn waiting_for_each(rt: HostRuntime) {
     come_true(&rt, rt.alloc(), WAITING);
 }
 
-// Three rows with a note each to the other, and up to three deliveries.
+// Makes three rows with a note each to the other actor, and up to three deliveries.
 fn works<R: Wait + Abort>(
     rt: &R,
     alloc: Global,
@@ -325,7 +329,7 @@ fn take_three<R: Wait + Abort>(rt: &R, alloc: Global, port: &mut Port<Note, u32>
     take(rt, alloc, port, 1, &[]);
 }
 
-// Two ports fetch and post at the same time.
+// Lets two ports fetch and post at the same time.
 fn by_two<R: Threads + Wait + Abort + Sync>(
     rt: &R,
     alloc: Global,
@@ -363,7 +367,8 @@ fn take_in(net: &mut Port<Note, u32>, other: Port<Note, u32>)
     net.join(other);
 }
 
-// What is left of their mail after the threads they take one after the other.
+// Returns the journal of two actors whose threads work at the same time, and which then deliver,
+// one after the other, what is left of their mail.
 fn two_work<R: Threads + Wait + Abort + Sync>(rt: &R, alloc: Global) -> Journal<Note, u32> {
     let mut net: Port<Note, u32> = Port::start(alloc, 2, 1 << 20).expect(rt, "memory");
     let one = net.split(1).expect(rt, "memory");

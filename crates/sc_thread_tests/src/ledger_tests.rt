@@ -8,7 +8,7 @@ use std::alloc::Global;
 use std::mem::forget;
 use std::process::Abort;
 
-// At what event an actor acted.
+// The event of a row, in brief.
 #[derive(Clone, Copy)]
 enum When {
     Deliver(u32),
@@ -32,7 +32,7 @@ fn event_of(when: When) -> Event<u32> {
 
 type Notes = Ledger<Note, u32>;
 
-// The counted bytes of the journal, where a row was refused since the journal is full.
+// Returns the counted bytes of the journal, where a row was refused since the journal is full.
 fn full_at(rt: &impl Abort, kept: &Result<(), Unkept<Note, u32>>) -> Option<u64> {
     match kept {
         Ok(()) => None,
@@ -43,8 +43,8 @@ fn full_at(rt: &impl Abort, kept: &Result<(), Unkept<Note, u32>>) -> Option<u64>
     }
 }
 
-// Appends a row with one mail of this size to each of these receivers, and tells how many bytes
-// there are where it is refused.
+// Appends a row with one mail of this size to each of these receivers, and returns the counted
+// bytes of the journal where the row is refused.
 fn refusal(
     rt: &impl Abort,
     alloc: Global,
@@ -66,7 +66,7 @@ fn refusal(
     full
 }
 
-// Whether a row with one mail to each of these receivers is kept.
+// Returns whether a row with one mail to each of these receivers is kept.
 fn keeps(
     rt: &impl Abort,
     alloc: Global,
@@ -80,7 +80,7 @@ fn keeps(
 
 type Three = (Option<u32>, Option<u32>, Option<u32>);
 
-// The mail that is pending first for actor 1, by its numbers.
+// Returns the numbers of the first three mails that are pending for actor 1.
 fn first_three(ledger: &Notes) -> Three {
     (
         ledger.kth(2, 1, 1),
@@ -89,8 +89,7 @@ fn first_three(ledger: &Notes) -> Three {
     )
 }
 
-// An actor, at what event it acts, how many mails it sends to actor 1, and what is pending for
-// this one then.
+// An actor, its event, how many mails it sends to actor 1, and what is pending for actor 1 then.
 type Step = (u32, When, usize, Three);
 
 const STEPS: &[Step] = &[
@@ -103,7 +102,7 @@ const STEPS: &[Step] = &[
     (0, When::Again(3), 0, (None, None, None)),
 ];
 
-// Whether a step's row is kept and leaves what it should.
+// Returns whether a step's row is kept, and leaves what it should.
 fn is_step(rt: &impl Abort, alloc: Global, ledger: &mut Notes, step: Step) -> bool {
     let (who, when, mails, pending) = step;
     let to = [1u32, 1, 1];
@@ -119,7 +118,7 @@ fn check_numbers(rt: &impl Abort, alloc: Global, ledger: &mut Notes, steps: &[St
     assert!(rt; ledger.bytes() == 7 * 64 + 3 * 256);
 }
 
-// Each row of actor 1 is refused but the first.
+// Checks that each row of actor 1 but the first is refused.
 fn check_limit(rt: &impl Abort, alloc: Global, ledger: &mut Notes) {
     let desk = refusal(rt, alloc, ledger, (1, When::Go), (&[0], 5), 325);
     assert!(rt; desk.is_none() && ledger.kth(2, 0, 1).is_none() && ledger.sent() == 1);
@@ -130,13 +129,13 @@ fn check_limit(rt: &impl Abort, alloc: Global, ledger: &mut Notes) {
     assert!(rt; most == Some(325) && ledger.len() == 1);
 }
 
-// The next of a fixed sequence of numbers that look random.
+// Returns the next word of a fixed sequence that looks random.
 fn next_word(word: u64) -> u64 {
     word.wrapping_mul(6_364_136_223_846_793_005)
         .wrapping_add(1_442_695_040_888_963_407)
 }
 
-// An event of any kind, at a mail of any number up to 15. Crashes are rare.
+// Returns an event of any kind, for a mail of any number up to 15. Crashes are rare.
 fn random_event(word: u64) -> When {
     let number = (word >> 40) as u32 % 16;
     match (word >> 33) % 16 {
@@ -148,7 +147,7 @@ fn random_event(word: u64) -> When {
     }
 }
 
-// Whether a row of any kind is kept. It sends two mails or none.
+// Returns whether a row of any kind is kept. It sends `mails` mails, at most two.
 fn keeps_random(
     rt: &impl Abort,
     alloc: Global,
@@ -162,7 +161,7 @@ fn keeps_random(
     keeps(rt, alloc, ledger, who, random_event(word), sent)
 }
 
-// The queues and the scan find the same, for each actor and for all.
+// Checks that the queues and the scan find the same mail, for each actor and for all.
 fn agree(rt: &impl Abort, alloc: Global, ledger: &Notes) {
     for who in 0..5u32 {
         for k in 1..6u32 {
@@ -182,7 +181,7 @@ fn check_queues(rt: &impl Abort, alloc: Global, ledger: &mut Notes) {
     }
 }
 
-// Each spot's number, receiver and place, as the digits of one number.
+// Returns each copy's number, receiver and place, as the digits of one number.
 fn digits_of(spots: &[Spot]) -> u64 {
     let mut digits = 0u64;
     for spot in spots {
@@ -193,7 +192,7 @@ fn digits_of(spots: &[Spot]) -> u64 {
     digits
 }
 
-// To whom the mail of this number is, and its size.
+// Returns the receiver and the size of the mail with this number.
 fn mail_of(rt: &impl Abort, alloc: Global, ledger: &Notes, number: u32) -> Option<(u32, u64)> {
     let found = ledger.mail(alloc, number).expect(rt, "memory");
     let told = match &found {
@@ -204,8 +203,8 @@ fn mail_of(rt: &impl Abort, alloc: Global, ledger: &Notes, number: u32) -> Optio
     told
 }
 
-// How many mails were sent, and the copy for one of these actors that a word picks, as the digits of
-// one number.
+// Returns how many mails were sent, and the copy for one of these actors that a word picks, as the
+// digits of one number.
 fn glanced(
     rt: &impl Abort,
     alloc: Global,
@@ -224,7 +223,7 @@ fn glanced(
     }
 }
 
-// Four mails were sent, and the first was repeated.
+// Checks a look and glances where four mails were sent, and the first was repeated.
 fn check_look(rt: &impl Abort, alloc: Global, ledger: &mut Notes) {
     assert!(rt; keeps(rt, alloc, ledger, 1, When::Go, &[2, 1, 0, 2]));
     assert!(rt; keeps(rt, alloc, ledger, 0, When::Again(1), &[]));
@@ -240,7 +239,8 @@ fn check_look(rt: &impl Abort, alloc: Global, ledger: &mut Notes) {
     assert!(rt; glanced(rt, alloc, ledger, 2, &[3], 5) == 4);
 }
 
-// The same where the ledger has no queues for so many actors, and finds its mail by the counts.
+// Checks glances where the ledger has no queues for this number of actors, and finds its mail by
+// the counts.
 fn check_pick(rt: &impl Abort, alloc: Global, ledger: &mut Notes) {
     assert!(rt; keeps(rt, alloc, ledger, 1, When::Go, &[2, 1, 3, 2]));
     assert!(rt; keeps(rt, alloc, ledger, 0, When::Again(1), &[]));
@@ -258,7 +258,7 @@ enum Story {
     Pick,
 }
 
-// All stories begin with an empty ledger of so many actors.
+// Checks a story with an empty ledger of `actors` actors.
 fn come_true(rt: &impl Abort, alloc: Global, actors: u32, story: Story) {
     let mut ledger: Notes = Ledger::new(alloc, actors);
     match story {

@@ -1,4 +1,4 @@
-//! Work that is lent to threads that are kept.
+//! Work that is lent to threads which stay alive.
 ghost use Rattle.std.specs.Prelude.{◌≡◌, ◌/◌, All};
 ghost use Rattle.std.specs.Thread.{IsSync};
 ghost use Rattle.sc_lend.specs.Offices.{IsHelperOf, IsLenderOf};
@@ -13,7 +13,7 @@ use std::sync::atomic::{AtomicU64, Ordering};
 use std::thread::{Threads, join, join_mut};
 use std::time::Clock;
 
-// A number that is to be halved.
+// A number that has to be halved.
 #[derive(Drop)]
 struct Half {
     number: u32,
@@ -60,7 +60,8 @@ fn collect<R: Wait>(rt: &R, office: &Office<Half>, lender: &mut Lender<Half>, nu
     half.number
 }
 
-// Lends three numbers and collects them from the last on; 0 for one that was not lent.
+// Lends three numbers, collects them from the last to the first, and returns what came back, zeros
+// where one was not lent.
 fn lend_three<R: Wait>(rt: &R, office: &Office<Half>, lender: &mut Lender<Half>) -> [u32; 3]
     requires { IsLenderOf office.now lender.old }
 {
@@ -98,7 +99,7 @@ fn at_once<R: Threads + Wait + Sync>(
     numbers
 }
 
-// What comes back of three numbers where so many help.
+// Returns what comes back of three numbers with this number of helpers.
 fn three<R: Threads + Wait + Abort + Sync>(rt: &R, alloc: Global, hands: usize) -> [u32; 3] {
     let (office, mut lender, mut helpers) = open::<Half>(alloc, 3, hands).expect(rt, "memory");
     at_once(rt, alloc, &office, &mut lender, &mut helpers)
@@ -111,7 +112,7 @@ fn what_is_lent_comes_back_worked(rt: HostRuntime) {
     }
 }
 
-// Helps, and counts with how much.
+// Helps, and counts the loans that it works.
 fn help_counting<R: Threads + Wait + Sync>(
     rt: &R,
     office: &Office<Half>,
@@ -133,8 +134,8 @@ fn help_counting<R: Threads + Wait + Sync>(
     );
 }
 
-// Lends to one that sleeps by then, waits until it has helped, and closes the office when it sleeps
-// again.
+// Lends to a helper that sleeps by then, waits until it has helped, and closes the office when it
+// sleeps again.
 fn lend_to_a_sleeper<R: Wait + Abort + Clock>(
     rt: &R,
     office: &Office<Half>,

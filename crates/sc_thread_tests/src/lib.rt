@@ -1,5 +1,5 @@
-//! Tests of what threads share and work with: turns, ledgers, ports, shells, lent work, rounds,
-//! the pool, schedules, storms, the check of rows, and the wishes of policies.
+//! Tests of what threads share and work with: turns, ledgers, ports, shells, lent work, rounds, the
+//! pool, schedules, storms, the check of rows, and the orders that policies make.
 #![tactic(auto)]
 
 #[cfg(test)]

@@ -1,11 +1,11 @@
-//! Mail that says nothing.
+//! Mail that carries nothing.
 
 use sc_actor::Parcel;
 use sc_base::{Dup, OutOfMemory, Same, Sequence};
 use std::alloc::Global;
 use std::process::Abort;
 
-/// A note to an actor, of so many bytes.
+/// A note to an actor, which counts `size` bytes.
 #[derive(PartialEq, Eq, Drop)]
 pub struct Note {
     pub to: u32,
@@ -41,7 +41,7 @@ impl Parcel for Note {
     }
 }
 
-/// One note to each of these actors.
+/// Returns one note to each of these actors.
 pub fn notes(rt: &impl Abort, alloc: Global, receivers: &[u32], size: u64) -> Sequence<Note> {
     let mut sent = Sequence::new(alloc);
     for to in receivers {

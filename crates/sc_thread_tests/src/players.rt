@@ -16,8 +16,8 @@ use std::sync::Wait;
 use std::sync::atomic::{AtomicU64, Ordering};
 use std::thread;
 
-// Sends a note to another at each input, as long as it has notes left. It is out of memory when it
-// has `starves` left.
+// An actor that sends a note to another at each input while it has notes left. It is out of memory
+// when it has `starves` left.
 #[derive(Drop)]
 pub(crate) struct Player {
     pub(crate) other: u32,
@@ -63,7 +63,8 @@ impl Gate for Open {
     fn pass(&self, _who: u32) {}
 }
 
-// Holds two actors, each until the other has come, for so many turns of waiting.
+// A gate that holds two actors, each until the other has come, for at most `turns` turns of
+// waiting.
 #[derive(Drop)]
 pub(crate) struct Pair {
     pub(crate) turns: u32,
@@ -85,7 +86,7 @@ impl Gate for Pair {
     }
 }
 
-// Counts how often it is passed.
+// A gate that counts how often it is passed.
 #[derive(Drop)]
 pub(crate) struct Counter {
     pub(crate) passes: AtomicU64,
@@ -97,8 +98,9 @@ impl Gate for Counter {
     }
 }
 
-// Two actors that send each other notes: the second has four, and is out of memory when it has
-// `starves` left; the first has `left`, and sends them to `other`. The second stands first.
+// Returns two actors that send each other notes, the second one first in the list: the second has
+// four notes, and is out of memory when it has `starves` left; the first has `left`, and sends them
+// to `other`.
 pub(crate) fn seats(
     rt: &impl Abort,
     alloc: Global,
@@ -141,7 +143,7 @@ fn went<R: Wait + Abort>(rt: &R, alloc: Global, shell: &mut Shell<Player>)
     assert!(rt; !shell.is_spent());
 }
 
-// The actor at a place goes.
+// Lets the actor at a place go.
 pub(crate) fn go<R: Wait + Abort>(
     rt: &R,
     alloc: Global,

@@ -18,8 +18,8 @@ use std::process::Abort;
 use std::sync::Wait;
 use std::thread::Threads;
 
-// What a pool of two workers answers that has the pair of these seats, each with four notes, and who
-// its shells are afterwards. Both were told to go.
+// Returns how a pool ends that has the shells of these two players, each with four notes, and the
+// numbers of its shells afterwards. Both players went before.
 fn pooled<R: Threads + Wait + Abort + Sync>(
     rt: &R,
     alloc: Global,
@@ -41,7 +41,8 @@ fn pooled<R: Threads + Wait + Abort + Sync>(
     (end, whos.0, whos.1)
 }
 
-// Limits of which most fall inside a phase.
+// Shows that no more deliveries are made than are asked for, for limits of which most fall inside a
+// phase.
 #[test]
 fn no_more_deliveries_are_made_than_are_asked_for(rt: HostRuntime) {
     for limit in 1..10u32 {

@@ -1,4 +1,4 @@
-//! A list worked over a queue.
+//! A list that is worked through by a queue.
 use sc_queue::work_off;
 use std::test::Fail;
 

@@ -36,8 +36,8 @@ fn worked<G: Gate, R: Threads + Wait + Sync>(
     }
 }
 
-// What rounds of a pair, or the rounds of a pool, answer, each with four notes, after both were told
-// to go.
+// Returns how rounds, or the rounds of a pool, end for a pair of players with four notes each, of
+// which both went before.
 fn played<G: Gate, R: Threads + Wait + Abort + Sync>(
     rt: &R,
     alloc: Global,
@@ -86,7 +86,7 @@ fn rounds_end_by_their_causes(rt: HostRuntime) {
     }
 }
 
-// What a round of two deliveries answers, and how many of the two waited in vain for the other.
+// Returns how a round of two deliveries ends, and how many of the two waited in vain for the other.
 fn met<R: Threads + Wait + Abort + Sync>(
     rt: &R,
     alloc: Global,
@@ -114,7 +114,7 @@ fn workers_work_at_the_same_time(rt: HostRuntime) {
     }
 }
 
-// What rounds answer, and how often the gate was passed.
+// Returns how rounds end, and how often the gate was passed.
 fn counted<R: Threads + Wait + Abort + Sync>(
     rt: &R,
     alloc: Global,

@@ -12,7 +12,7 @@ use std::process::Abort;
 use std::sync::Wait;
 use std::sync::atomic::{AtomicU64, Ordering};
 
-// What a shell is asked for.
+// A call of a shell.
 #[derive(Clone, Copy)]
 enum Act {
     Turn,
@@ -36,11 +36,11 @@ fn acted<R: Wait>(
     }
 }
 
-// An actor's number, what its shell is asked for, what it answers, and the first mail that is
-// pending for the second actor then.
+// An actor's number, a call of its shell, the shell's answer, and the first mail that is pending
+// for the second actor then.
 type Step = (u32, Act, Turn, Option<u32>);
 
-// Whether a shell answers what it should, and keeps that answer.
+// Returns whether a shell gives this answer, and keeps it as its last.
 fn is_turn<R: Wait>(
     rt: &R,
     alloc: Global,
@@ -89,7 +89,8 @@ fn after<R: Wait + Abort>(
     (one.is_spent(), one.has_crashed(), two.has_crashed(), passes)
 }
 
-// Within so many bytes. The second actor has no memory where it `starves` at four notes.
+// Returns the end of a story with a limit of counted bytes. The second actor is out of memory where
+// it has `starves` notes left.
 fn left_after<R: Wait + Abort>(
     rt: &R,
     alloc: Global,

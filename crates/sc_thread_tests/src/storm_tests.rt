@@ -53,7 +53,7 @@ impl Actor for Silent {
     }
 }
 
-/// The words of the first two steps of the storms 0, 7 and 2^64 - 1, by another program.
+/// The words of the first two steps of the storms 0, 7 and 2^64 - 1, from another program.
 const FIRST_WORDS: [(u64, (u32, u32), (u32, u32)); 3] = [
     (0, (804192318, 3594542985), (3904396159, 2711947551)),
     (7, (742701683, 3281823346), (3936197989, 2001186818)),
@@ -63,7 +63,8 @@ const FIRST_WORDS: [(u64, (u32, u32), (u32, u32)); 3] = [
 /// The actors: a node and a client.
 const ACTORS: [u32; 2] = [1, 33];
 
-/// The first steps of storm 0 where the mails 4, 5 and 9 of nine wait, 4 and 9 for node 1.
+/// The first steps of storm 0 where nine mails were sent, and 4, 5 and 9 are pending for the
+/// actors, 4 and 9 of them for node 1.
 const STEPS_OF_ZERO: [Deed; 10] = [
     Deed::Deliver { who: 1, k: 1 },
     Deed::Deliver { who: 1, k: 1 },
@@ -77,7 +78,8 @@ const STEPS_OF_ZERO: [Deed; 10] = [
     Deed::Deliver { who: 1, k: 2 },
 ];
 
-/// The first steps of storm 7 there.
+/// The first steps of storm 7 where nine mails were sent, and 4, 5 and 9 are pending for the
+/// actors.
 const STEPS_OF_SEVEN: [Deed; 4] = [
     Deed::Deliver { who: 33, k: 1 },
     Deed::Deliver { who: 1, k: 2 },
@@ -93,7 +95,7 @@ fn spot(number: u32, who: u32, k: u32) -> Spot {
     Spot { number, who, k }
 }
 
-/// Nine mails were sent; 4, 5, 7 and 9 are pending, of which 7 is for none of the actors.
+/// Returns a look at nine sent mails of which 4, 5, 7 and 9 are pending, 7 for none of the actors.
 fn some(rt: &impl Abort, alloc: Global) -> Look {
     let mut pending = Sequence::new(alloc);
     for spot in [spot(4, 1, 1), spot(5, 33, 1), spot(7, 2, 1), spot(9, 1, 2)] {
@@ -102,13 +104,13 @@ fn some(rt: &impl Abort, alloc: Global) -> Look {
     Look { sent: 9, pending }
 }
 
-/// Nothing was sent.
+/// Returns a look where no mail was sent.
 fn nothing(alloc: Global) -> Look {
     let pending = Sequence::new(alloc);
     Look { sent: 0, pending }
 }
 
-/// The words of the two steps of a storm after so many.
+/// Returns the words of the two steps of a storm behind the first `after` steps.
 fn words(number: u64, after: u32) -> ((u32, u32), (u32, u32)) {
     let mut storm = Storm::start(number);
     for _ in 0..after {
@@ -129,7 +131,7 @@ fn words_go_on_past_a_block(rt: HostRuntime) {
     assert!(rt; words(7, 19).0 == (1224064553, 3074110426));
 }
 
-/// Whether the first steps of a storm are these.
+/// Returns whether the first steps of a storm are these.
 fn steps_so(look: &Look, number: u64, deeds: &[Deed]) -> bool {
     let mut storm = Storm::start(number);
     for deed in deeds {
@@ -149,7 +151,8 @@ fn steps_of_a_storm(rt: HostRuntime) {
     assert!(rt; zero && seven);
 }
 
-/// The four kinds of steps by a glance: nine mails were sent, and the word picks a copy of mail 9.
+/// Shows the four kinds of steps by a glance: nine mails were sent, and the word picks a copy of
+/// mail 9.
 #[test]
 fn steps_by_a_glance(rt: HostRuntime) {
     let glance = Glance {
@@ -167,7 +170,8 @@ fn steps_by_a_glance(rt: HostRuntime) {
     assert!(rt; deed_at(&glance, &ACTORS, (3, 7)) == Deed::Deliver { who: 1, k: 2 });
 }
 
-/// The first steps of storm 0 where nothing waits: its ticks, and nothing in place of the others.
+/// The first steps of storm 0 where nothing is pending: its ticks, and nothing in place of the
+/// others.
 const TICKS_OF_ZERO: [Deed; 10] = [
     Deed::Nothing,
     Deed::Nothing,
@@ -194,7 +198,7 @@ fn the_law_of_deeds_is_of_any_actor() {
     deeds_are_rows_of_the_walk::<Silent>();
 }
 
-/// Whether it is the line that lets the k-th pending mail of the actor be lost.
+/// Returns whether the line loses the mail at this place of this actor's pending mail.
 fn is_loss(line: &Option<Line<u32>>, actor: u32, place: u32) -> bool {
     match line {
         Some(Line::Drop { who, k }) => *who == actor && *k == place,

@@ -62,7 +62,8 @@ fn add_three<R: Wait + Abort>(rt: &R, seat: &mut TurnSeat<Log>, who: u32)
     add(rt, seat, who, 3);
 }
 
-// How far two threads are: 0 at first, 1 once the one has the turn, 2 once the other goes for it.
+// How far two threads are: 0 at first, 1 once one of them has the turn, 2 once the other tries to
+// get it.
 #[derive(Drop)]
 struct Stage {
     reached: AtomicU64,
@@ -79,7 +80,7 @@ fn await_stage(stage: &Stage, number: u64) {
     }
 }
 
-// Takes so long that one who goes for the turn is asleep by then.
+// Takes so long that a thread that tries to get the turn is asleep by then.
 fn linger(stage: &Stage) {
     for i in 0..20_000_000 {
         let _ = i;
@@ -89,7 +90,7 @@ fn linger(stage: &Stage) {
     }
 }
 
-// Takes the turn, and leaves it when the other seat sleeps. After that it does nothing.
+// Takes the turn, and gives it back when the other seat sleeps. After that it does nothing.
 fn hold_long<R: Wait>(rt: &R, stage: &Stage, seat: &mut TurnSeat<Log>, who: u32)
     requires { IsIdle seat.old who }
     ensures { OfOneStart seat.old seat.new × IsIdle seat.new who }
@@ -101,7 +102,7 @@ fn hold_long<R: Wait>(rt: &R, stage: &Stage, seat: &mut TurnSeat<Log>, who: u32)
     seat.leave(log);
 }
 
-// Goes for the turn while the other seat has it.
+// Tries to get the turn while the other seat has it.
 fn come_late<R: Wait + Abort>(rt: &R, stage: &Stage, seat: &mut TurnSeat<Log>, who: u32)
     requires { IsIdle seat.old who }
     ensures { OfOneStart seat.old seat.new × IsIdle seat.new who }
@@ -144,7 +145,7 @@ fn played<R: Wait + Abort>(
     seat
 }
 
-// Two seats play their parts at the same time.
+// Lets two seats play their parts at the same time.
 fn by_two<R: Threads + Wait + Abort + Sync>(
     rt: &R,
     one: TurnSeat<Log>,
@@ -191,7 +192,7 @@ fn take_in(net: &mut TurnSeat<Log>, other: TurnSeat<Log>)
     net.join(other);
 }
 
-// Each entry's value and maker, as the digits of one number.
+// Returns each entry's value and maker, as the digits of one number.
 fn all_digits(entries: &[(u8, u32)]) -> u64 {
     let mut digits = 0u64;
     for entry in entries {
@@ -201,7 +202,7 @@ fn all_digits(entries: &[(u8, u32)]) -> u64 {
     digits
 }
 
-// The values of one number, in their order, as the digits of one number.
+// Returns the values made under one number, in their order, as the digits of one number.
 fn digits_of(entries: &[(u8, u32)], who: u32) -> u32 {
     let mut digits = 0u32;
     for entry in entries {
@@ -212,7 +213,7 @@ fn digits_of(entries: &[(u8, u32)], who: u32) -> u32 {
     digits
 }
 
-// How many entries a log has, and those of the numbers 1 to 4.
+// Returns the number of entries of a log, and those made under the numbers 1 to 4.
 fn told(log: &Log) -> (usize, [u32; 4]) {
     let entries = log.entries.as_slice();
     let digits = [
@@ -242,7 +243,7 @@ fn two_threads_append_through_one_turn(rt: HostRuntime) {
     assert!(rt; told == (6, [123, 123, 0, 0]));
 }
 
-// Four seats, in four threads.
+// Lets four seats append in four threads.
 fn by_four<R: Threads + Wait + Abort + Sync>(
     rt: &R,
     first: (TurnSeat<Log>, TurnSeat<Log>),
@@ -304,7 +305,7 @@ fn four_threads_append_through_one_turn(rt: HostRuntime) {
     assert!(rt; told == (12, [123, 123, 123, 123]));
 }
 
-// Two seats of one thread meet between their entries.
+// Lets two seats of one thread meet between their entries.
 fn meet_and_write<R: Wait + Abort>(rt: &R, alloc: Global) -> Log {
     let mut net = TurnSeat::start(alloc, Log::new(alloc)).expect(rt, "memory");
     let mut one = net.split(1).expect(rt, "memory");
@@ -325,7 +326,7 @@ fn seats_of_one_thread_meet_and_join(rt: HostRuntime) {
     assert!(rt; digits == 101_200_301_400);
 }
 
-// A seat leaves the turn while the other sleeps, and the other is to be woken within the time.
+// Lets a seat give the turn back while the other sleeps; the other has to wake within the time.
 fn woken<R: Threads + Wait + Abort + Clock + Sync>(rt: &R, alloc: Global) -> Log {
     let ended = AtomicU64::new(0);
     let (_, log) = join(
@@ -342,7 +343,8 @@ fn woken<R: Threads + Wait + Abort + Clock + Sync>(rt: &R, alloc: Global) -> Log
     log
 }
 
-// The seat that sleeps is woken by that `leave` or never, and then this test fails after 20 seconds.
+// Shows that `leave` wakes the seat that sleeps. Where it is not woken, this test fails after 20
+// seconds.
 #[test]
 fn leaving_wakes_the_seat_that_sleeps(rt: HostRuntime) {
     let log = woken(&rt, rt.alloc());

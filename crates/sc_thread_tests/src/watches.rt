@@ -5,7 +5,7 @@ use std::sync::atomic::{AtomicU64, Ordering};
 use std::thread::sleep;
 use std::time::{Clock, Duration};
 
-// Waits until the count is not 0, for 20 seconds at most, and ends the test where it stays 0.
+// Waits until the count is not 0, for at most 20 seconds, and ends the test where it stays 0.
 pub(crate) fn watch<R: Abort + Clock>(rt: &R, count: &AtomicU64, missed: &str) {
     for turn in 0..1_000 {
         let _ = turn;

@@ -6,16 +6,16 @@ use std::alloc::Global;
 use std::mem::forget;
 use std::process::Abort;
 
-/// The group that is looked at.
+/// The group that the policy looks at.
 const GROUP: Draw = Draw { node: 0, count: 1 };
 
 /// Another group.
 const OTHER: Draw = Draw { node: 0, count: 2 };
 
-/// How many positions there are.
+/// The number of positions of the ring.
 const ALL: u64 = 1 << 32;
 
-/// The nodes from 1 to `last`; node 1 alone where that is no set.
+/// Returns the nodes from 1 to `last`, or node 1 alone where that is no set of members.
 fn nodes_to(last: u16) -> Members {
     let mut members = Members::one(1);
     for node in 2..=last {
@@ -24,7 +24,7 @@ fn nodes_to(last: u16) -> Members {
     members
 }
 
-/// A neighbour, whose members do not matter.
+/// Returns a link to a neighbour, whose members do not matter.
 fn link(group: Draw) -> Link {
     Link {
         group,
@@ -32,7 +32,8 @@ fn link(group: Draw) -> Link {
     }
 }
 
-/// A group with the members from 1 to `last` on an arc, with the same neighbour on both sides.
+/// Returns a group with the members from 1 to `last` on an arc, with the same neighbour on both
+/// sides.
 fn group(alloc: Global, last: u16, arc: RingArc, neighbour: Draw) -> Core {
     Core {
         id: GROUP,
@@ -59,7 +60,7 @@ fn put(rt: &impl Abort, alloc: Global, store: &mut Store, key: &[u8]) {
     forget(op);
 }
 
-/// So many pairs, at most 188: key i is `front` and the bytes 33 + i / 94 and 33 + i % 94.
+/// Returns `many` pairs, at most 188. Key i is `front` and the bytes 33 + i / 94 and 33 + i % 94.
 fn pairs(rt: &impl Abort, alloc: Global, front: &[u8], many: usize) -> Pairs {
     let mut store = Store::new(alloc);
     let mut count = 0;
@@ -79,11 +80,11 @@ fn pairs(rt: &impl Abort, alloc: Global, front: &[u8], many: usize) -> Pairs {
     list
 }
 
-/// A group: how many members it has, its neighbour, and its arc, from `lo` on; and what is wished
-/// of it.
+/// A group by its number of members, its neighbour, and its arc, by start and length; and what the
+/// policy wants of it.
 type Wished = ((u16, Draw), (u32, u64), Option<Body0>);
 
-/// Whether that is wished of a group with those pairs.
+/// Returns whether the policy wants this of a group with those pairs.
 fn is_wished(rt: &impl Abort, alloc: Global, keys: &Pairs, wished: &Wished) -> bool {
     let ((last, neighbour), (lo, len), body) = *wished;
     let arc = RingArc::try_new(lo, len).expect(rt, "an arc");
@@ -93,14 +94,15 @@ fn is_wished(rt: &impl Abort, alloc: Global, keys: &Pairs, wished: &Wished) -> b
     is_so
 }
 
-/// Each is wished of a group with those pairs.
+/// Checks what the policy wants of each of these groups with those pairs.
 fn check_all(rt: &impl Abort, alloc: Global, keys: &Pairs, all: &[Wished]) {
     for wished in all {
         assert!(rt; is_wished(rt, alloc, keys, wished));
     }
 }
 
-/// Each is wished of a group with so many pairs, whose keys begin so.
+/// Checks what the policy wants of each of these groups with `many` pairs whose keys begin with
+/// `front`.
 fn check_with(rt: &impl Abort, alloc: Global, (front, many): (&[u8], usize), all: &[Wished]) {
     let keys = pairs(rt, alloc, front, many);
     check_all(rt, alloc, &keys, all);
@@ -163,7 +165,7 @@ fn a_boundary_stays_where_it_cannot_move(rt: HostRuntime) {
     check_with(&rt, rt.alloc(), (b"aaaa", 129), HEAP);
 }
 
-/// Whether the order is one to the group to merge.
+/// Returns whether the policy's order is one to the group to merge.
 fn is_merge(rt: &impl Abort, alloc: Global) -> bool {
     let arc = RingArc::try_new(0, 9).expect(rt, "an arc");
     let core = group(alloc, 1, arc, OTHER);

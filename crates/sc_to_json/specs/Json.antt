@@ -1,4 +1,4 @@
--- What values look like as JSON, under one name: `sc_row_text` has the definitions.
+-- The JSON of each type, by the definitions of `sc_row_text`, under one name.
 pub use Rattle.sc_row_text.specs.Names.{draw_json, FitsDraw, ballot_json, FitsBallot}
 pub use Rattle.sc_row_text.specs.Ops.{op_json, FitsOp, reply_json, FitsReply}
 pub use Rattle.sc_row_text.specs.Sets.{arc_json, nodes_json, pairs_json, FitsPairs, client_json, FitsNoted, clients_json, FitsClients}

@@ -1,26 +1,26 @@
--- What mails and commands are about, so that one function writes those of one topic.
+-- The topics of mails and of commands: one function writes the mails of one topic.
 use Rattle.std.specs.Prelude.{Bool, true, false}
 use Rattle.sc_cmd.specs.declared.commands.Command.{Command}
 use Rattle.sc_cmd.specs.declared.commands.Command.TheVariants as TheCommand
 use Rattle.sc_mail.specs.declared.bodies.MailBody.{MailBody}
 use Rattle.sc_mail.specs.declared.bodies.MailBody.TheVariants as TheMailBody
 
--- a topic of mails
+-- A topic of mails, by which they are shared out among the functions that write them.
 pub data Topic : Type 0 where
-  -- requests, answers, and what is told of orders
+  -- Requests, answers to them, and results of orders.
   Asked : Topic
-  -- promises of a ballot
+  -- Prepare, promise and refusal of a ballot.
   Promised : Topic
-  -- values of slots
+  -- Values of slots: accept, accepted and learn.
   Valued : Topic
-  -- what a member lacks
+  -- What a member lacks: it asks for it, or is sent a state.
   Lacked : Topic
-  -- votes of transactions
+  -- Questions and votes of transactions.
   Voted : Topic
-  -- outcomes of transactions, and who watches them
+  -- Outcomes of transactions, and what watchers are asked and answer.
   Decided : Topic
 
--- what a mail is about
+-- The topic of a mail.
 abbrev pub topic : MailBody → Topic
 topic (TheMailBody.Request group client seq op) = Asked
 topic (TheMailBody.Answer group seq answer) = Asked
@@ -40,7 +40,7 @@ topic (TheMailBody.TxWatch tx watch) = Decided
 topic (TheMailBody.TxWatched tx coord part vote) = Decided
 topic (TheMailBody.Told order result) = Asked
 
--- whether a command prepares or watches an offer, or records a vote or a watch
+-- Whether a command is one of a participant or watcher, or records a vote or a watch.
 abbrev pub is_vote : Command → Bool
 is_vote TheCommand.Noop = false
 is_vote (TheCommand.Call client seq op) = false

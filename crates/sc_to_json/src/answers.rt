@@ -1,4 +1,4 @@
-//! Answers.
+//! Answers to clients, written as JSON.
 ghost use Rattle.sc_mail.specs.declared.bodies.AnswerBody.{AnswerBody};
 ghost use Rattle.sc_row_text.specs.Answers.{answer_body_json, FitsAnswerBody};
 

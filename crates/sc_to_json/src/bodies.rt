@@ -1,4 +1,4 @@
-//! What transactions do and ask.
+//! What transactions do and ask, written as JSON.
 ghost use Rattle.sc_cmd.specs.declared.bodies.Body.{Body};
 ghost use Rattle.sc_row_text.specs.Bodies.{body_json, FitsBody};
 ghost use Rattle.sc_row_text.specs.Bodies.{offer_json, FitsOffer};

@@ -1,4 +1,4 @@
-//! Commands and reports of them.
+//! Commands of the logs, and acceptors' reports of them, written as JSON.
 ghost use Rattle.std.specs.Prelude.{◌≡◌, true, IfOk, OnOk};
 ghost use Rattle.serde_json.specs.View.{view};
 ghost use Rattle.sc_to_json.specs.Topics.{is_vote};
@@ -13,7 +13,7 @@ use sc_paxos_words::Report;
 use serde_json::Value as Json;
 use std::alloc::Global;
 
-// Offers that are prepared or watched, and votes and watches that are recorded.
+// Returns the JSON of a command that prepares or watches an offer, or records a vote or a watch.
 #[tactic(auto, unfolding(crate::specs::Json::command_json, crate::specs::Json::FitsCommand))]
 fn vote_json(alloc: Global, command: &Command) -> Result<Json, OutOfMemory>
     requires { is_vote command.now ≡ true }

@@ -1,4 +1,4 @@
-//! Groups.
+//! Groups, written as JSON.
 ghost use Rattle.sc_cmd.specs.declared.cores.Lock.{Lock};
 ghost use Rattle.sc_row_text.specs.Cores.{lock_json, FitsLock};
 ghost use Rattle.sc_row_text.specs.Cores.{core_json, FitsCore};

@@ -1,4 +1,4 @@
-//! Values, commands, mails and rows as JSON.
+//! Values, commands, mails and rows, written as JSON.
 #![tactic(auto)]
 
 mod answers;

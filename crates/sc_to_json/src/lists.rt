@@ -1,4 +1,4 @@
-//! Lists, pairs, what may be absent, and values in blocks of their own.
+//! Lists, pairs, values that may be absent, and boxed values, written as JSON.
 ghost use Rattle.std.specs.Prelude.{◌≡◌, OnOk, IfOk};
 ghost use Rattle.serde_json.specs.View.{view};
 ghost use Rattle.sc_base.specs.Among.{Each};
@@ -11,7 +11,7 @@ use sc_base::{Boxed, OutOfMemory, Sequence};
 use serde_json::Value as Json;
 use std::alloc::Global;
 
-/// An array of the items.
+/// Returns the array of the items' JSON.
 pub(crate) fn array_of<T: ToJson>(alloc: Global, items: &[T]) -> Result<Json, OutOfMemory>
     ensures json { IfOk result (λ json. view json ≡ list_json T.json_of items.now) }
     ensures fits { OnOk result (Each T.Fits items.now) }

@@ -1,4 +1,4 @@
-//! Mails.
+//! Mails, written as JSON.
 ghost use Rattle.std.specs.Prelude.{◌≡◌, IfOk, OnOk};
 ghost use Rattle.serde_json.specs.View.{view};
 ghost use Rattle.sc_to_json.specs.Topics.{topic, Asked, Promised, Valued, Lacked, Voted, Decided};
@@ -12,7 +12,7 @@ use sc_mail::{Mail, MailBody};
 use serde_json::Value as Json;
 use std::alloc::Global;
 
-// Requests, answers, and what is told of orders.
+// Returns the JSON of a request, an answer or the result of an order.
 #[tactic(auto, unfolding(crate::specs::Json::mail_body_json, crate::specs::Json::FitsMailBody))]
 fn asked_json(alloc: Global, body: &MailBody) -> Result<Json, OutOfMemory>
     requires { topic body.now ≡ Asked }
@@ -50,7 +50,7 @@ fn asked_json(alloc: Global, body: &MailBody) -> Result<Json, OutOfMemory>
     }
 }
 
-// Promises of a ballot.
+// Returns the JSON of the prepare, the promise or the refusal of a ballot.
 #[tactic(auto, unfolding(crate::specs::Json::mail_body_json, crate::specs::Json::FitsMailBody))]
 fn promised_json(alloc: Global, body: &MailBody) -> Result<Json, OutOfMemory>
     requires { topic body.now ≡ Promised }
@@ -90,7 +90,7 @@ fn promised_json(alloc: Global, body: &MailBody) -> Result<Json, OutOfMemory>
     }
 }
 
-// Values of slots.
+// Returns the JSON of a mail about the value of a slot.
 #[tactic(auto, unfolding(crate::specs::Json::mail_body_json, crate::specs::Json::FitsMailBody))]
 fn valued_json(alloc: Global, body: &MailBody) -> Result<Json, OutOfMemory>
     requires { topic body.now ≡ Valued }
@@ -137,7 +137,7 @@ fn valued_json(alloc: Global, body: &MailBody) -> Result<Json, OutOfMemory>
     }
 }
 
-// What a member lacks.
+// Returns the JSON of a mail by which a member asks for what it lacks, or gets a state.
 #[tactic(auto, unfolding(crate::specs::Json::mail_body_json, crate::specs::Json::FitsMailBody))]
 fn lacked_json(alloc: Global, body: &MailBody) -> Result<Json, OutOfMemory>
     requires { topic body.now ≡ Lacked }
@@ -168,7 +168,7 @@ fn lacked_json(alloc: Global, body: &MailBody) -> Result<Json, OutOfMemory>
     }
 }
 
-// Votes of transactions.
+// Returns the JSON of a question or a vote of a transaction.
 #[tactic(auto, unfolding(crate::specs::Json::mail_body_json, crate::specs::Json::FitsMailBody))]
 fn voted_json(alloc: Global, body: &MailBody) -> Result<Json, OutOfMemory>
     requires { topic body.now ≡ Voted }
@@ -206,7 +206,7 @@ fn voted_json(alloc: Global, body: &MailBody) -> Result<Json, OutOfMemory>
     }
 }
 
-// Outcomes of transactions, and who watches them.
+// Returns the JSON of the outcome of a transaction, or of a watcher's question or answer.
 #[tactic(auto, unfolding(crate::specs::Json::mail_body_json, crate::specs::Json::FitsMailBody))]
 fn decided_json(alloc: Global, body: &MailBody) -> Result<Json, OutOfMemory>
     requires { topic body.now ≡ Decided }

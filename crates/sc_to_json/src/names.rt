@@ -1,4 +1,4 @@
-//! Names and ballots.
+//! Names and ballots, written as JSON.
 ghost use Rattle.std.specs.Prelude.{◌<◌};
 ghost use Rattle.sc_base.specs.declared.names.Draw.{Draw};
 ghost use Rattle.sc_row_text.specs.Names.{draw_json, FitsDraw, ballot_json, FitsBallot};

@@ -1,4 +1,4 @@
-//! Numbers.
+//! Numbers, written as JSON.
 ghost use Rattle.sc_row_text.specs.Shapes.{number_json};
 ghost use Rattle.sc_row_text.specs.Held.{FitsU8, FitsU16, FitsU32, FitsU64};
 

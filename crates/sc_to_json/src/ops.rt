@@ -1,4 +1,4 @@
-//! Operations and replies.
+//! Operations and replies, written as JSON.
 ghost use Rattle.sc_base.specs.declared.ops.Op.{Op};
 ghost use Rattle.sc_row_text.specs.Ops.{op_json, FitsOp};
 ghost use Rattle.sc_row_text.specs.Ops.{reply_json, FitsReply};

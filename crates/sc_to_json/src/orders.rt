@@ -1,4 +1,4 @@
-//! Orders and what is told of them.
+//! Orders and their results, written as JSON.
 ghost use Rattle.sc_cmd.specs.declared.orders.Order.{Order};
 ghost use Rattle.sc_cmd.specs.declared.orders.OrderRefusal.{OrderRefusal};
 ghost use Rattle.sc_cmd.specs.declared.orders.ToldResult.{ToldResult};

@@ -1,4 +1,4 @@
-//! Outcomes.
+//! Outcomes of transactions, written as JSON.
 ghost use Rattle.sc_cmd.specs.declared.votes.Outcome.{Outcome};
 ghost use Rattle.sc_row_text.specs.Outcomes.{gift_json, FitsGift};
 ghost use Rattle.sc_row_text.specs.Outcomes.{outcome_json, FitsOutcome};

@@ -1,4 +1,4 @@
-//! Rows and their events.
+//! Rows and their events, written as JSON.
 ghost use Rattle.sc_row_text.specs.Rows.{event_json, FitsEvent};
 ghost use Rattle.sc_row_text.specs.Rows.{row_json, FitsRow};
 

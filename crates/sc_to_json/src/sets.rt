@@ -1,4 +1,4 @@
-//! Arcs, sets of nodes, pairs of keys and values, and client tables.
+//! Arcs, sets of nodes, pairs of keys and values, and client tables, written as JSON.
 ghost use Rattle.std.specs.Prelude.{◌≡◌, IfOk};
 ghost use Rattle.serde_json.specs.View.{view};
 ghost use Rattle.sc_base.specs.declared.ops.Noted.{Noted};
@@ -45,7 +45,7 @@ impl ToJson for Ordered<Key, Value> {
     }
 }
 
-/// An entry of a client table.
+/// Returns the JSON of an entry of a client table.
 #[tactic(auto, unfolding(crate::specs::Json::client_json, crate::specs::Json::FitsNoted))]
 fn client_to_json(alloc: Global, entry: &(u16, Noted)) -> Result<Json, OutOfMemory>
     ensures json { IfOk result (λ json. view json ≡ client_json entry.now) }

@@ -1,4 +1,4 @@
-//! Keys and values: strings.
+//! Keys and values, written as JSON strings.
 ghost use Rattle.std.specs.Prelude.{◌≡◌, IsTrue, IfOk};
 ghost use Rattle.std.specs.List.{list_all};
 ghost use Rattle.serde_json.specs.Data.{string};
@@ -11,7 +11,7 @@ use sc_base::{Key, OutOfMemory, Value};
 use serde_json::Value as Json;
 use std::alloc::Global;
 
-/// The string of visible bytes.
+/// Returns the JSON string of visible bytes.
 #[tactic(auto, using(crate::proofs::TextSteps::visible_utf8))]
 fn string_of(alloc: Global, bytes: &[u8]) -> Result<Json, OutOfMemory>
     requires { IsTrue (list_all is_visible bytes.now) }

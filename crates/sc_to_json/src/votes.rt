@@ -1,4 +1,4 @@
-//! Votes.
+//! Votes in transactions, written as JSON.
 ghost use Rattle.sc_cmd.specs.declared.votes.No.{No};
 ghost use Rattle.sc_cmd.specs.declared.votes.Vote.{Vote};
 ghost use Rattle.sc_cmd.specs.declared.votes.Past.{Past};

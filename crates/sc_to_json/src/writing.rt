@@ -1,4 +1,4 @@
-//! Objects and variants, written.
+//! Objects, variants and arrays, written as JSON.
 ghost use Rattle.std.specs.Prelude.{◌≡◌, OnOk, IfOk};
 ghost use Rattle.serde_json.specs.Data.{array, item, no_items, object, put, no_members, string};
 ghost use Rattle.serde_json.specs.View.{view, members_view};
@@ -9,10 +9,10 @@ use sc_base::OutOfMemory;
 use serde_json::{Map, Value as Json};
 use std::alloc::Global;
 
-/// A member of an object: its name, and the value whose JSON it is.
+/// A member of an object: its name, and the value that is written as its content.
 pub(crate) type Member<'a, T> = (&'a str, &'a T);
 
-/// Adds a member to those of an object.
+/// Adds a member to an object.
 pub(crate) fn add<T: ToJson>(
     members: &mut Map<String, Json>,
     alloc: Global,
@@ -28,7 +28,7 @@ pub(crate) fn add<T: ToJson>(
     Ok(())
 }
 
-/// Adds six members to those of an object.
+/// Adds six members to an object.
 pub(crate) fn add_six<A: ToJson, B: ToJson, C: ToJson, D: ToJson, E: ToJson, F: ToJson>(
     members: &mut Map<String, Json>,
     alloc: Global,
@@ -60,7 +60,7 @@ pub(crate) fn add_six<A: ToJson, B: ToJson, C: ToJson, D: ToJson, E: ToJson, F: 
     Ok(())
 }
 
-/// An object of one member.
+/// Returns an object of one member.
 pub(crate) fn one<A: ToJson>(alloc: Global, first: Member<'_, A>) -> Result<Json, OutOfMemory>
     ensures json { IfOk result (λ json. view json ≡ object
         (put first.entry.0.now (A.json_of first.entry.1.now) no_members)) }
@@ -71,7 +71,7 @@ pub(crate) fn one<A: ToJson>(alloc: Global, first: Member<'_, A>) -> Result<Json
     Ok(Json::Object(members))
 }
 
-/// An object of two members.
+/// Returns an object of two members.
 pub(crate) fn two<A: ToJson, B: ToJson>(
     alloc: Global,
     first: Member<'_, A>,
@@ -88,7 +88,7 @@ pub(crate) fn two<A: ToJson, B: ToJson>(
     Ok(Json::Object(members))
 }
 
-/// An object of three members.
+/// Returns an object of three members.
 pub(crate) fn three<A: ToJson, B: ToJson, C: ToJson>(
     alloc: Global,
     first: Member<'_, A>,
@@ -109,7 +109,7 @@ pub(crate) fn three<A: ToJson, B: ToJson, C: ToJson>(
     Ok(Json::Object(members))
 }
 
-/// An object of four members.
+/// Returns an object of four members.
 pub(crate) fn four<A: ToJson, B: ToJson, C: ToJson, D: ToJson>(
     alloc: Global,
     first: Member<'_, A>,
@@ -133,7 +133,7 @@ pub(crate) fn four<A: ToJson, B: ToJson, C: ToJson, D: ToJson>(
     Ok(Json::Object(members))
 }
 
-/// An object of five members.
+/// Returns an object of five members.
 pub(crate) fn five<A: ToJson, B: ToJson, C: ToJson, D: ToJson, E: ToJson>(
     alloc: Global,
     first: Member<'_, A>,
@@ -160,7 +160,7 @@ pub(crate) fn five<A: ToJson, B: ToJson, C: ToJson, D: ToJson, E: ToJson>(
     Ok(Json::Object(members))
 }
 
-/// An object of six members.
+/// Returns an object of six members.
 pub(crate) fn six<A: ToJson, B: ToJson, C: ToJson, D: ToJson, E: ToJson, F: ToJson>(
     alloc: Global,
     first: Member<'_, A>,
@@ -186,14 +186,14 @@ pub(crate) fn six<A: ToJson, B: ToJson, C: ToJson, D: ToJson, E: ToJson, F: ToJs
     Ok(Json::Object(map))
 }
 
-/// A variant without content.
+/// Returns a variant without content: the string of its name.
 pub(crate) fn unit(alloc: Global, name: &str) -> Result<Json, OutOfMemory>
     ensures { IfOk result (λ json. view json ≡ string name.now) }
 {
     Ok(Json::try_from_str(alloc, name)?)
 }
 
-/// A variant with this content.
+/// Returns a variant with this content.
 fn wrapped(alloc: Global, name: &str, content: Json) -> Result<Json, OutOfMemory>
     ensures { IfOk result (λ json. view json ≡ variant name.now (view content)) }
 {
@@ -202,7 +202,7 @@ fn wrapped(alloc: Global, name: &str, content: Json) -> Result<Json, OutOfMemory
     Ok(Json::Object(members))
 }
 
-/// A variant whose content is one value.
+/// Returns a variant whose content is one value.
 pub(crate) fn variant_of<T: ToJson>(
     alloc: Global,
     name: &str,
@@ -215,7 +215,7 @@ pub(crate) fn variant_of<T: ToJson>(
     wrapped(alloc, name, json)
 }
 
-/// A variant whose content is an object of one member.
+/// Returns a variant whose content is an object of one member.
 pub(crate) fn variant_one<A: ToJson>(
     alloc: Global,
     name: &str,
@@ -229,7 +229,7 @@ pub(crate) fn variant_one<A: ToJson>(
     wrapped(alloc, name, content)
 }
 
-/// A variant whose content is an object of two members.
+/// Returns a variant whose content is an object of two members.
 pub(crate) fn variant_two<A: ToJson, B: ToJson>(
     alloc: Global,
     name: &str,
@@ -245,7 +245,7 @@ pub(crate) fn variant_two<A: ToJson, B: ToJson>(
     wrapped(alloc, name, content)
 }
 
-/// A variant whose content is an object of three members.
+/// Returns a variant whose content is an object of three members.
 pub(crate) fn variant_three<A: ToJson, B: ToJson, C: ToJson>(
     alloc: Global,
     name: &str,
@@ -264,7 +264,7 @@ pub(crate) fn variant_three<A: ToJson, B: ToJson, C: ToJson>(
     wrapped(alloc, name, content)
 }
 
-/// A variant whose content is an object of four members.
+/// Returns a variant whose content is an object of four members.
 pub(crate) fn variant_four<A: ToJson, B: ToJson, C: ToJson, D: ToJson>(
     alloc: Global,
     name: &str,
@@ -285,7 +285,7 @@ pub(crate) fn variant_four<A: ToJson, B: ToJson, C: ToJson, D: ToJson>(
     wrapped(alloc, name, content)
 }
 
-/// An array of two items.
+/// Returns an array of two items.
 pub(crate) fn pair<A: ToJson, B: ToJson>(
     alloc: Global,
     first: &A,
@@ -301,7 +301,7 @@ pub(crate) fn pair<A: ToJson, B: ToJson>(
     Ok(Json::Array(items))
 }
 
-/// An array of three items.
+/// Returns an array of three items.
 pub(crate) fn triple<A: ToJson, B: ToJson, C: ToJson>(
     alloc: Global,
     first: &A,

@@ -61,12 +61,12 @@ module _ {T E : Type 0} (entries : T → List (E × ℕ)) where
       subst (λ (z : M). Allows (Kept entries) slots id z 0 (λ _. 0) (λ _. release_tells entries (step slots 0 0 0 none) z 0)) (sym now)
       (releases entries slots id (with_counted m.0 (entries x), (0, Some x) ∷ []) x one refl has refl)
 
-  -- what a look tells is true of what was then seen
+  -- what a look reports is true of what was then seen
   pub true_of_seen : (m m' : M) → Looks entries m m' → m.0.live ≡ true → IsTrueOf m'.0 m'.0.seen
   true_of_seen m m' look live = let f = look.facts live in
       subst (λ (v : View E). IsTrueOf v m'.0.seen) (sym look.view_is) record { own = f.own; joined = f.joined; others = f.others }
 
-  -- what a read tells of what was seen
+  -- what a read reports of what was seen
   pub true_later : (m m' : M) (r : ℕ) → ReadsCount entries m r m' → m.0.live ≡ true → IsTrueLater m'.0
   true_later m m' r read live = let f = read.facts live in
       subst (λ (z : M). IsTrueLater z.0) (sym read.same) record { list = f.list; later = f.later; facts = record { own = f.facts.own; joined = f.facts.joined; others = f.facts.others } }

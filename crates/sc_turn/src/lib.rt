@@ -1,7 +1,7 @@
 //! A turn: any number of threads append rows to one shared value, one thread at a time.
 //!
-//! The value lies in the one slot of a table and is handed from seat to seat. One word of the table
-//! says whether a seat has the turn, and another counts the rows of the list that the value stands
+//! The value is in the one slot of an atomic table, and moves from seat to seat. Word 0 of the
+//! table says whether a seat has the turn. Word 1 counts the rows of the list that the value stands
 //! for.
 #![tactic(auto)]
 

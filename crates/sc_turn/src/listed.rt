@@ -1,4 +1,4 @@
-//! What the shared value stands for.
+//! The trait of the shared value.
 ghost use Rattle.std.specs.Prelude.{◌≡◌, ℕ, ◌<◌, ◌^◌, List, length};
 
 /// A value that stands for a list of rows.
@@ -9,7 +9,8 @@ pub trait Listed: Drop {
     /// The rows, each with the number of its maker.
     ghost entries: { Self → List (Self.Entry × ℕ) };
 
-    /// How many rows there are. A seat compares it with the number of counted rows when it leaves.
+    /// Returns the number of rows. A seat that leaves compares it with the number of counted rows,
+    /// to know whether a row was added.
     fn count(&self) -> u64
         requires { length (entries self.now) < 2 ^ 64 }
         ensures { result ≡ length (entries self.now) };

@@ -14,17 +14,17 @@ use std::marker::Brand;
 use std::sync::atomic::{AtomicU32, Ordering};
 use std::sync::{Arc, Wait};
 
-// What the seats share: the table, and a count of those that sleep until the turn is free. The
-// count carries no fact: it only saves a call to wake nobody.
+// What the seats share: the table, and a count of those that sleep until the turn is free. No
+// contract speaks of the count: it only saves the call that would wake nobody.
 #[derive(Drop)]
 struct Desk<T: Listed> {
     table: Table<Option<T>, View<T::Entry>, (), Turning<T>, Global>,
     sleepers: AtomicU32,
 }
 
-/// A seat at the table, by which one thread takes turns at the shared value.
-/// Its meaning is what it knows: its number, the rows that it has seen, the rows that were made
-/// under its number, and whether it has the turn.
+/// A seat at the table, by which one thread takes turns at the shared value. Its meaning is its
+/// view: its number, the rows that it has seen, the rows that were made under its number, and
+/// whether it has the turn.
 #[derive(Drop)]
 pub struct TurnSeat<T: Listed> {
     desk: Arc<Desk<T>>,
@@ -38,8 +38,8 @@ pub struct TurnSeat<T: Listed> {
 impl<T: Listed> TurnSeat<T> {
     ghost use Rattle.sc_turn.specs.Seats.{known, OfOneStart, AllJoined};
 
-    /// A new table with its first seat, of the number 0. The value stands for the empty list.
-    /// `OutOfMemory`: there is no table, and the value is dropped.
+    /// Returns the first seat, number 0, of a new table. The value must stand for the empty list.
+    /// `Err(OutOfMemory)`: there is no table, and the value is dropped.
     pub fn start(alloc: Global, value: T) -> Result<TurnSeat<T>, OutOfMemory>
         requires { T.entries value ≡ [] }
         ensures { IfOk result (λ s. known s ≡ opener) }
@@ -52,10 +52,10 @@ impl<T: Listed> TurnSeat<T> {
         Ok(TurnSeat { desk, place })
     }
 
-    /// Waits for the turn, asleep while another seat has it, and takes the value.
-    /// The value's list begins with all that this seat has seen, and has the rows of its number,
-    /// and of each number that it joined, as they were made.
-    /// It may wait forever: no clause says that a turn is ever got.
+    /// Takes the turn and the value, and sleeps while another seat has the turn. The value's list
+    /// begins with all that this seat has seen, and has the rows of the seat's number, and of each
+    /// number that it joined, as they were made. It may block for ever: no clause says that a turn
+    /// is ever got.
     pub fn enter<R: Wait>(&mut self, rt: &R) -> T
         requires { (known self.old).turn ≡ false }
         ensures start { OfOneStart self.old self.new }
@@ -69,8 +69,9 @@ impl<T: Listed> TurnSeat<T> {
         shared.exchange(&mut self.place, 0, None).unwrap()
     }
 
-    /// Gives the value and the turn back, and wakes one seat that sleeps, if any does.
-    /// The value's list is the one that was got, or that and one row more, of this seat's number.
+    /// Gives the value and the turn back, and wakes one seat that sleeps, if any does. The value's
+    /// list has to be the one that `enter` gave, or that list and one more row with this seat's
+    /// number.
     pub fn leave(&mut self, value: T)
         requires turn { (known self.old).turn ≡ true }
         requires list { CanLeave (known self.old) (T.entries value) }
@@ -84,14 +85,14 @@ impl<T: Listed> TurnSeat<T> {
         shared.exchange(&mut self.place, 0, Some(value));
         count_row(shared, &mut self.place, rows);
         shared.store::<Release<T>>(&mut self.place, 0, 0);
-        // Each step here and in `acquire` is sequentially consistent. So one who is not counted yet
-        // finds the turn free before it sleeps.
+        // These steps and those of `acquire` are sequentially consistent, so a thread that is not
+        // yet counted here finds the turn free before it sleeps.
         if 0 < desk.sleepers.load(Ordering::SeqCst) {
             shared.wake_one(0);
         }
     }
 
-    // The number of the new seat is picked by the call.
+    // Splits off a new seat of the number `who`, under a type `J` that the caller makes for it.
     fn split_as<J: Number>(&mut self, who: u32) -> Result<TurnSeat<T>, OutOfMemory>
         requires start { ((known self.old).who ≡ 0) × ((known self.old).turn ≡ false) }
         requires picked { J.number ≡ who }
@@ -111,9 +112,9 @@ impl<T: Listed> TurnSeat<T> {
         Ok(TurnSeat { desk, place })
     }
 
-    /// A new seat of the number `who`, which has seen what this seat has seen and has made nothing.
-    /// Only the seat of the start splits others off, each number once.
-    /// `OutOfMemory`: no seat was made, and the number is still free.
+    /// Returns a new seat of the number `who`, which has seen what this seat has seen and has made
+    /// nothing. Only the first seat may split others off, each number once. `Err(OutOfMemory)`: no
+    /// seat was made, and the number is still free.
     pub fn split(&mut self, who: u32) -> Result<TurnSeat<T>, OutOfMemory>
         requires start { ((known self.old).who ≡ 0) × ((known self.old).turn ≡ false) }
         requires number { who ≢ 0 }
@@ -128,7 +129,7 @@ impl<T: Listed> TurnSeat<T> {
         self.split_as::<Brand>(who)
     }
 
-    // This seat is told what the other has seen, and looks.
+    // Sends what the other seat has seen to this seat, which then sees every row counted so far.
     fn hear(&mut self, other: &mut TurnSeat<T>)
         requires { OfOneStart self.old other.old }
         ensures start { OfOneStart self.old self.new × OfOneStart other.old other.new }
@@ -145,9 +146,9 @@ impl<T: Listed> TurnSeat<T> {
         shared.load::<Look<T>>(&mut self.place, 1);
     }
 
-    /// Vouches for what the other seat has seen: with what this seat has seen it goes on to one
-    /// list, in which the rows of this seat's number are those that were made under it. Neither
-    /// seat sees more by it.
+    /// Shows that there is one list which begins both with what this seat has seen and with what
+    /// `other` has seen, and in which the rows of this seat's number are those that were made under
+    /// it. Neither seat sees more rows afterwards.
     pub fn vouch(&mut self, other: &mut TurnSeat<T>)
         requires one_start { OfOneStart self.old other.old }
         requires turn { ((known self.old).turn ≡ false) × ((known other.old).turn ≡ false) }
@@ -162,10 +163,9 @@ impl<T: Listed> TurnSeat<T> {
         shared.load::<Read<T>>(&mut self.place, 1);
     }
 
-    /// Two seats of one start tell each other: afterwards what each has seen begins with what the
-    /// two had seen before, and what `other` has seen begins with what this seat has.
-    /// It takes no memory. After `OutOfMemory`, which this form never answers, both would have seen
-    /// what they had.
+    /// Lets two seats of one start exchange what they have seen. Afterwards what each has seen
+    /// begins with what both had seen before, and what `other` has seen begins with what this seat
+    /// has seen. It takes no memory and never returns `OutOfMemory`.
     pub fn meet<R: Wait>(&mut self, _rt: &R, other: &mut TurnSeat<T>) -> Result<(), OutOfMemory>
         requires one_start { OfOneStart self.old other.old }
         requires turn { ((known self.old).turn ≡ false) × ((known other.old).turn ≡ false) }
@@ -185,9 +185,9 @@ impl<T: Listed> TurnSeat<T> {
         Ok(())
     }
 
-    /// The seat of the start takes in another of the same start, and from then on knows what the
-    /// other had made.
-    /// It keeps the longer of what the two have seen, which begins with the other.
+    /// Takes another seat of the same start into the first seat, which from then on knows the rows
+    /// that the other had made. It keeps the longer of the two lists that they have seen, which
+    /// begins with the shorter.
     pub fn join(&mut self, other: TurnSeat<T>)
         requires start { (known self.old).who ≡ 0 }
         requires one_start { OfOneStart self.old other }
@@ -207,8 +207,8 @@ impl<T: Listed> TurnSeat<T> {
         shared.load::<Read<T>>(&mut self.place, 1);
     }
 
-    /// Waits for the turn and keeps the value. Each seat that was split off was joined.
-    /// The turn is never given back.
+    /// Waits for the turn and returns the value; the turn is never given back. Each seat that was
+    /// split off must have been joined. It may block for ever.
     pub fn close<R: Wait>(self, rt: &R) -> T
         requires start { ((known self).who ≡ 0) × ((known self).turn ≡ false) }
         requires joined { AllJoined (known self) }

@@ -8,7 +8,7 @@ fn ballot(round: u32, node: u16) -> Ballot {
     Ballot { round, node }
 }
 
-/// What the acceptor answers to a value at a slot that it has not forgotten.
+/// Returns the acceptor's answer to a value at a slot that it has not forgotten.
 fn answer(
     rt: &impl Abort,
     acceptor: &mut Acceptor<u32>,
@@ -21,7 +21,8 @@ fn answer(
     acceptor.on_accept(ballot, slot, value)
 }
 
-/// The promise that the acceptor, which has forgotten nothing, tells where it ignores a ballot.
+/// Returns the promise that the acceptor, which has forgotten nothing, reports where it ignores a
+/// ballot.
 fn told(rt: &impl Abort, acceptor: &mut Acceptor<u32>, ballot: Ballot) -> Option<Ballot> {
     assert!(rt; acceptor.floor() == 0);
     let answer = acceptor.on_prepare(ballot, 1).expect(rt, "memory");
@@ -46,7 +47,7 @@ fn a_promise_binds(rt: HostRuntime) {
     assert!(rt; lower == AcceptAnswer::Ignored { promised } && same == AcceptAnswer::Accepted);
 }
 
-/// Slots, rounds of node 1, and values.
+/// Values to accept, each with its slot and a round of node 1.
 type Rows<'a> = &'a [(u32, u32, u32)];
 
 fn accept(rt: &impl Abort, acceptor: &mut Acceptor<u32>, rows: Rows) {

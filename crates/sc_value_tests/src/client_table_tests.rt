@@ -4,24 +4,24 @@ use std::alloc::Global;
 use std::mem::forget;
 use std::process::Abort;
 
-/// What is done with a table of clients, and what it answers.
+/// A step of a story: a call of a client table, with what it must return.
 #[derive(Clone, Copy)]
 enum Step {
-    /// A client's request is so.
+    /// The table knows a client's request as new, repeated or stale.
     Is(u16, u32, Seen),
-    /// A request is noted, which is new, with a reply that tells these bytes.
+    /// Notes a request, which is new, with a reply of this old value.
     Note(u16, u32, &'static [u8]),
-    /// A list of one client is joined, with its number and the reply `other`.
+    /// Joins a list of one client, with the number of its request and the reply `other`.
     Join(u16, u32),
-    /// The reply that is noted for a client tells these bytes.
+    /// The reply that is noted for a client has this old value.
     Has(u16, &'static [u8]),
     /// No reply is noted for a client.
     HasNone(u16),
-    /// So many clients are listed.
+    /// The table lists this many clients.
     Lists(usize),
 }
 
-/// Notes a request, which is new.
+/// Notes a request, which must be new.
 fn note(
     rt: &impl Abort,
     alloc: Global,

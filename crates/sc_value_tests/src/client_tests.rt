@@ -9,19 +9,19 @@ use std::alloc::Global;
 use std::mem::forget;
 use std::process::Abort;
 
-/// What a client is told by a node.
+/// A node's answer to a client, in brief.
 #[derive(Clone, Copy)]
 enum Told {
     Value,
     NotLeader(Option<u16>),
-    /// The successor 0.2 with members 4 5 begins at 2^30.
+    /// The key is of the successor 0.2 with members 4 and 5, which begins at 2^30.
     NotMine,
-    /// The group went into 0.5 with the member 7.
+    /// The group was taken over by 0.5 with the member 7.
     Gone,
     Stale,
 }
 
-/// An input of a client: an answer has its sender, its group and the number of the request.
+/// An input of a client. An answer has its sender, its group and the number of the request.
 #[derive(Clone, Copy)]
 enum Given {
     Go,
@@ -32,7 +32,8 @@ enum Given {
 /// The receiver, the group and the number of the one request that is sent.
 type Sent = Option<(u32, u32, u32)>;
 
-/// Client 1 with the requests put a x and get a, which knows group 0.1 from 0 on with members 1 2 3.
+/// Returns client 1 with the requests `put a x` and `get a`, which knows the group 0.1 from 0 on
+/// with members 1, 2 and 3.
 fn client(rt: &impl Abort, alloc: Global) -> ClientCore {
     let mut requests = Sequence::new(alloc);
     requests
@@ -87,7 +88,7 @@ fn input(rt: &impl Abort, given: Given) -> Input<Mail, OrderLine> {
     }
 }
 
-/// The receiver, the group and the number of the request that is the only mail.
+/// Returns the receiver, the group and the number of the request that is the only mail.
 fn only_request(mails: &[Mail]) -> Sent {
     match mails {
         [mail] => match &mail.body {
@@ -98,8 +99,7 @@ fn only_request(mails: &[Mail]) -> Sent {
     }
 }
 
-/// What the actor sends at an input. What it was given and what it sent is left to the process,
-/// which ends soon.
+/// Returns what the actor sends at an input. Input and mail are not dropped: the process ends soon.
 fn sent_at<A: Actor<Mail = Mail, Order = OrderLine>>(
     rt: &impl Abort,
     alloc: Global,
@@ -114,10 +114,10 @@ fn sent_at<A: Actor<Mail = Mail, Order = OrderLine>>(
     sent
 }
 
-/// An input, and what a client sends at it.
+/// An input, and what a client must send at it.
 type Row = (Given, Sent);
 
-/// Gives an actor one input after another: it sends at each what stands beside it.
+/// Gives an actor one input after another, and checks what it sends at each.
 fn check_all<A: Actor<Mail = Mail, Order = OrderLine>>(
     rt: &impl Abort,
     alloc: Global,
@@ -129,8 +129,8 @@ fn check_all<A: Actor<Mail = Mail, Order = OrderLine>>(
     }
 }
 
-/// Gives a new client one input after another: what it sends at each, the request that waits then,
-/// and how many replies it has.
+/// Gives a new client one input after another, and checks what it sends at each, which request
+/// waits at the end, and how many replies it has.
 fn check(rt: &impl Abort, alloc: Global, rows: &[Row], waiting: Option<u32>, replies: usize) {
     let mut client = client(rt, alloc);
     check_all(rt, alloc, &mut client, rows);

@@ -9,7 +9,7 @@ use std::alloc::Global;
 use std::mem::forget;
 use std::process::Abort;
 
-// One pair that counts 34, and one entry of a client table that counts 33.
+// Returns one pair, which counts 34 bytes, and one entry of a client table, which counts 33.
 fn kept(rt: &impl Abort, alloc: Global) -> (Pairs, SeenList) {
     let clients = seen(rt, alloc, 1, 1, reply(rt, alloc, b"y"));
     (pair(rt, alloc, b"x"), clients)
@@ -47,7 +47,7 @@ fn gift(rt: &impl Abort, alloc: Global) -> Outcome {
     }
 }
 
-// What a copy of a command counts.
+// Returns the counted bytes of a copy of a command.
 fn weight_of(rt: &impl Abort, alloc: Global, command: Command) -> u64 {
     let copy = command.dup(alloc).expect(rt, "memory");
     let weight = command_weight(&copy);
@@ -56,7 +56,7 @@ fn weight_of(rt: &impl Abort, alloc: Global, command: Command) -> u64 {
     weight
 }
 
-// The commands: a call, a vote, an outcome, and one of numbers.
+// Shows the counted bytes of a call, a vote, an outcome, and a command that has only numbers.
 #[test]
 fn calls_count_their_texts_and_votes_and_outcomes_what_they_carry(rt: HostRuntime) {
     let weights = [
@@ -83,8 +83,8 @@ fn calls_count_their_texts_and_votes_and_outcomes_what_they_carry(rt: HostRuntim
     assert!(rt; weights == [8, 67, 67, 0]);
 }
 
-// A group of one node alone on a ring, whose lock has heard of a participant's record, and which has
-// decided one moved boundary with a gift.
+// Returns a group of one node alone on a ring, whose lock has heard of a participant's record, and
+// which has decided one moved boundary with a gift.
 fn base(rt: &impl Abort, alloc: Global) -> Base {
     let lock = Lock::Coordinating {
         tx: GROUP,
@@ -106,7 +106,7 @@ fn base(rt: &impl Abort, alloc: Global) -> Base {
     }
 }
 
-// What a copy of a base counts.
+// Returns the counted bytes of a copy of a group's record.
 fn weight_of_base(rt: &impl Abort, alloc: Global, base: Base) -> u64 {
     let copy = base.dup(alloc).expect(rt, "memory");
     let weight = base_weight(&copy);

@@ -3,7 +3,7 @@ use std::alloc::Global;
 use std::mem::forget;
 use std::process::Abort;
 
-// How many bytes are read, in one call.
+// Returns the number of bytes that one call reads.
 fn read_len<S: Source>(alloc: Global, source: &mut S, most: u64) -> Result<usize, ReadFault> {
     match read_all(alloc, source, most) {
         Ok(bytes) => Ok(bytes.len()),
@@ -11,7 +11,8 @@ fn read_len<S: Source>(alloc: Global, source: &mut S, most: u64) -> Result<usize
     }
 }
 
-// How many bytes of "scatter" are read with this limit and then with 100, where these calls fail.
+// Returns how many bytes of "scatter" are read with this limit and then with 100, where these calls
+// of the source fail.
 fn two_reads(
     rt: &impl Abort,
     alloc: Global,
@@ -36,7 +37,7 @@ fn a_source_is_read_to_its_end_past_the_limit_or_until_it_fails(rt: HostRuntime)
     assert!(rt; first == failed && second == failed);
 }
 
-// The first put that fails, of two.
+// Writes two texts, and returns the first error.
 fn put_twice<K: Sink>(sink: &mut K) -> Result<(), Failed> {
     match sink.put(b"first\n") {
         Ok(()) => sink.put(b"second\n"),
@@ -44,8 +45,8 @@ fn put_twice<K: Sink>(sink: &mut K) -> Result<(), Failed> {
     }
 }
 
-// Whether two puts end so, with so much room and these calls failing, and the sink then holds these
-// bytes.
+// Returns whether two writes end so, with this much room and these calls failing, and the sink then
+// holds these bytes.
 fn is_held(
     rt: &impl Abort,
     alloc: Global,

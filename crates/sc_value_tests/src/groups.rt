@@ -1,23 +1,23 @@
-//! Groups as the tests of orders and splits need them.
+//! Groups, as the tests of orders and splits need them.
 use sc_base::{Draw, Members, RingArc, Sequence};
 use sc_cmd::{Core, DecidedList, Link, Lock};
 use std::alloc::Global;
 
-/// The group that is asked.
+/// The group that gets the order.
 pub const GROUP: Draw = Draw { node: 0, count: 1 };
 
-/// Another group, or a transaction.
+/// The name of another group, or of a transaction.
 pub const OTHER: Draw = Draw { node: 0, count: 2 };
 
-/// The child of a split, or a transaction.
+/// The name of the child of a split, or of a transaction.
 pub const CHILD: Draw = Draw { node: 1, count: 1 };
 
-/// The group 0.1, 0.2 and so on.
+/// Returns the name of the group 0.1, 0.2 and so on.
 pub fn numbered(count: u32) -> Draw {
     Draw { node: 0, count }
 }
 
-/// The nodes from 1 to `last`; node 1 alone where that is no set.
+/// Returns the nodes from 1 to `last`, or node 1 alone where that is no set of members.
 pub fn nodes_to(last: u16) -> Members {
     let mut members = Members::one(1);
     for node in 2..=last {
@@ -26,7 +26,7 @@ pub fn nodes_to(last: u16) -> Members {
     members
 }
 
-/// A group with the members from 1 to `last`, as a neighbour.
+/// Returns a link to a group with the members from 1 to `last`.
 fn link(group: Draw, last: u16) -> Link {
     Link {
         group,
@@ -34,7 +34,8 @@ fn link(group: Draw, last: u16) -> Link {
     }
 }
 
-/// A group with the members from 1 to `last` on an arc, with the same neighbour on both sides.
+/// Returns a group with the members from 1 to `last` on an arc, with the same neighbour on both
+/// sides.
 pub fn group(
     alloc: Global,
     last: u16,

@@ -10,14 +10,14 @@ const FIRST: Ballot = Ballot { round: 1, node: 1 };
 
 const THIRD: Ballot = Ballot { round: 3, node: 2 };
 
-/// A leader of the first ballot with a value in flight at slot 1.
+/// Returns a leader of the first ballot with a value in flight at slot 1.
 fn offering(rt: &impl Abort, alloc: Global) -> Leader<u32> {
     let mut leader = Leader::first(alloc, FIRST);
     leader.offer(1, 70).expect(rt, "memory");
     leader
 }
 
-/// Whether a vote in the first ballot at slot 1 counts so.
+/// Returns whether a vote in the first ballot at slot 1 is counted so.
 fn counts(leader: &mut Leader<u32>, node: u16, wanted: &Counted<u32>) -> bool {
     let counted = leader.on_accepted(node, FIRST, 1, &nodes_to(3));
     let is_wanted = counted == *wanted;
@@ -57,7 +57,7 @@ fn a_majority_takes_the_value_out(rt: HostRuntime) {
 /// A report: its slot, the round and the node of its ballot, and its value.
 pub type Told = (u32, u32, u16, u32);
 
-/// The reports of these rows.
+/// Returns the reports of these rows.
 pub fn reports(rt: &impl Abort, alloc: Global, rows: &[Told]) -> Vec<Report<u32>> {
     let mut reports = Vec::new(alloc);
     for (slot, round, node, value) in rows {
@@ -74,7 +74,7 @@ pub fn reports(rt: &impl Abort, alloc: Global, rows: &[Told]) -> Vec<Report<u32>
     reports
 }
 
-/// Whether the promise of a node counts in the third ballot.
+/// Returns whether the promise of a node counts in the third ballot.
 fn promise(
     rt: &impl Abort,
     alloc: Global,
@@ -86,7 +86,7 @@ fn promise(
     leader.on_promise(node, THIRD, reports).expect(rt, "memory")
 }
 
-/// A leader of the third ballot that nodes 1 and 2 have promised.
+/// Returns a leader of the third ballot that nodes 1 and 2 have promised.
 fn promised(rt: &impl Abort, alloc: Global) -> Leader<u32> {
     let mut leader = Leader::elect(alloc, THIRD, 1);
     let rows = [(1, 1, 1, 10), (3, 1, 1, 30)];
@@ -109,7 +109,7 @@ fn a_majority_of_promises_settles_a_leader(rt: HostRuntime) {
     assert!(rt; !early && settled && ballot == THIRD && !other);
 }
 
-/// Whether this is what the leader must do at a slot.
+/// Returns whether this is what the leader must do at a slot.
 fn must(rt: &impl Abort, leader: &Leader<u32>, slot: u32, wanted: &Must<u32>) -> bool {
     let must = leader.must(slot).expect(rt, "memory");
     let is_wanted = must == *wanted;

@@ -1,8 +1,7 @@
-//! Tests of values and of the parts that stand on them, over public calls alone: values, commands,
-//! mail, scenarios, reports; members, sources and sinks, histories, actors, stores, client tables,
-//! acceptors, leaders, logs, the words of Paxos, routes, clients, the refusals of orders and the
-//! plans of splits. They stand apart, since a crate with tests is proved twice, and together, since
-//! a crate of tests costs half a minute before its first test.
+//! Tests of values and of the parts above them, by public calls alone: values, commands, mail,
+//! scenarios, reports; members, sources and sinks, histories, actors, stores, client tables,
+//! acceptors, leaders, logs, the types of Paxos, routes, clients, the refusals of orders and the
+//! plans of splits. They are in a crate of their own, since a crate with tests is proved twice.
 #![tactic(auto)]
 
 #[cfg(test)]

@@ -2,13 +2,13 @@ use sc_paxos::{Glog, Learnt};
 use std::mem::forget;
 use std::process::Abort;
 
-/// What the log answers to a value at a slot below the last.
+/// Returns the log's answer to a value at a slot below the last.
 fn learnt(rt: &impl Abort, log: &mut Glog<u32>, slot: u32, value: u32) -> Learnt {
     assert!(rt; slot < u32::MAX);
     log.learn(slot, value).expect(rt, "memory")
 }
 
-/// Gives the log values at these slots, which it answers so, one after another.
+/// Gives the log values at these slots, one after another, and checks its answers.
 fn check(rt: &impl Abort, log: &mut Glog<u32>, rows: &[(u32, u32, Learnt)]) {
     for (slot, value, answer) in rows {
         assert!(rt; learnt(rt, log, *slot, *value) == *answer);
@@ -32,7 +32,7 @@ const LEARNT: &[(u32, u32, Learnt)] = &[
     (3, 30, Learnt::Learnt),
 ];
 
-// What is held of it behind the first slot.
+// What the log holds of these values behind the first slot.
 const HELD: &[(u32, Option<u32>)] = &[
     (0, None),
     (1, None),

@@ -25,8 +25,8 @@ fn promise(rt: &impl Abort, alloc: Global) -> MailBody {
     }
 }
 
-// To whom a copy of a parcel goes and what it weighs, where it is the same. It is for any type of
-// parcel, since a function that owns a mail is dear to prove.
+// Returns the receiver and the weight of a copy of a parcel, if it equals the parcel. It is
+// generic, since a function that owns a mail takes long to prove.
 fn copied<P: Parcel + Same + Drop>(
     rt: &impl Abort,
     alloc: Global,
@@ -43,7 +43,8 @@ fn copied<P: Parcel + Same + Drop>(
     told
 }
 
-// The same of a mail of client 1 to node 1 with this body.
+// Returns the receiver and the weight of a copy of a mail of client 1 to node 1 with this body, if
+// it equals the mail.
 fn copied_with(rt: &impl Abort, alloc: Global, body: MailBody) -> Option<(u32, u64)> {
     let from = client_number(1);
     copied(rt, alloc, Mail { from, to: 1, body })

@@ -1,7 +1,7 @@
 use sc_base::{Dup, MemberFault, Members};
 use std::process::Abort;
 
-/// The set of these nodes, put in one after another.
+/// Returns the set of these nodes, added one after another.
 fn set_of(rt: &impl Abort, first: u16, rest: &[u16]) -> Members {
     let mut members = Members::one(first);
     for node in rest {
@@ -10,7 +10,7 @@ fn set_of(rt: &impl Abort, first: u16, rest: &[u16]) -> Members {
     members
 }
 
-/// Whether a set is of these nodes.
+/// Returns whether the set has exactly these nodes.
 pub fn is_set(members: &Members, nodes: &[u16]) -> bool {
     members.as_slice() == nodes
 }
@@ -33,7 +33,7 @@ fn the_last_node_stays_and_a_tenth_is_refused(rt: HostRuntime) {
     assert!(rt; answers == [Err(MemberFault::Last), Err(MemberFault::Full)]);
 }
 
-/// Whether the member after each node is so.
+/// Returns whether the member after each node is the one beside it.
 fn are_next(members: &Members, cases: &[(u16, u16)]) -> bool {
     for (node, next) in cases {
         if members.after(*node) != *next {

@@ -9,7 +9,7 @@ use std::alloc::Global;
 use std::mem::forget;
 use std::process::Abort;
 
-/// An order to a group: a node that joins or leaves, or a place to split at.
+/// An order to a group: a node that joins or leaves, or a boundary to split at.
 #[derive(Clone, Copy)]
 enum Ask {
     Join(u16),
@@ -17,7 +17,7 @@ enum Ask {
     Split(u32),
 }
 
-/// A group on the positions from 100 to 199: how many members it has, its neighbour, and how many
+/// A group on the positions from 100 to 199: its number of members, its neighbour, and how many
 /// transactions it has begun.
 type Asked = (u16, Draw, u32);
 
@@ -35,8 +35,8 @@ fn command(ask: Ask) -> Command
     }
 }
 
-/// The number of the refusal of a group that may coordinate a merge, or 0 where the order is
-/// accepted.
+/// Returns the number of the cause for which the group refuses the order, or 0 where it accepts it.
+/// With `is_locked` the group coordinates a merge.
 fn answer(rt: &impl Abort, alloc: Global, asked: Asked, is_locked: bool, ask: Ask) -> u8 {
     let arc = RingArc::try_new(100, 100).expect(rt, "an arc");
     let (last, neighbour, begun) = asked;
@@ -64,7 +64,7 @@ fn answer(rt: &impl Abort, alloc: Global, asked: Asked, is_locked: bool, ask: As
 /// A group, an order to it, and the number of the refusal.
 type Row = (Asked, Ask, u8);
 
-/// Gives each order to a free group, which answers so.
+/// Gives each order to a free group, and checks its answer.
 fn check_all(rt: &impl Abort, alloc: Global, rows: &[Row]) {
     for (asked, ask, code) in rows {
         assert!(rt; answer(rt, alloc, *asked, false, *ask) == *code);

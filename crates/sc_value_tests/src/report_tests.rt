@@ -1,4 +1,4 @@
-//! Reports line by line.
+//! Reports, line by line.
 use crate::values::{get, reply};
 use sc_base::{Draw, Members, Reply, Sequence};
 use sc_cmd::{OrderRefusal, Route, ToldResult};
@@ -61,7 +61,7 @@ fn summary(rt: &impl Abort, alloc: Global, brief: bool) -> Summary {
     }
 }
 
-// Whether these lines, one after another, are this text.
+// Returns whether these lines, one after another, are this text.
 fn are_text(lines: &[ReportLine], text: &[u8]) -> bool {
     let mut rest = text;
     for line in lines {
@@ -73,7 +73,7 @@ fn are_text(lines: &[ReportLine], text: &[u8]) -> bool {
     rest.is_empty()
 }
 
-// Whether the summary is told so.
+// Returns whether this is the report of the summary.
 fn is_told(rt: &impl Abort, alloc: Global, brief: bool, report: &[u8]) -> bool {
     let summary = summary(rt, alloc, brief);
     let lines = lines(alloc, &summary).expect(rt, "memory");

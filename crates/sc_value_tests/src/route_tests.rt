@@ -6,7 +6,7 @@ use std::alloc::Global;
 use std::mem::forget;
 use std::process::Abort;
 
-/// A group from `lo` on, with two members.
+/// Returns the route to a group with two members whose arc starts at `lo`.
 fn route(count: u32, lo: u32, least: u16, other: u16) -> Route {
     let mut members = Members::one(least);
     let _ = members.add(other);
@@ -17,7 +17,7 @@ fn route(count: u32, lo: u32, least: u16, other: u16) -> Route {
     }
 }
 
-/// A group tells that its arc is so long from `lo` on, and who is next.
+/// Notes that a group has the arc of this length from `lo` on, and which group is next.
 fn hear(rt: &impl Abort, routes: &mut Routes, count: u32, (lo, length): (u32, u64), next: Route) {
     let arc = RingArc::try_new(lo, length).expect(rt, "an arc");
     let link = Link {
@@ -29,7 +29,7 @@ fn hear(rt: &impl Abort, routes: &mut Routes, count: u32, (lo, length): (u32, u6
         .expect(rt, "memory");
 }
 
-/// Group 1 from 0 on, group 2 from 2^30 on and group 3 from 2^31 on.
+/// Returns routes to group 1 from 0 on, group 2 from 2^30 on and group 3 from 2^31 on.
 fn three(rt: &impl Abort, alloc: Global) -> Routes {
     let mut routes = Routes::start(alloc, route(1, 0, 1, 2)).expect(rt, "memory");
     hear(rt, &mut routes, 1, (0, 1 << 30), route(2, 1 << 30, 4, 5));
@@ -43,7 +43,7 @@ fn three(rt: &impl Abort, alloc: Global) -> Routes {
     routes
 }
 
-/// Whether these groups are chosen for these positions.
+/// Returns whether these groups are chosen for these positions.
 fn chooses(routes: &Routes, rows: &[(u32, u32)]) -> bool {
     for (p, count) in rows {
         if routes.choose(*p) != numbered(*count) {
@@ -53,7 +53,7 @@ fn chooses(routes: &Routes, rows: &[(u32, u32)]) -> bool {
     true
 }
 
-// Routes are left to the process, which ends soon.
+// Routes are not dropped: the process ends soon.
 
 #[test]
 fn the_nearest_start_at_or_before_is_chosen(rt: HostRuntime) {
@@ -76,7 +76,7 @@ fn among_equals_the_last_is_chosen(rt: HostRuntime) {
     assert!(rt; chooses);
 }
 
-/// The members of group 2 are asked in turn; group 9 is not known.
+/// Shows that the members of group 2 are asked in turn. Group 9 is not known.
 #[test]
 fn nodes_are_asked_one_after_another(rt: HostRuntime) {
     let mut routes = three(&rt, rt.alloc());
@@ -90,7 +90,7 @@ fn nodes_are_asked_one_after_another(rt: HostRuntime) {
     assert!(rt; then == [Some(4), None] && !prefers_unknown);
 }
 
-/// Group 2 goes into group 4.
+/// Shows that group 2 is forgotten once it was taken over by group 4.
 #[test]
 fn a_group_that_is_gone_is_forgotten(rt: HostRuntime) {
     let mut routes = three(&rt, rt.alloc());

@@ -26,8 +26,8 @@ fn is_group_read(groups: &GroupList) -> bool {
     }
 }
 
-// The node that is told an order, the order's number, and of a join or a leave its node and its
-// group.
+// The node that gets an order, the order's number, whether it is a join, and the node and the group
+// of the join or leave.
 type Told = (u16, u32, bool, u16, Draw);
 
 fn told(line: &SchedLine) -> Option<Told> {
@@ -66,8 +66,8 @@ fn is_early_form_read(scenario: &Scenario) -> bool {
         && is_group_read(&scenario.groups)
 }
 
-// What a scenario must be: all lines of the early form, two conditional writes, or one free line
-// with so many deliveries and workers.
+// What a scenario must be: all lines of the early form, two conditional writes, or one `free` line
+// with these numbers of deliveries and workers.
 #[derive(Clone, Copy)]
 enum Wanted {
     Early,
@@ -75,7 +75,7 @@ enum Wanted {
     Free(u32, u32),
 }
 
-// Whether a text is a scenario, and what it must be.
+// Returns whether the text is a scenario, and the one that it must be.
 fn is_read(rt: &impl Abort, alloc: Global, text: &[u8], wanted: Wanted) -> bool {
     let scenario = read_scenario(alloc, text).expect(rt, "a scenario");
     let is_read = match wanted {
@@ -92,7 +92,8 @@ fn the_early_form_is_read(rt: HostRuntime) {
     assert!(rt; is_read(&rt, rt.alloc(), ALL_LINES, Wanted::Early));
 }
 
-// The first bad line of a text and the number of its reason; zeros where the text is a scenario.
+// Returns the first bad line of a text and the number of its reason, or zeros where the text is a
+// scenario.
 fn fault_of(alloc: Global, text: &[u8]) -> (u32, u8) {
     match read_scenario(alloc, text) {
         Ok(scenario) => {
@@ -104,7 +105,7 @@ fn fault_of(alloc: Global, text: &[u8]) -> (u32, u8) {
     }
 }
 
-// Whether a text with so many line feeds behind it is refused so.
+// Returns whether a text with these line feeds behind it is refused at this line for this reason.
 fn is_refused(rt: &impl Abort, alloc: Global, refused: &Refused) -> bool {
     let (text, feeds, line, why) = *refused;
     let mut whole = Vec::from_slice(alloc, text).expect(rt, "memory");
@@ -123,7 +124,8 @@ fn bad_texts_name_their_first_bad_line_and_its_lowest_reason(rt: HostRuntime) {
     }
 }
 
-// The same lines, with a comment, tabs, carriage returns, empty lines, and no line feed at the end.
+// The lines of `ALL_LINES`, with a comment, tabs, carriage returns, empty lines, and no line feed
+// at the end.
 const LOOSE: &[u8] =
     b" scatter\t1 \r\n# x\r\nnodes  3\n\n \t\r\ngroup 7 3 1\nclient 5\n\tput a x\nget a\ndel a\nend\n\
         client 2\nend\ngo 5\ndeliver n3 1\ndrop c5 4294967295\nagain 9\ntick c2\ncrash 3\n\

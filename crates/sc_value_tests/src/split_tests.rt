@@ -7,7 +7,7 @@ use std::alloc::Global;
 use std::mem::forget;
 use std::process::Abort;
 
-/// A group on the whole ring with the members 1 to 5, which has decided one transaction.
+/// Returns a group on the whole ring with the members 1 to 5, which has decided one transaction.
 fn whole(rt: &impl Abort, alloc: Global, neighbour: Draw) -> Core {
     let arc = RingArc::try_new(0, 1 << 32).expect(rt, "an arc");
     let mut decided = Sequence::new(alloc);
@@ -15,7 +15,7 @@ fn whole(rt: &impl Abort, alloc: Global, neighbour: Draw) -> Core {
     group(alloc, 5, arc, neighbour, Lock::Free, decided)
 }
 
-/// The group's record and its child's, of a group with this neighbour.
+/// Returns the group's record and its child's after a split, of a group with this neighbour.
 fn halves(rt: &impl Abort, alloc: Global, neighbour: Draw, at: u32) -> (Core, Core) {
     let core = whole(rt, alloc, neighbour);
     assert!(rt; can_split(&core, at));
@@ -35,8 +35,8 @@ fn has_neighbours(core: &Core, pred: (Draw, &[u16]), succ: (Draw, &[u16])) -> bo
         && is_set(&core.succ.members, succ.1)
 }
 
-/// Whether the group keeps what it has begun and decided and the positions before the boundary, and
-/// names its child, which is on both sides of it.
+/// Returns whether the group keeps what it has begun and decided and the positions before the
+/// boundary, records its child as born, and has it as the neighbour on both sides.
 fn is_left(left: &Core) -> bool {
     is_arc(&left.arc, 0, 1828716544)
         && is_set(&left.members, &[1, 2, 3])
@@ -47,7 +47,8 @@ fn is_left(left: &Core) -> bool {
         && has_neighbours(left, (CHILD, &[4, 5]), (CHILD, &[4, 5]))
 }
 
-/// Whether the child is new and has the other positions, with the group on both sides.
+/// Returns whether the child is new and has the other positions, with the group as the neighbour on
+/// both sides.
 fn is_right(child: &Core) -> bool {
     is_arc(&child.arc, 1828716544, 2466250752)
         && is_set(&child.members, &[4, 5])
@@ -79,7 +80,8 @@ fn a_group_with_neighbours_keeps_the_outer_ones(rt: HostRuntime) {
     assert!(rt; are_so);
 }
 
-/// Whether a group of the nodes from 1 to `last` on the positions from 100 to 199 can be split.
+/// Returns whether a group of the nodes from 1 to `last` on the positions from 100 to 199 can be
+/// split at `at`.
 fn can_be_split(rt: &impl Abort, alloc: Global, last: u16, at: u32) -> bool {
     let arc = RingArc::try_new(100, 100).expect(rt, "an arc");
     let core = group(alloc, last, arc, GROUP, Lock::Free, Sequence::new(alloc));

@@ -5,7 +5,7 @@ use std::alloc::Global;
 use std::mem::forget;
 use std::process::Abort;
 
-// An operation on a key, with the values that it has.
+// An operation on a key, with its values.
 #[derive(Clone, Copy)]
 enum Ask {
     Get(&'static [u8]),
@@ -34,7 +34,7 @@ fn op_of(rt: &impl Abort, alloc: Global, ask: Ask) -> Op {
     }
 }
 
-// Whether an operation is answered with this old value.
+// Returns whether an operation is answered with this old value.
 fn answers(
     rt: &impl Abort,
     alloc: Global,
@@ -50,7 +50,7 @@ fn answers(
     is_told
 }
 
-// An operation with the old value that it is answered with.
+// An operation, and the old value that is the answer.
 type Step = (Ask, Option<&'static [u8]>);
 
 fn check(rt: &impl Abort, alloc: Global, store: &mut Store, steps: &[Step]) {
@@ -80,7 +80,7 @@ fn operations_answer_the_old_value(rt: HostRuntime) {
 // The position of the key `m`.
 const M: u32 = 0x6d00_0000;
 
-// Whether there are so many pairs, the first of this key and the last of this value.
+// Returns whether there are `many` pairs, the first with this key and the last with this value.
 fn are_pairs(pairs: &Pairs, many: usize, key: &[u8], value: &[u8]) -> bool {
     match pairs.as_slice() {
         [one] => many == 1 && one.0.bytes() == key && one.1.bytes() == value,
@@ -89,7 +89,7 @@ fn are_pairs(pairs: &Pairs, many: usize, key: &[u8], value: &[u8]) -> bool {
     }
 }
 
-// Whether the list of a store is of two pairs, the first with this key, the second with this value.
+// Returns whether the store lists two pairs, the first with this key, the second with this value.
 fn lists_two(rt: &impl Abort, store: &Store, key: &[u8], value: &[u8]) -> bool {
     let all = store.list().expect(rt, "memory");
     let are_two = are_pairs(&all, 2, key, value);
@@ -97,8 +97,8 @@ fn lists_two(rt: &impl Abort, store: &Store, key: &[u8], value: &[u8]) -> bool {
     are_two
 }
 
-// Takes the part from `m` on, which is one pair, out of a store, and joins it again. Between the two
-// the store has no `m`.
+// Takes the part from `m` on out of a store, checks that the store has no `m` then, and joins the
+// part again. Returns whether the part is the one pair of `m` and `2`.
 fn moves(rt: &impl Abort, alloc: Global, store: &mut Store) -> bool {
     let from_m = RingArc::try_new(M, 1 << 31).expect(rt, "an arc");
     let moved = store.part(&from_m).expect(rt, "memory");

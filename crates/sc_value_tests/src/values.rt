@@ -1,4 +1,4 @@
-//! Small values that tests of several kinds take.
+//! Small values for several kinds of tests.
 use sc_base::{Dup, Key, Noted, Op, Pairs, Reply, SeenList, Value};
 use sc_cmd::Command;
 use std::alloc::Global;
@@ -26,7 +26,8 @@ pub(crate) fn get(rt: &impl Abort, alloc: Global, name: &[u8]) -> Op {
     }
 }
 
-// The first call of client 1, which counts 8: three bytes of its key and five of its value.
+// Returns the first request of client 1, which counts 8 bytes: three of its key and five of its
+// value.
 pub(crate) fn call(rt: &impl Abort, alloc: Global) -> Command {
     Command::Call {
         client: 1,
@@ -35,14 +36,14 @@ pub(crate) fn call(rt: &impl Abort, alloc: Global) -> Command {
     }
 }
 
-/// The reply that tells this old value.
+/// Returns the reply with this old value.
 pub(crate) fn reply(rt: &impl Abort, alloc: Global, old: &[u8]) -> Reply {
     Reply {
         old: Some(value(rt, alloc, old)),
     }
 }
 
-/// Whether a reply tells this old value.
+/// Returns whether a reply has this old value.
 pub(crate) fn tells(reply: &Reply, old: Option<&[u8]>) -> bool {
     match (&reply.old, old) {
         (None, None) => true,
@@ -51,7 +52,7 @@ pub(crate) fn tells(reply: &Reply, old: Option<&[u8]>) -> bool {
     }
 }
 
-/// The pair of the key `a` and this value.
+/// Returns the pair of the key `a` and this value.
 pub(crate) fn pair(rt: &impl Abort, alloc: Global, new: &[u8]) -> Pairs {
     let mut pairs = Pairs::new(alloc);
     pairs
@@ -60,7 +61,7 @@ pub(crate) fn pair(rt: &impl Abort, alloc: Global, new: &[u8]) -> Pairs {
     pairs
 }
 
-/// The list of one client, with a number and a reply.
+/// Returns the list of one client, with the number of its request and a reply.
 pub(crate) fn seen(
     rt: &impl Abort,
     alloc: Global,
@@ -73,7 +74,7 @@ pub(crate) fn seen(
     seen
 }
 
-/// Whether a copy of a value is the same. Both are left to the process, which ends soon.
+/// Returns whether a copy of a value equals it. Neither is dropped: the process ends soon.
 pub(crate) fn is_copied<T: Dup + PartialEq + Drop>(
     rt: &impl Abort,
     alloc: Global,

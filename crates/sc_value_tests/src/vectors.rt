@@ -1,10 +1,10 @@
-//! Texts that are no scenario, with the first bad line of each and the number of its reason.
-/// A text and how many line feeds stand behind it; its first bad line, from 1, and the number of
-/// the reason.
+//! Texts that are no scenario, each with its first bad line and the number of the reason.
+/// A text, the number of line feeds behind it, its first bad line, from 1, and the number of the
+/// reason.
 pub type Refused = (&'static [u8], usize, u32, u8);
 
-/// At least one text for each reason, and texts in which several reasons meet, of which the lowest
-/// counts. The values come from another implementation of the grammar.
+/// At least one text for each reason, and texts with several reasons, of which the lowest counts.
+/// Lines and reasons come from another implementation of the grammar.
 pub const REFUSED: &[Refused] = &[
     // 1: missing header
     (b"", 0, 1, 1),

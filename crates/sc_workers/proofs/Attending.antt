@@ -34,7 +34,7 @@ use Rattle.sc_turn.proofs.Lists.{starts_trans}
 
 -- lists
 module _ {X : Type 0} where
-  -- a front of a list with one more at its end is the whole, or a front without it
+  -- a prefix of a list with one more at its end is the whole, or a prefix of the list without it
   pub prefix_snoc : (xs front : List X) (y : X) → StartsWith (xs ++ y ∷ []) front → (front ≡ xs ++ y ∷ []) ⊎ StartsWith xs front
   prefix_snoc xs [] y p = inr (xs, refl)
   prefix_snoc [] (f ∷ front) y p = by front p.0 p.1
@@ -47,7 +47,7 @@ module _ {X : Type 0} where
       let tail : xs ++ y ∷ [] ≡ front ++ p.0 = (let e = p.1 in cc) in
       ⊎_elim (λ e. inl (λ i. sym head i ∷ e i)) (λ q. inr (q.0, λ i. head i ∷ q.1 i)) (prefix_snoc xs front y (p.0, tail))
 
-  -- where one list is cut at an element in one way and begins with a list in another, the element is in that front, or behind it
+  -- where one list is cut at an element in one way and begins with a list in another, the element is in that prefix, or behind it
   pub cut_in : (front more before after : List X) (x : X) → front ++ more ≡ before ++ x ∷ after → ((rest : List X) × (front ≡ before ++ x ∷ rest)) ⊎ StartsWith before front
   cut_in [] more before after x e = inr (before, refl)
   cut_in (f ∷ front) more [] after x e = inl (front, (let same : f ≡ x = cc in ap (λ z. z ∷ front) same))
@@ -63,12 +63,12 @@ module _ {M O : Type 0} where
   count_split n (x ∷ before) after row is = let e = count_split n before after row is in
       elim (eqb x.who n) as (λ b. length (cond b (x ∷ rows_of n (before ++ row ∷ after)) (rows_of n (before ++ row ∷ after))) ≡ length (cond b (x ∷ rows_of n before) (rows_of n before)) + (1 + length (rows_of n after))) [ true ↦ omega (arith, e) | false ↦ e ]
 
-  -- how many rows of a number there are, with one more in front
+  -- how many rows of a number there are, with one more at the beginning
   count_first : (n : ℕ) (row : Row M O) (rows : List (Row M O)) → length (rows_of n (row ∷ rows)) ≡ cond {A = ℕ} (eqb row.who n) 1 0 + length (rows_of n rows)
   count_first n row rows =
       elim (eqb row.who n) as (λ b. length (cond b (row ∷ rows_of n rows) (rows_of n rows)) ≡ cond {A = ℕ} b 1 0 + length (rows_of n rows)) [ true ↦ omega arith | false ↦ omega arith ]
 
-  -- a list has one row of a number behind so many of it
+  -- two rows of one number in a list, behind as many rows of that number, are at the same place
   same_place : (n : ℕ) (a b c d : List (Row M O)) (r q : Row M O) → a ++ r ∷ b ≡ c ++ q ∷ d → r.who ≡ n → q.who ≡ n → length (rows_of n a) ≡ length (rows_of n c) → (a ≡ c) × (r ≡ q)
   same_place n [] b [] d r q e rn qn same = (refl, (let one : r ≡ q = cc in one))
   same_place n [] b (x ∷ c) d r q e rn qn same =

@@ -116,7 +116,7 @@ held_calm P (Some (Limit used)) p = p
 held_calm P (Some (Full bytes)) p = tt
 held_calm P (Some OutOfMemory) p = tt
 
--- a refusal but for want of memory had memory
+-- a refusal that is not out of memory had memory
 pub refused_held : {P : Type 0} {A M O : Type 0} {g : Ghosts A M O} {h : MailGhosts M} (r : Rounds) (refused : Turn) (net : Port M O h) (ss : List (Shell A M O g h)) → (IsGathered net ss → P) → RefusedEnd r refused net ss → IfHeld (Some r) P
 refused_held (Quiet used) refused net ss f e = absurd e
 refused_held (Limit used) refused net ss f e = absurd e

@@ -15,7 +15,7 @@ module _ {A M O : Type 0} {g : Ghosts A M O} {h : MailGhosts M} where
   took_both (s ∷ ss) (t ∷ ts) more after len p q (suc k) d lt =
       took_both ss ts more after (omega (arith, len)) (λ i e less. p (suc i) e (omega (arith, less))) q k d (omega (arith, lt))
 
-  -- of the first so many, and of the others
+  -- of the first ones up to a number, and of the others
   pub took_parts : (cut : ℕ) (ss front back : List (Shell A M O g h)) → length front ≡ length (take cut ss) → AllTook (take cut ss) front → AllTook (drop cut ss) back → AllTook ss (front ++ back)
   took_parts cut ss front back len p q = subst (λ l. AllTook l (front ++ back)) (take-append-drop cut ss) (took_both (take cut ss) front (drop cut ss) back len p q)
 

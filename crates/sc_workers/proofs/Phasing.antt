@@ -18,7 +18,7 @@ suc_times : (n k : ℕ) → suc n * k ≡ k + n * k
 suc_times n k = grind arith
 
 module _ {A M O : Type 0} {g : Ghosts A M O} {h : MailGhosts M} where
-  -- a shell that made so many rows, and then took a turn without one
+  -- a shell that made `n` rows, and then took a turn without one
   pub served_part : (grant n : ℕ) (s u t : Shell A M O g h) → n < grant → MadeRows n s u → Took u t → made t.port ≡ made u.port → IsServed grant s (record { shell = t; did = n })
   served_part grant n s u t less rows took same = record { last = u; rows = rows; end = inr (less, (took, same)) }
 

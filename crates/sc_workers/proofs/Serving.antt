@@ -33,7 +33,7 @@ module _ {M O : Type 0} where
   pub count_later : (n : ℕ) (xs ys : List (Row M O)) → StartsWith xs ys → length (rows_of n ys) ≤ length (rows_of n xs)
   count_later n xs ys later = omega (arith, ap (λ l. length (rows_of n l)) later.1, count_append n ys later.0)
 
-  -- of two lists, one the front of the other, with as many rows of a number, the rows of it are the same
+  -- of two lists, one a prefix of the other, with as many rows of a number, the rows of it are the same
   pub list_same : (n : ℕ) (xs ys : List (Row M O)) → StartsWith xs ys → length (rows_of n xs) ≡ length (rows_of n ys) → rows_of n xs ≡ rows_of n ys
   list_same n xs ys later same = ap (rows_of n) later.1 ∙ split n ys later.0 (omega (arith, ap (λ l. length (rows_of n l)) later.1, count_append n ys later.0, same))
     where
@@ -50,7 +50,7 @@ is_some_is None e = absurd (true≢false (sym e))
 is_some_is (Some n) e = (n, refl)
 
 module _ {M O : Type 0} {h : MailGhosts M} where
-  -- a port tells whether it has posted a Crash
+  -- a port records whether it has posted a Crash
   pub crashed_is : (p : Port M O h) → p.crashed ≡ list_any (λ (row : Row M O). is_crash row.event) (made p)
   crashed_is p = p.halted ∙ sym (crash_rows p.who (known p.seat).made)
 

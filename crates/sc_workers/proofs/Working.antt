@@ -69,7 +69,7 @@ module _ {A M O : Type 0} {g : Ghosts A M O} {h : MailGhosts M} where
       ⊎_elim (λ (is : t ≡ w.last). subst (GoesByDeliveries s) (sym is) (rows_go n s w.last w.rows))
       (λ (p : Took w.last t × (made t.port ≡ made w.last.port)). goes_trans s w.last t (rows_go n s w.last w.rows) p.0.goes) w.end
 
-  -- it made so many rows
+  -- the number of rows that it made
   pub worked_rows : (n : ℕ) (s t : Shell A M O g h) → Worked n s t → length (made t.port) ≡ length (made s.port) + n
   worked_rows n s t w =
       ⊎_elim (λ (is : t ≡ w.last). ap (λ (y : Shell A M O g h). length (made y.port)) is ∙ rows_count n s w.last w.rows)

@@ -22,16 +22,16 @@ use Rattle.sc_workers.specs.declared.answers.Rounds.TheVariants.{Quiet, Limit, F
 use Rattle.sc_workers.specs.Crews.{AllOver, AllSound, rows_made}
 use Rattle.sc_workers.specs.Services.{AllServe}
 
--- whether, after what the port has seen, mail is pending for one of these actors
+-- Whether, after what the port has seen, mail is pending for one of the actors `whos`.
 abbrev pub any_waits : {M O : Type 0} {h : MailGhosts M} → Port M O h → List ℕ → Bool
 any_waits {M} {O} {h} net whos = list_any (λ who. is_some (kth_pending h.receiver net.actors (seen net) who 1)) whos
 
--- to whom the first mail goes that is pending for the port's actor, or for any where it is the network's
+-- The answer is the receiver of the first mail that is pending for the port's actor, or for any actor at the network's port, or there is no such mail.
 abbrev pub IsFirst : {M O : Type 0} {h : MailGhosts M} → Port M O h → Option ℕ → Type 0
 IsFirst {M} {O} {h} net found = IsFirstTo h.receiver net.actors (seen net) net.who found
 
 module _ {A M O : Type 0} {g : Ghosts A M O} {h : MailGhosts M} where
-  -- A shell that is spent and has not crashed. After all rows that the port has seen its actor has a first pending mail, whose row by the actor's table passes the limit, and `bytes` is at most their counted bytes.
+  -- A shell that was refused a row: it is spent and has not crashed. After all rows that the port has seen its actor has a first pending mail, whose row by the actor's table would pass the limit, and `bytes` is at most the counted bytes of these rows.
   pub record IsRefusedShell (start : Shell A M O g h) (net : Port M O h) (s : Shell A M O g h) (bytes : ℕ) : Type 0 where
     pub spent : s.spent ≡ true
     pub runs : s.port.crashed ≡ false
@@ -43,45 +43,45 @@ module _ {A M O : Type 0} {g : Ghosts A M O} {h : MailGhosts M} where
         net.limit < journal_bytes h.weighs (seen net) + row_bytes h.weighs (row_of g.table (record { who = s.port.who; actor = birth }) (seen net) (Deliver number))
     pub told : bytes ≤ journal_bytes h.weighs (seen net)
 
-  -- the cause of Full: a shell of the list was refused
+  -- The cause of the answer `Full`: a shell of the list was refused a row for the limit.
   pub record HasRefusedShell (start : List (Shell A M O g h)) (net : Port M O h) (ss : List (Shell A M O g h)) (bytes : ℕ) : Type 0 where
     pub place : ℕ
     pub inside : place < length ss
     pub refused : (d : Shell A M O g h) → IsRefusedShell (slice_index_or start place d) net (slice_index_or ss place d) bytes
 
-  -- Quiet where nothing is pending for the shells' actors, Limit where all deliveries were used and mail is pending. `used` counts the rows that the shells made since the start, which are fewer than the deliveries where a row was refused. But for want of memory the port has seen all that the shells have, and each row that they made delivers what was its actor's first pending mail.
+  -- How rounds end. `Quiet` comes where nothing is pending for the shells' actors, `Limit` where all deliveries were used and mail is pending; `used` counts the rows that the shells have made since the start. `Full` comes where a row was refused, and then fewer rows were made than the limit. With each of these the port has seen all that the shells have, and each row that they made delivers what was its actor's first pending mail. With `OutOfMemory` nothing is said.
   abbrev pub IsEnd : Rounds → Port M O h → List (Shell A M O g h) → List (Shell A M O g h) → List ℕ → ℕ → Type 0
   IsEnd (Quiet used) net start ss whos limit = AllOver net ss × (any_waits net whos ≡ false) × (used ≤ limit) × (rows_made ss ≡ rows_made start + used) × AllServe net start × AllSound ss
   IsEnd (Limit used) net start ss whos limit = AllOver net ss × (any_waits net whos ≡ true) × (used ≡ limit) × (rows_made ss ≡ rows_made start + used) × AllServe net start × AllSound ss
   IsEnd (Full bytes) net start ss whos limit = AllOver net ss × HasRefusedShell start net ss bytes × (rows_made ss < rows_made start + limit) × AllServe net start
   IsEnd OutOfMemory net start ss whos limit = ⊤
 
-  -- the end that a round comes to, where so many deliveries were made
+  -- How one round ends the rounds, where `used` deliveries were made so far.
   abbrev pub StepEnd : Rounds → Port M O h → List (Shell A M O g h) → List (Shell A M O g h) → List ℕ → ℕ → ℕ → Type 0
   StepEnd (Quiet told) net start ss whos limit used = AllOver net ss × (any_waits net whos ≡ false) × (told ≡ used)
   StepEnd (Limit told) net start ss whos limit used = AllOver net ss × (any_waits net whos ≡ true) × (told ≡ used) × (used ≡ limit)
   StepEnd (Full bytes) net start ss whos limit used = AllOver net ss × HasRefusedShell start net ss bytes × (used < limit)
   StepEnd OutOfMemory net start ss whos limit used = ⊤
 
-  -- The port has seen all that the shells have, the rows of their actors there are those that they made, of its own number and of those that have no port there are none but its own, and each row there may stand where it does.
+  -- The port has seen all that the shells have, and the rows of their actors there are those that they made. The rows of the port's own number there are its own, no actor without a port has a row, and each row may stand where it does.
   pub record IsGathered (net : Port M O h) (ss : List (Shell A M O g h)) : Type 0 where
     pub over : AllOver net ss
     pub rows : IsTrue net
     pub addressed : IsAddressed net
 
-  -- the end by a refusal
+  -- How rounds end by a refusal: by `Full` with the bytes of the refusal, or by `OutOfMemory`.
   abbrev pub RefusedEnd : Rounds → Turn → Port M O h → List (Shell A M O g h) → Type 0
   RefusedEnd (Full bytes) refused net ss = (refused ≡ RefusedFull bytes) × IsGathered net ss
   RefusedEnd OutOfMemory refused net ss = ⊤
   RefusedEnd (Quiet told) refused net ss = ⊥
   RefusedEnd (Limit told) refused net ss = ⊥
 
-  -- A round may begin: mail is pending for one of these actors after what the port has seen, which is all that the shells have.
+  -- A round may begin: the port has seen all that the shells have, and mail is pending for one of these actors.
   pub record CanBegin (net : Port M O h) (ss : List (Shell A M O g h)) (whos : List ℕ) : Type 0 where
     pub waits : any_waits net whos ≡ true
     pub gathered : IsGathered net ss
 
--- a claim on a round in which no turn was refused
+-- The claim, where no turn of the round was refused.
 abbrev pub IfCalm : Option Rounds → Type 0 → Type 0
 IfCalm None claim = claim
 IfCalm (Some (Quiet used)) claim = claim
@@ -89,7 +89,7 @@ IfCalm (Some (Limit used)) claim = claim
 IfCalm (Some (Full bytes)) claim = ⊤
 IfCalm (Some OutOfMemory) claim = ⊤
 
--- a claim on a round for which there was memory
+-- The claim, where memory did not run out in the round.
 abbrev pub IfHeld : Option Rounds → Type 0 → Type 0
 IfHeld None claim = claim
 IfHeld (Some (Quiet used)) claim = claim
@@ -97,7 +97,7 @@ IfHeld (Some (Limit used)) claim = claim
 IfHeld (Some (Full bytes)) claim = claim
 IfHeld (Some OutOfMemory) claim = ⊤
 
--- a claim on shells that a phase loses where there was no memory, and runs do not
+-- The claim about shells that a phase loses where memory runs out and runs do not: for runs always, for phases where memory did not run out.
 abbrev pub IfKept : Way → Option Rounds → Type 0 → Type 0
 IfKept Runs answer claim = claim
 IfKept Queue answer claim = IfHeld answer claim

@@ -1,4 +1,4 @@
-//! Runs of shells that work at the same time, lent to threads which are kept.
+//! Runs of shells that work at the same time, lent to threads which stay alive.
 ghost use Rattle.std.specs.Prelude.{◌≡◌, ◌<◌, ◌≤◌, ◌+◌, ◌*◌, ◌++◌, ℕ, All, length, vec_len, vec_capacity};
 ghost use Rattle.sc_lend.specs.Lending.{IsLonger};
 ghost use Rattle.sc_lend.specs.Offices.{IsHelperOf, IsLenderOf, lent_by};
@@ -13,7 +13,7 @@ use std::alloc::Global;
 use std::sync::Wait;
 use std::thread::Threads;
 
-/// Neighbours among the shells, which take their turns one after the other.
+/// A run: neighbours among the shells, which take their turns one after the other.
 #[derive(Drop)]
 pub(crate) struct Run<A: Actor> {
     pub(crate) shells: Vec<Shell<A>>,
@@ -25,14 +25,14 @@ impl<A: Actor> Labour for Run<A> {
     ghost leaves = { RunTook };
 }
 
-// Where a run is that was sent off: lent under a number, or here, where it took its turns.
+// Where a run is that was sent off: lent under a number, or here, where it has taken its turns.
 #[derive(Drop)]
 pub(crate) enum Sent<A: Actor> {
     Lent(u64),
     Here(Run<A>),
 }
 
-// The shells of a vector take their turns.
+// Lets each shell of a vector take a turn.
 fn turns_of<A: Actor, G: Gate, R: Wait>(rt: &R, alloc: Global, gate: &G, shells: &mut Vec<Shell<A>>)
     ensures len { length shells.new.items ≡ length shells.old.items }
     ensures capacity { vec_capacity shells.new ≡ vec_capacity shells.old }
@@ -42,7 +42,7 @@ fn turns_of<A: Actor, G: Gate, R: Wait>(rt: &R, alloc: Global, gate: &G, shells:
     turns(rt, alloc, gate, all);
 }
 
-// The shells of a run take their turns.
+// Lets each shell of a run take a turn.
 fn run_turns<A: Actor, G: Gate, R: Wait>(rt: &R, alloc: Global, gate: &G, run: Run<A>) -> Run<A>
     ensures { RunTook run result }
 {
@@ -51,7 +51,8 @@ fn run_turns<A: Actor, G: Gate, R: Wait>(rt: &R, alloc: Global, gate: &G, run: R
     Run { shells }
 }
 
-// A run is lent, or takes its turns here, where it is not to be lent or cannot be.
+// Lends a run that has mail, or lets its shells take their turns here where it has none or cannot
+// be lent.
 fn send<A: Actor, G: Gate, R: Wait>(
     rt: &R,
     alloc: Global,
@@ -76,7 +77,7 @@ fn send<A: Actor, G: Gate, R: Wait>(
     }
 }
 
-// A run that was sent off comes back.
+// Returns a run that was sent off, once its shells have taken their turns.
 fn fetch<A: Actor, G: Gate, R: Wait>(
     rt: &R,
     alloc: Global,
@@ -103,7 +104,8 @@ fn fetch<A: Actor, G: Gate, R: Wait>(
     }
 }
 
-// A run is put behind the others. There is room, since it stood there before.
+// Appends the shells of a run to the others. There is room, since they were cut off from the same
+// vector.
 fn join<A: Actor>(shells: &mut Vec<Shell<A>>, run: Run<A>)
     requires fits { vec_len shells.old + vec_len run.shells ≤ vec_capacity shells.old }
     ensures items { shells.new.items ≡ shells.old.items ++ run.shells.items }
@@ -116,7 +118,8 @@ fn join<A: Actor>(shells: &mut Vec<Shell<A>>, run: Run<A>)
     }
 }
 
-// Where the last of the runs of `size` begins among so many shells, and 0 where there is one run.
+// Returns the place of the first shell of the last run, where `many` shells are divided into runs
+// of `size`; 0 where there is one run.
 fn last_start(many: usize, size: usize) -> usize
     requires { 0 < size }
     ensures inside { result ≤ many }
@@ -128,14 +131,15 @@ fn last_start(many: usize, size: usize) -> usize
     many.saturating_sub(last)
 }
 
-// Whether mail waits for one of so many shells, from this one on.
+// Returns whether mail waits for one of `many` shells, from the place `from` on.
 fn mail_in(waits: &[bool], from: usize, many: usize) -> bool {
     waits.iter().skip(from).take(many).any(|wait| *wait)
 }
 
-// Each shell takes a turn. From the end on, runs with mail are lent while mail waits before them;
-// the first run with mail takes its turns here, behind those before it, and then what was lent and
-// nobody has begun. Without memory to part the shells they take their turns here.
+// Lets each shell take a turn. From the last run on, runs with mail are lent while mail waits
+// before them. The first run with mail takes its turns here, after those before it; then so do lent
+// runs that nobody has begun. Where there is no memory to cut a run off, the shells take their
+// turns here.
 fn apart<A: Actor, G: Gate, R: Wait>(
     rt: &R,
     alloc: Global,
@@ -180,7 +184,7 @@ fn apart<A: Actor, G: Gate, R: Wait>(
     join(shells, run);
 }
 
-// In how many runs of `size` mail waits.
+// Returns in how many runs of `size` shells mail waits.
 fn busy_runs(waits: &[bool], size: usize) -> usize
     requires { 0 < size }
 {
@@ -193,12 +197,12 @@ fn busy_runs(waits: &[bool], size: usize) -> usize
     busy
 }
 
-/// Each shell takes a turn, runs of `size` neighbours at the same time. `waits` tells for which of
-/// the shells mail waits. One run fewer is lent than there are, or fewer.
+/// Lets each shell take a turn, runs of `size` neighbours at the same time. `waits` says for which
+/// of the shells mail waits. Fewer runs are lent than there are.
 ///
-/// No run with mail waits for another with mail, where as many help as there are others: the first
-/// takes its turns here, and the others are lent. What nobody has begun when that is done takes its
-/// turns here too. Where mail waits in one run alone, nothing is lent.
+/// No run with mail waits for another with mail where there are enough helpers: the first takes its
+/// turns here, and the others are lent. Lent runs that nobody has begun when the first is done take
+/// their turns here too. Where mail waits in one run only, nothing is lent.
 pub(crate) fn at_once<A: Actor, G: Gate, R: Wait>(
     rt: &R,
     alloc: Global,
@@ -224,8 +228,8 @@ pub(crate) fn at_once<A: Actor, G: Gate, R: Wait>(
     }
 }
 
-/// Those who help give runs that were lent their turns, each in a thread of its own, until the desk
-/// is closed.
+/// Runs the helpers, which give lent runs their turns, each in a thread of its own where one can be
+/// started, until the desk is closed.
 pub(crate) fn help<A: Actor, G: Gate, R: Threads + Wait + Sync>(
     rt: &R,
     alloc: Global,

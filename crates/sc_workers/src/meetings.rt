@@ -12,7 +12,7 @@ use sc_shell::Shell;
 use std::alloc::Global;
 use std::sync::Wait;
 
-/// A shell meets the port.
+/// Lets the shell and the port exchange what they have seen.
 pub fn meet_one<A: Actor, R: Wait>(
     rt: &R,
     net: &mut Port<A::Mail, A::Order>,
@@ -24,7 +24,7 @@ pub fn meet_one<A: Actor, R: Wait>(
     shell.meet(rt, net)
 }
 
-/// Each shell meets the port.
+/// Lets each shell and the port exchange what they have seen.
 pub(crate) fn meet_all<A: Actor, R: Wait>(
     rt: &R,
     net: &mut Port<A::Mail, A::Order>,
@@ -40,7 +40,7 @@ pub(crate) fn meet_all<A: Actor, R: Wait>(
     Ok(())
 }
 
-/// Each shell of a vector meets the port.
+/// Lets each shell of a vector and the port exchange what they have seen.
 pub(crate) fn meet<A: Actor, R: Wait>(
     rt: &R,
     net: &mut Port<A::Mail, A::Order>,
@@ -61,7 +61,7 @@ fn vouch_one<A: Actor>(net: &mut Port<A::Mail, A::Order>, shell: &mut Shell<A>)
     shell.vouch(net);
 }
 
-/// Each shell vouches for what the port has seen.
+/// Lets each shell vouch for what the port has seen.
 pub(crate) fn vouch_all<A: Actor>(net: &mut Port<A::Mail, A::Order>, shells: &mut [Shell<A>])
     requires exchange { AllOf net.old shells.old }
     requires met { AllMet net.old shells.old }
@@ -73,7 +73,7 @@ pub(crate) fn vouch_all<A: Actor>(net: &mut Port<A::Mail, A::Order>, shells: &mu
     }
 }
 
-/// Each shell of a vector vouches for what the port has seen.
+/// Lets each shell of a vector vouch for what the port has seen.
 pub fn vouch<A: Actor>(net: &mut Port<A::Mail, A::Order>, shells: &mut Vec<Shell<A>>)
     requires exchange { AllOf net.old shells.old.items }
     requires met { AllMet net.old shells.old.items }
@@ -83,11 +83,12 @@ pub fn vouch<A: Actor>(net: &mut Port<A::Mail, A::Order>, shells: &mut Vec<Shell
     vouch_all(net, shells.as_mut_slice());
 }
 
-/// Each shell meets the port, which then looks for its first pending mail, and each vouches for
-/// what the port has seen. Answers to whom that mail goes.
+/// Lets each shell meet the port, and vouch for what the port has seen then. Returns the receiver
+/// of the first mail that is pending for the port's actor, or for any actor where the port is the
+/// network's.
 ///
 /// Afterwards the port has seen all that the shells have, and the rows of each actor there are
-/// those that its shell made.
+/// those that its shell has made.
 pub fn gather<A: Actor, R: Wait>(
     rt: &R,
     net: &mut Port<A::Mail, A::Order>,
@@ -104,7 +105,7 @@ pub fn gather<A: Actor, R: Wait>(
     Ok(found)
 }
 
-/// The numbers of the shells' actors.
+/// Returns the numbers of the shells' actors, in the order of the shells.
 pub(crate) fn numbers_of<A: Actor>(
     alloc: Global,
     shells: &[Shell<A>],

@@ -17,14 +17,14 @@ use std::thread::Threads;
 /// The most turns that a worker gives a shell.
 const MOST_TURNS: u32 = 16;
 
-/// A shell that a worker has given its turns, and how many rows it made.
+/// A shell to which a worker has given its turns, and the number of rows that they made.
 #[derive(Drop)]
 pub(crate) struct Served<A: Actor> {
     pub(crate) shell: Shell<A>,
     pub(crate) did: u32,
 }
 
-// Up to so many turns, until one makes no row.
+// Gives a shell up to `grant` turns, until one makes no row.
 fn serve<A: Actor, G: Gate, R: Wait>(
     rt: &R,
     alloc: Global,
@@ -42,7 +42,7 @@ fn serve<A: Actor, G: Gate, R: Wait>(
     Served { shell, did: grant }
 }
 
-// All take their turns, by so many workers.
+// Gives all shells their turns, by `workers` workers that take from one queue.
 fn serve_all<A: Actor, G: Gate, R: Threads + Wait + Sync>(
     rt: &R,
     alloc: Global,
@@ -68,7 +68,7 @@ fn serve_all<A: Actor, G: Gate, R: Threads + Wait + Sync>(
     Ok(all)
 }
 
-// Puts the shells back, and adds up the rows that they made.
+// Puts the shells back into the vector, and returns the number of rows that they made.
 fn put_back<A: Actor>(shells: &mut Vec<Shell<A>>, all: Vec<Served<A>>) -> Result<u32, AllocError>
     requires empty { shells.old.items ≡ [] }
     requires fits { rows_of_all all.items < 2 ^ 32 }
@@ -85,7 +85,8 @@ fn put_back<A: Actor>(shells: &mut Vec<Shell<A>>, all: Vec<Served<A>>) -> Result
     Ok(did)
 }
 
-// How many turns each may take, so that all together make no more rows than are left.
+// Returns the number of turns that each shell may take, at most 16, so that all together make no
+// more rows than are left.
 fn grant_of(left: u32, many: usize) -> u32
     requires { 0 < many }
     ensures value { result ≡ min (left / many) MOST_TURNS }
@@ -95,9 +96,9 @@ fn grant_of(left: u32, many: usize) -> u32
     (left as usize / many).min(MOST_TURNS as usize) as u32
 }
 
-// One worker for every two shells with mail, but two where two have mail, and at most so many and
-// one at least. To start a thread costs as much as a shell's turns of a phase, so one for each shell
-// with mail takes more time than it saves.
+// Returns the number of workers of a phase: one for every two shells with mail, but two where two
+// have mail, at most `workers` and at least one. To start a thread costs as much as a shell's turns
+// of a phase, so one for each shell with mail takes more time than it saves.
 fn workers_for(waits: &[bool], workers: u32) -> usize
     requires { workers ≤ 16 }
     ensures value { result
@@ -113,7 +114,7 @@ fn workers_for(waits: &[bool], workers: u32) -> usize
     wanted.min(workers as usize).max(1)
 }
 
-/// A phase that is over: how many rows were made in it, and the pass that put the shells into the
+/// A phase that is over: the number of rows made in it, and the pass that put the shells into the
 /// queue, which shows what was put and taken.
 #[derive(Drop)]
 pub(crate) struct PhaseDone<A: Actor> {
@@ -121,14 +122,14 @@ pub(crate) struct PhaseDone<A: Actor> {
     pub(crate) holder: Holder<Shell<A>>,
 }
 
-/// Each shell is put into a queue, once, from which workers take. A worker gives a shell turns until one
-/// makes no row, 16 at most, and all shells together at most `left`. Then the shells are put back
-/// in their order. Answers how many rows were made. At each moment the shell of a number that stands
-/// among the shells once is in the queue or with one worker, which has taken it once.
+/// Puts each shell once into a queue, from which workers take. A worker gives a shell turns until
+/// one makes no row, at most 16, and all shells together make at most `left` rows. Then the shells
+/// are put back in their order. Returns the number of rows made, and the pass that put the shells,
+/// which shows that at each moment a shell whose actor is among the shells once is in the queue or
+/// with one worker, which has taken it once.
 ///
-/// `waits` tells for which of the shells mail waits: there is one worker for every two such shells,
-/// and two where there are two.
-/// Without memory it is an error, and shells may be lost.
+/// `waits` says for which of the shells mail waits: there is one worker for every two such shells,
+/// and two where there are two. `Err(AllocError)`: memory ran out, and shells may be lost.
 pub(crate) fn phase<A: Actor, G: Gate, R: Threads + Wait + Sync>(
     rt: &R,
     alloc: Global,

@@ -1,4 +1,4 @@
-//! The rounds, and the phases.
+//! The driver of rounds and phases.
 ghost use Rattle.std.specs.Prelude.{◌≡◌, ◌<◌, ◌≤◌, ◌+◌, ◌*◌, length, All, None, Some, IfSome, vec_len};
 ghost use Rattle.std.specs.Thread.{IsSync};
 ghost use Rattle.sc_lend.specs.Offices.{IsHelperOf, IsLenderOf, lent_by};
@@ -21,11 +21,12 @@ use std::mem;
 use std::sync::Wait;
 use std::thread::{Threads, join_mut};
 
-/// So many runs may be lent at one time: more than there are beside the caller's own.
+/// The number of runs that may be lent at one time: at least as many as there are beside the
+/// caller's own.
 const MOST_LOANS: usize = 16;
 
-/// What does not change from round to round: the way, how many workers and deliveries there are at
-/// most, and the office where runs are lent.
+/// What stays the same from round to round: the way, the most workers and deliveries, and the
+/// office where runs are lent.
 #[derive(Drop)]
 struct Play<'a, A: Actor> {
     alloc: Global,
@@ -35,7 +36,7 @@ struct Play<'a, A: Actor> {
     desk: &'a Office<Run<A>>,
 }
 
-// How many neighbours are one run, so that there are at most so many runs.
+// Returns the number of neighbours in a run, so that `many` shells make at most `runs` runs.
 fn run_size(many: usize, runs: u32) -> usize
     requires { (0 < many) × (0 < runs) }
     ensures some { 0 < result }
@@ -44,9 +45,9 @@ fn run_size(many: usize, runs: u32) -> usize
     many.div_ceil(runs as usize)
 }
 
-// One round, or one phase. In a round there are at most as many runs as workers: fewer are lent, and
-// one takes its turns here. Answers how many deliveries were made in it, and None where there was no
-// memory for a phase.
+// Plays one round or one phase. In a round there are at most as many runs as workers; fewer than
+// that are lent, and one takes its turns here. Returns the number of deliveries made, or `None`
+// where memory for a phase ran out.
 fn play_round<A: Actor, G: Gate, R: Threads + Wait + Sync>(
     rt: &R,
     gate: &G,
@@ -85,7 +86,8 @@ fn play_round<A: Actor, G: Gate, R: Threads + Wait + Sync>(
     }
 }
 
-// What comes before a round: the meetings, the ends found there, and for whom mail waits.
+// Prepares a round: lets all shells meet and vouch, returns how the rounds end where they end here,
+// and notes for which shells mail waits.
 fn prepare<A: Actor, R: Wait>(
     rt: &R,
     net: &mut Port<A::Mail, A::Order>,
@@ -121,7 +123,7 @@ fn prepare<A: Actor, R: Wait>(
     None
 }
 
-// The end by a refusal, after a last meeting.
+// Returns how the rounds end by a refusal, after a last meeting.
 fn ended<A: Actor, R: Wait>(
     rt: &R,
     net: &mut Port<A::Mail, A::Order>,
@@ -141,7 +143,7 @@ fn ended<A: Actor, R: Wait>(
     Rounds::Full { bytes }
 }
 
-/// What changes from round to round: how many deliveries were made, and for which shells' actors
+/// What changes from round to round: the number of deliveries made, and for which shells' actors
 /// mail waits.
 #[derive(Drop)]
 struct Standing {
@@ -149,8 +151,8 @@ struct Standing {
     waits: Vec<bool>,
 }
 
-// One round or phase, with what comes after it. Some where the call ends. A round that is not
-// refused delivers at least one.
+// Plays one round or phase and prepares the next. Returns how the rounds end, or `None` where
+// another round follows. A round in which no turn is refused makes at least one delivery.
 fn step<A: Actor, G: Gate, R: Threads + Wait + Sync>(
     rt: &R,
     gate: &G,
@@ -206,7 +208,7 @@ fn step<A: Actor, G: Gate, R: Threads + Wait + Sync>(
     }
 }
 
-// Rounds or phases, as `rounds_by` has them.
+// Plays rounds or phases until they end, by the rules of `rounds_by`.
 fn played<A: Actor, G: Gate, R: Threads + Wait + Sync>(
     rt: &R,
     gate: &G,
@@ -239,7 +241,7 @@ fn played<A: Actor, G: Gate, R: Threads + Wait + Sync>(
     }
 }
 
-// Rounds or phases, behind which those who help end.
+// Plays rounds or phases until they end, and then closes the office, so that the helpers can end.
 fn played_out<A: Actor, G: Gate, R: Threads + Wait + Sync>(
     rt: &R,
     gate: &G,
@@ -261,7 +263,7 @@ fn played_out<A: Actor, G: Gate, R: Threads + Wait + Sync>(
     end
 }
 
-// Rounds or phases, while others help, fewer than there are workers.
+// Plays rounds or phases until they end, with helpers, fewer than there are workers.
 fn helped<A: Actor, G: Gate, R: Threads + Wait + Sync>(
     rt: &R,
     gate: &G,
@@ -306,8 +308,8 @@ fn helped<A: Actor, G: Gate, R: Threads + Wait + Sync>(
     end
 }
 
-// How many help: with the caller one for each run. None helps in phases, or where the shells take
-// their turns in order from the first round on.
+// Returns the number of helpers: one for each run but the caller's. There is none in phases, or
+// where the shells take their turns in order from the first round on.
 fn hands_for(way: Way, workers: u32, limit: u32, many: usize) -> usize
     requires { 1 ≤ workers }
     ensures { result < workers }
@@ -318,14 +320,15 @@ fn hands_for(way: Way, workers: u32, limit: u32, many: usize) -> usize
     }
 }
 
-/// Rounds or phases, by `way`, in which each shell that is not spent takes turns, until nothing is
-/// pending for the shells' actors, `limit` deliveries were made, or a row is refused.
+/// Plays rounds or phases, by `way`, in which each shell that is not spent takes turns, until
+/// nothing is pending for the shells' actors, `limit` deliveries were made, or a row is refused.
+/// Returns how many deliveries were made, and why it ended.
 ///
-/// Before each of them every shell meets `net`, which is the network's port and makes no row. One in
-/// which no turn is refused makes at least one delivery, so there are at most as many as `limit`.
-/// Where fewer deliveries are left than there are shells, the shells take their turns one after the
-/// other. In each phase the shell of a number that stands among them once has one holder. Without
-/// memory a phase loses shells.
+/// Before each round or phase every shell meets `net`, which is the network's port and makes no
+/// row. One in which no turn is refused makes at least one delivery, so there are at most `limit`
+/// of them. Where fewer deliveries are left than there are shells, the shells take their turns one
+/// after the other. In each phase a shell whose actor is among the shells once has one holder.
+/// Where memory runs out, a phase may lose shells, and runs lose none.
 #[tactic(auto, using(crate::proofs::Holding::one_holder_each))]
 pub fn rounds_by<A: Actor, G: Gate, R: Threads + Wait + Sync>(
     rt: &R,
@@ -363,18 +366,18 @@ pub fn rounds_by<A: Actor, G: Gate, R: Threads + Wait + Sync>(
     helped(rt, gate, &play, &mut helpers, lender, net, shells)
 }
 
-/// Rounds in which each shell that is not spent takes a turn, runs of neighbours at the same time,
-/// until nothing is pending for the shells' actors, `limit` deliveries were made, or a row is
-/// refused.
+/// Plays rounds in which each shell that is not spent takes a turn, runs of neighbours at the same
+/// time, until nothing is pending for the shells' actors, `limit` deliveries were made, or a row is
+/// refused. Returns how many deliveries were made, and why it ended.
 ///
-/// There are as many runs as `workers`, or fewer. For each run but one a thread is kept until the end,
-/// where one can be made, which sleeps while nothing is lent to it. Where mail waits in two runs or
-/// more, the caller takes the first of them and lends the others, and takes back what nobody has
-/// begun, so a run waits for another only where it cannot be lent. No shell is lost.
+/// There are at most `workers` runs. For each run but one a thread is kept until the end, where one
+/// can be started, which sleeps while nothing is lent to it. Where mail waits in two runs or more,
+/// the caller takes the first of them and lends the others, and takes back what nobody has begun,
+/// so a run waits for another only where it cannot be lent. No shell is lost.
 ///
-/// That each shell is kept, and what its turns were, the clauses say; how many runs there are and how
-/// many threads help, those of `play_round` and `helped`. By which thread a run takes its turns, and
-/// that any does so at the same time as another, no clause says.
+/// The clauses say that each shell is kept, and what its turns were. How many runs there are and
+/// how many threads help, the clauses of `play_round` and `helped` say. No clause says by which
+/// thread a run takes its turns, or that any does so at the same time as another.
 pub fn rounds<A: Actor, G: Gate, R: Threads + Wait + Sync>(
     rt: &R,
     alloc: Global,

@@ -11,7 +11,7 @@ use sc_shell::{Shell, Turn};
 use std::alloc::Global;
 use std::sync::Wait;
 
-/// A turn, unless the shell is spent. Answers whether a row was made.
+/// Lets the shell take a turn, unless it is spent. Returns whether a row was made.
 pub(crate) fn made_row<A: Actor, G: Gate, R: Wait>(
     rt: &R,
     alloc: Global,
@@ -35,7 +35,7 @@ fn one<A: Actor, G: Gate, R: Wait>(rt: &R, alloc: Global, gate: &G, shell: &mut 
     let _ = made_row(rt, alloc, gate, shell);
 }
 
-/// Each takes a turn, one after the other.
+/// Lets each shell take a turn, one after the other.
 pub(crate) fn turns<A: Actor, G: Gate, R: Wait>(
     rt: &R,
     alloc: Global,
@@ -49,7 +49,7 @@ pub(crate) fn turns<A: Actor, G: Gate, R: Wait>(
     }
 }
 
-/// Whether mail waits, by these flags.
+/// Returns whether one of the flags is set.
 pub(crate) fn any_of(waits: &[bool]) -> bool
     ensures { result ≡ list_any (λ wait. wait) waits.now }
 {
@@ -74,7 +74,7 @@ fn refusal_in(last: Option<Turn>) -> Turn
     }
 }
 
-// 1 where the shell's last turn made a row.
+// Returns 1 where the shell's last turn made a row, and else 0.
 fn did_of<A: Actor>(shell: &Shell<A>) -> u32
     ensures { result ≡ did shell.now }
 {
@@ -85,7 +85,7 @@ fn did_of<A: Actor>(shell: &Shell<A>) -> u32
     }
 }
 
-// Why the shell was refused, where it is spent and has not crashed.
+// Returns the refusal of the shell, where it is spent and has not crashed.
 fn refusal_of<A: Actor>(shell: &Shell<A>) -> Option<Turn>
     ensures { result ≡ refusal shell.now }
 {
@@ -96,7 +96,7 @@ fn refusal_of<A: Actor>(shell: &Shell<A>) -> Option<Turn>
     }
 }
 
-/// How many of the shells made a row in the round that is over.
+/// Returns how many of the shells made a row in their last turn.
 pub(crate) fn did_in<A: Actor>(shells: &[Shell<A>]) -> u32
     requires { length shells.now < 2 ^ 32 }
     ensures did { result ≡ sum_by did shells.now }
@@ -109,7 +109,7 @@ pub(crate) fn did_in<A: Actor>(shells: &[Shell<A>]) -> u32
     did
 }
 
-/// The refusal of a shell, if any was refused.
+/// Returns the refusal of one of the shells, if any was refused.
 pub(crate) fn refused_in<A: Actor>(shells: &[Shell<A>]) -> Option<Turn>
     ensures some { IfSome result (λ r. HasRefusal shells.now r) }
     ensures none { result ≡ None → AllSound shells.now }
@@ -122,15 +122,15 @@ pub(crate) fn refused_in<A: Actor>(shells: &[Shell<A>]) -> Option<Turn>
     None
 }
 
-// How far turns one after the other have come.
+// How far turns one after the other have come: the deliveries made, and whether a turn was refused.
 #[derive(Clone, Copy, Debug, PartialEq, Eq)]
 struct Progress {
     did: u32,
     stopped: bool,
 }
 
-/// The shells take their turns one after the other, until `most` deliveries were made or a turn is
-/// refused. Answers how many were made.
+/// Lets the shells take their turns one after the other, until `most` deliveries were made or a
+/// turn is refused. Returns the number of deliveries made.
 pub(crate) fn in_order<A: Actor, G: Gate, R: Wait>(
     rt: &R,
     alloc: Global,

@@ -2,7 +2,7 @@ use Rattle.std.proofs.Common.{◌≡◌, vec_len, All}
 use Rattle.crossbeam_queue.specs.Passes.{view, IsPassOf}
 use Rattle.sc_lend.proofs.office.hired.Given as goal
 
--- so many were hired
+-- the number of passes made so far
 abbrev pub invariant-loop : goal.invariant-loop
 invariant-loop g l = record {
   pass : IsPassOf l.bench l.pass;

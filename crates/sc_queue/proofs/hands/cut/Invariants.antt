@@ -3,7 +3,7 @@ use Rattle.crossbeam_queue.specs.Passes.{view, IsPassOf}
 use Rattle.sc_queue.specs.Definitions.{all_parts, hand, taker}
 use Rattle.sc_queue.proofs.hands.cut.Given as goal
 
--- so many were made
+-- the number of passes made so far
 abbrev pub invariant-loop : goal.invariant-loop
 invariant-loop g l = record {
   pass : IsPassOf l.bench l.pass;
