@@ -1,42 +1,34 @@
 //! Calls of the functions that carry laws. Such a function takes no input and returns nothing; a
 //! call shows that its contract can be met.
-use sc_budget_law::{
+use sc_law_entries::{
+    a_journal_that_draws, a_split_decides_in_turn, allowed_entries_make_one_map,
+    allowed_entries_stay_allowed, allowed_lists_append, an_example_of_entries, an_example_of_moves,
+    counters_part_names, drawn_names_are_new, draws_are_of_one_log, entries_are_allowed_logs,
+    entries_keep_the_promises, entries_keep_the_ring, entries_tell_one_map,
+    entries_that_move_tell_a_legal_history, fronts_of_logs_answer_by_history, groups_allow_others,
+    groups_are_born_under_new_names, history_is_told_by_rows, journals_in_turn_are_sound,
+    logs_name_what_was_drawn, logs_tell_histories, merge_is_allowed, moves_tell_histories,
+    names_have_one_owner, orders_are_allowed, plans_are_moves, quiet_entries_tell_a_legal_history,
+    rows_decide_for_one_group, split_is_allowed, told_entries_tell_a_legal_history, told_rows_stay,
+    what_logs_allow_stays_allowed,
+};
+use sc_law_groups::{
+    a_join_is_sound, a_journal_of_two_groups, a_journal_with_a_join, a_journal_with_a_split,
+    a_journal_with_an_election, an_election_is_sound, lawful_journals_are_sound,
+    lawful_journals_decide_in_turn, lawful_journals_hold_beside, members_stay_rosters,
+    valid_journals_are_sound, valid_scenarios_begin_well,
+};
+use sc_law_refusal::{
+    nodes_have_causes, queues_keep_one_call, refusals_have_causes, running_replicas_take_requests,
+    steps_keep_one_call, valid_journals_refuse_with_cause,
+};
+use sc_live_answers::{calm_lines_settle, calm_requests_are_answered};
+use sc_live_plain::{
     made_scenarios_are_at_budget, plain_journals_are_answered, plain_journals_are_light,
     plain_lines_end_quiet,
 };
-use sc_calm_answers_law::{calm_lines_settle, calm_requests_are_answered};
-use sc_group_law::{a_journal_with_a_join, a_journal_with_an_election};
-use sc_hist_law::{
-    an_example_of_entries, an_example_of_moves, entries_that_move_tell_a_legal_history,
-    fronts_of_logs_answer_by_history, logs_tell_histories, moves_tell_histories, plans_are_moves,
-    quiet_entries_tell_a_legal_history, told_entries_tell_a_legal_history,
-};
-use sc_log_law::{
-    a_split_decides_in_turn, allowed_entries_make_one_map, entries_are_allowed_logs,
-    entries_tell_one_map, groups_allow_others, groups_are_born_under_new_names,
-    history_is_told_by_rows, journals_in_turn_are_sound, rows_decide_for_one_group, told_rows_stay,
-    what_logs_allow_stays_allowed,
-};
-use sc_names_law::{
-    a_journal_that_draws, counters_part_names, drawn_names_are_new, logs_name_what_was_drawn,
-    names_have_one_owner, orders_are_allowed,
-};
 use sc_paxos_law::{
     a_lawful_history, acceptors_are_lawful, leaders_are_lawful, one_log, one_value_per_slot,
-};
-use sc_queue_law::{queues_keep_one_call, steps_keep_one_call};
-use sc_refusal_law::{
-    nodes_have_causes, refusals_have_causes, running_replicas_take_requests,
-    valid_journals_refuse_with_cause,
-};
-use sc_ring_law::{
-    allowed_entries_stay_allowed, allowed_lists_append, draws_are_of_one_log,
-    entries_keep_the_promises, entries_keep_the_ring, merge_is_allowed, split_is_allowed,
-};
-use sc_whole_law::{
-    a_join_is_sound, a_journal_of_two_groups, a_journal_with_a_split, an_election_is_sound,
-    lawful_journals_are_sound, lawful_journals_decide_in_turn, lawful_journals_hold_beside,
-    members_stay_rosters, valid_journals_are_sound, valid_scenarios_begin_well,
 };
 
 #[test]

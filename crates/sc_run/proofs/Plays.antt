@@ -21,8 +21,8 @@ use Rattle.sc_actor.specs.declared.schedules.Played.TheVariants.{Ended, Full, Ou
 use Rattle.sc_scenario.specs.Valid.{IsValid}
 use Rattle.sc_scenario.specs.declared.scenarios.Scenario.{Scenario}
 use Rattle.sc_sound.specs.Players.{schedule, system_of, Lawful, Whole, parties, Player, as_nodes}
-use Rattle.sc_refusal_law.specs.Journals.{ValidJournalsRefuseWithCause}
-use Rattle.sc_whole_law.specs.Valid.{ValidJournalsAreSound}
+use Rattle.sc_law_refusal.specs.refusal.Journals.{ValidJournalsRefuseWithCause}
+use Rattle.sc_law_groups.specs.whole.Valid.{ValidJournalsAreSound}
 use Rattle.sc_command_line.specs.Causes.{said_of}
 use Rattle.sc_command_line.specs.declared.said.Said.TheVariants.{Ended as HasEnded, Filled}
 use Rattle.sc_run.specs.Budgets.{BudgetsSuffice}

@@ -15,7 +15,7 @@ use Rattle.sc_scenario.specs.declared.scenarios.Scenario.{Scenario}
 use Rattle.sc_sound.specs.GroupsOf.{entries_at, world_at}
 use Rattle.sc_sound.specs.Players.{system_of, schedule, Lawful, as_nodes}
 use Rattle.sc_sound.specs.Soundness.{IsSoundThroughout}
-use Rattle.sc_whole_law.specs.Valid.{ValidEntriesAreLogs}
+use Rattle.sc_law_groups.specs.whole.Valid.{ValidEntriesAreLogs}
 use Rattle.sc_command_line.specs.declared.subcommands.Sight.{Sight}
 use Rattle.sc_run.specs.Shown.{ShowsScan}
 

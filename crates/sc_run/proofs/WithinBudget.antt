@@ -16,11 +16,11 @@ use Rattle.sc_command_line.specs.Causes.{status_of, said_of}
 use Rattle.sc_command_line.specs.declared.said.Said.{Said}
 use Rattle.sc_command_line.specs.declared.said.Said.TheVariants.{Ended}
 use Rattle.sc_command_line.specs.Faults.{IsBadText}
-use Rattle.sc_budget_law.specs.Budget.{IsAtBudget, AreAnswered}
-use Rattle.sc_budget_law.specs.Calm.{calm_budget_of, IsCalm, IsCalmAtBudget}
-use Rattle.sc_budget_law.proofs.Lemmas.{roomy_scenarios_are_calm}
-use Rattle.sc_budget_law.specs.Laws.{PlainLinesEndQuiet, PlainRequestsAreAnswered, PlainJournalsAreLight}
-use Rattle.sc_calm_answers_law.specs.Answered.{CalmLinesSettle, CalmRequestsAreAnswered, SettledRequestsAreAnswered}
+use Rattle.sc_live_plain.specs.Budget.{IsAtBudget, AreAnswered}
+use Rattle.sc_live_plain.specs.Calm.{calm_budget_of, IsCalm, IsCalmAtBudget}
+use Rattle.sc_live_plain.proofs.Lemmas.{roomy_scenarios_are_calm}
+use Rattle.sc_live_plain.specs.Laws.{PlainLinesEndQuiet, PlainRequestsAreAnswered, PlainJournalsAreLight}
+use Rattle.sc_live_answers.specs.Answered.{CalmLinesSettle, CalmRequestsAreAnswered, SettledRequestsAreAnswered}
 use Rattle.sc_command_line.specs.Subcommands.{subcommand_by}
 use Rattle.sc_command_line.specs.declared.subcommands.Subcommand.{Subcommand}
 use Rattle.sc_command_line.specs.declared.subcommands.Subcommand.TheVariants as ask

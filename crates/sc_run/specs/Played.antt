@@ -9,13 +9,13 @@ use Rattle.sc_actor.specs.Walk.{skipped, unsettled, is_quiet}
 use Rattle.sc_actor.specs.Counted.{IsFull}
 use Rattle.sc_scenario.specs.declared.scenarios.Scenario.{Scenario}
 use Rattle.sc_sound.specs.Soundness.{IsSoundThroughout}
-use Rattle.sc_refusal_law.specs.Journals.{RefusesWithCause}
+use Rattle.sc_law_refusal.specs.refusal.Journals.{RefusesWithCause}
 use Rattle.sc_sound.specs.Players.{system_of, schedule, Lawful, Whole, parties, Player, as_nodes}
 use Rattle.sc_actor.specs.declared.schedules.Played.{Played}
 use Rattle.sc_actor.specs.declared.schedules.Played.TheVariants.{Ended, Full, OutOfMemory}
 use Rattle.sc_chance.specs.Words.{two_words}
-use Rattle.sc_budget_law.specs.Budget.{IsAtBudget, AreAnswered}
-use Rattle.sc_budget_law.specs.Calm.{IsCalm}
+use Rattle.sc_live_plain.specs.Budget.{IsAtBudget, AreAnswered}
+use Rattle.sc_live_plain.specs.Calm.{IsCalm}
 use Rattle.sc_run.specs.Budgets.{IsWithinBudget}
 
 -- what a mail weighs

@@ -16,12 +16,12 @@ use Rattle.sc_report.specs.Report.{report_lines}
 use Rattle.sc_row_text.specs.RowText.{IsHeld}
 use Rattle.sc_journal_file.specs.Stored.{file_lines, IsBadFile}
 use Rattle.sc_sound.specs.Soundness.{IsSoundThroughout}
-use Rattle.sc_refusal_law.specs.Journals.{RefusesWithCause}
+use Rattle.sc_law_refusal.specs.refusal.Journals.{RefusesWithCause}
 use Rattle.sc_sound.specs.Players.{system_of, schedule, Lawful, Whole, parties, as_nodes}
 use Rattle.sc_world.specs.Replays.{IsBadRow}
 use Rattle.sc_world.specs.Summary.{summary_of}
-use Rattle.sc_budget_law.specs.Budget.{IsAtBudget, AreAnswered}
-use Rattle.sc_budget_law.specs.Calm.{IsCalm}
+use Rattle.sc_live_plain.specs.Budget.{IsAtBudget, AreAnswered}
+use Rattle.sc_live_plain.specs.Calm.{IsCalm}
 use Rattle.sc_run.specs.Budgets.{IsWithinBudget}
 use Rattle.sc_run.specs.Played.{mail_weight, HasFilled}
 use Rattle.sc_run.specs.Shown.{ShowsScan}

@@ -6,7 +6,7 @@ ghost use Rattle.sc_sound.specs.Players.{Lawful, as_nodes};
 ghost use Rattle.sc_world.specs.Replays.{IsBadRow};
 ghost use Rattle.sc_scenario.specs.Valid.{IsValid};
 ghost use Rattle.sc_sound.specs.Soundness.{IsSoundThroughout};
-ghost use Rattle.sc_refusal_law.specs.Journals.{RefusesWithCause};
+ghost use Rattle.sc_law_refusal.specs.refusal.Journals.{RefusesWithCause};
 ghost use Rattle.sc_run.specs.Audited.{LawfulFilesAreTold, PrintedJournalsAreTold};
 ghost use Rattle.sc_run.specs.Run.{AuditsAs};
 

@@ -16,11 +16,11 @@ use crate::showing::show;
 use crate::telling::tells;
 use sc_actor::Gate;
 use sc_base::OutOfMemory;
-use sc_budget_law::made_scenarios_are_at_budget;
 use sc_command_line::{
     InputFault, Said, Sight, Subcommand, fault_text, file_in, scenario_in, subcommand_by, text_in,
 };
 use sc_edges::Source;
+use sc_live_plain::made_scenarios_are_at_budget;
 use sc_make::made_scenario;
 use sc_workers::Way;
 use std::alloc::Global;

@@ -9,7 +9,7 @@ use Rattle.std.proofs.lemmas.List.{append-nil, length-drop, take-append-drop, ta
 use Rattle.sc_base.specs.Among.{Among}
 use Rattle.sc_paxos_law.proofs.Among.{Among-left}
 use Rattle.sc_paxos_words.proofs.ListLemmas.{Each-among}
-use Rattle.sc_ring_law.proofs.Finds.{Pairwise, pairwise_from}
+use Rattle.sc_law_entries.proofs.RingProofs.Finds.{Pairwise, pairwise_from}
 use Rattle.sc_scan.specs.Laws.{PagesFollow}
 use Rattle.sc_scan.specs.Order.{HaveKeysOnce, Pair}
 use Rattle.sc_scan.specs.Pages.{after_key, behind_page, last_key, next_key, pages_from, past}

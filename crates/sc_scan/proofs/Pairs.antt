@@ -20,7 +20,7 @@ use Rattle.sc_base.proofs.AscendingLemmas.{and_left, and_right, is_less}
 use Rattle.sc_ideal.specs.IdealStore.{Contents, holds_key, part_of}
 use Rattle.sc_paxos_law.proofs.Among.{Among-either, Among-left, Among-right}
 use Rattle.sc_paxos_words.proofs.ListLemmas.{Among-filter, Each-among, Each-append, Each-from, from_filter}
-use Rattle.sc_ring_law.proofs.Finds.{Pairwise, pairwise_filter}
+use Rattle.sc_law_entries.proofs.RingProofs.Finds.{Pairwise, pairwise_filter}
 use Rattle.sc_scan.specs.Order.{Pair, held, is_low, ordered}
 
 -- two pairs have two keys

@@ -18,7 +18,7 @@ use Rattle.sc_base.specs.Limits.{longest_key}
 use Rattle.sc_base.proofs.AscendingLemmas.{and_left, and_right, is_less}
 use Rattle.sc_ideal.specs.IdealStore.{holds_key}
 use Rattle.sc_paxos_words.proofs.ListLemmas.{Each-among, Each-filter, Each-from, from_filter}
-use Rattle.sc_ring_law.proofs.Finds.{Pairwise, all_pairs, pairwise_filter}
+use Rattle.sc_law_entries.proofs.RingProofs.Finds.{Pairwise, all_pairs, pairwise_filter}
 use Rattle.sc_scan.specs.Order.{ComesBefore, Pair, held, is_low, ordered}
 use Rattle.sc_scan.proofs.Pairs.{pairwise_append}
 

@@ -20,7 +20,7 @@ use Rattle.sc_ideal.specs.History.{contents_after}
 use Rattle.sc_ideal.specs.IdealStore.{Contents, holds_key, part_of}
 use Rattle.sc_paxos_law.proofs.Among.{Among-flat_map, from_flat_map, from_map}
 use Rattle.sc_paxos_words.proofs.ListLemmas.{Each-among, find_found}
-use Rattle.sc_ring_law.proofs.Finds.{Pairwise, all_pairs, map_among, pairwise_from}
+use Rattle.sc_law_entries.proofs.RingProofs.Finds.{Pairwise, all_pairs, map_among, pairwise_from}
 use Rattle.sc_machine_table.specs.Group.{Group}
 use Rattle.sc_log_entries.specs.declared.LogEntry.{LogEntry}
 use Rattle.sc_log_entries.specs.Effective.{effective, effective_by}
@@ -29,7 +29,7 @@ use Rattle.sc_sound.specs.Players.{Ahead}
 use Rattle.sc_sound.specs.GroupsOf.{birth_at, entries_at, groups_at, is_birth_of, log_at, log_by, world_at}
 use Rattle.sc_sound.specs.Logs.{decided_state}
 use Rattle.sc_sound.specs.Soundness.{IsOneMap}
-use Rattle.sc_log_law.specs.Findings.{AreItsLogs}
+use Rattle.sc_law_entries.specs.logs.Findings.{AreItsLogs}
 use Rattle.sc_scan.specs.declared.walking.Part.{Part}
 use Rattle.sc_scan.specs.declared.scans.Shown.{Shown}
 use Rattle.sc_scan.specs.Laws.{ShareNothing, EntriesCountLogs, HasMap, IsOfItsLog, IsWithinCut, ScansTell, ShareArc, WalksShareArcs}

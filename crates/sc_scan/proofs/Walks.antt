@@ -5,7 +5,7 @@ use Rattle.std.proofs.lemmas.Bool.{cases_Bool, cond-true, cond-false, ltb-true, 
 use Rattle.sc_base.specs.Among.{Among}
 use Rattle.sc_base.specs.Arc.{Arc, IsArc, holds, offset, end_of}
 use Rattle.sc_paxos_words.proofs.ListLemmas.{Each-from, find_found}
-use Rattle.sc_ring_law.proofs.Finds.{Pairwise, all_pairs}
+use Rattle.sc_law_entries.proofs.RingProofs.Finds.{Pairwise, all_pairs}
 use Rattle.sc_log_entries.specs.declared.Cut.{Cut}
 use Rattle.sc_log_entries.specs.Rings.{Covers}
 use Rattle.sc_scan.specs.declared.walking.Part.{Part}

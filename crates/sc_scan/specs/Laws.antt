@@ -19,7 +19,7 @@ use Rattle.sc_sound.specs.Players.{Ahead}
 use Rattle.sc_sound.specs.GroupsOf.{entries_at, groups_at, world_at}
 use Rattle.sc_sound.specs.Logs.{decided_log, decided_state}
 use Rattle.sc_sound.specs.Soundness.{IsOneMap}
-use Rattle.sc_log_law.specs.Findings.{AreItsLogs}
+use Rattle.sc_law_entries.specs.logs.Findings.{AreItsLogs}
 use Rattle.sc_scan.specs.declared.walking.Part.{Part}
 use Rattle.sc_scan.specs.declared.scans.Shown.{Shown}
 use Rattle.sc_scan.specs.Order.{HaveKeysOnce, Pair, ordered}

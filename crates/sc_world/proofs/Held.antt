@@ -10,7 +10,7 @@ use Rattle.sc_replay.specs.Replays.{Leaves}
 use Rattle.sc_scenario.specs.declared.scenarios.Scenario.{Scenario}
 use Rattle.sc_sound.specs.Players.{system_of, schedule, Player, as_nodes}
 use Rattle.sc_sound.specs.Soundness.{IsSoundThroughout}
-use Rattle.sc_refusal_law.specs.Journals.{RefusesWithCause}
+use Rattle.sc_law_refusal.specs.refusal.Journals.{RefusesWithCause}
 use Rattle.sc_world.specs.Worlds.{WorldHolds}
 
 -- what a replay leaves is what a world holds, where each prefix of the rows is sound and their refusals have causes

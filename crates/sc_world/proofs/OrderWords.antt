@@ -3,7 +3,7 @@ use Rattle.std.proofs.Common.{◌≡◌, ℕ, zero, suc, ◌+◌, ◌<◌, List,
 use Rattle.sc_mail.specs.declared.bodies.Mail.{Mail}
 use Rattle.sc_node_table.specs.Slots.{numbers_from}
 use Rattle.sc_node_table.specs.Replica.{either}
-use Rattle.sc_law_lemmas.proofs.Ways.{either_assoc, either_none}
+use Rattle.sc_law_walks.proofs.Ways.{either_assoc, either_none}
 use Rattle.sc_world.specs.Summary.{told_in_mail, told_of}
 
 -- what more mails report of an order

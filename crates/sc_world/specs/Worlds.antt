@@ -8,7 +8,7 @@ use Rattle.sc_actor.specs.Walk.{skipped, is_quiet}
 use Rattle.sc_scenario.specs.declared.scenarios.Scenario.{Scenario}
 use Rattle.sc_sound.specs.Players.{system_of, schedule, Lawful, parties, Player, as_nodes}
 use Rattle.sc_sound.specs.Soundness.{IsSoundThroughout}
-use Rattle.sc_refusal_law.specs.Journals.{RefusesWithCause}
+use Rattle.sc_law_refusal.specs.refusal.Journals.{RefusesWithCause}
 use Rattle.sc_chance.specs.Words.{two_words}
 
 -- a scenario, and rows of it

@@ -17,11 +17,11 @@ use crate::worlds::World;
 use sc_actor::{Journal, Row};
 use sc_base::OutOfMemory;
 use sc_cmd::OrderLine;
+use sc_law_groups::valid_journals_are_sound;
+use sc_law_refusal::valid_journals_refuse_with_cause;
 use sc_mail::Mail;
-use sc_refusal_law::valid_journals_refuse_with_cause;
 use sc_replay::{Verdict, replay};
 use sc_scenario::Scenario;
-use sc_whole_law::valid_journals_are_sound;
 use std::alloc::Global;
 
 /// Why rows are not replayed.

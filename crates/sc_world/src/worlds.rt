@@ -2,7 +2,7 @@
 ghost use Rattle.std.specs.Prelude.{◌≡◌};
 ghost use Rattle.sc_sound.specs.Players.{parties, as_nodes, Lawful};
 ghost use Rattle.sc_sound.specs.Soundness.{IsSoundThroughout};
-ghost use Rattle.sc_refusal_law.specs.Journals.{RefusesWithCause};
+ghost use Rattle.sc_law_refusal.specs.refusal.Journals.{RefusesWithCause};
 ghost use Rattle.sc_chance.specs.Words.{two_words};
 
 use crate::party::Party;

@@ -1,4 +1,4 @@
-use Rattle.sc_whole_law.proofs.Seats.{all_apart, all_numbered}
+use Rattle.sc_law_groups.proofs.WholeProofs.Seats.{all_apart, all_numbered}
 use Rattle.sc_world.proofs.Lines.{few, spared}
 use Rattle.sc_world.proofs.Names.{all_ordered}
 use Rattle.sc_world.proofs.laws.valid_scenarios_can_play.Goals as goal

@@ -4,7 +4,7 @@ use Rattle.sc_mail.specs.declared.bodies.Mail.{Mail}
 use Rattle.sc_cmd.specs.declared.orders.ToldResult.{ToldResult}
 use Rattle.sc_node_table.specs.Replica.{either}
 use Rattle.sc_world.specs.Summary.{told_in_mail, told_of}
-use Rattle.sc_law_lemmas.proofs.Ways.{either_assoc}
+use Rattle.sc_law_walks.proofs.Ways.{either_assoc}
 use Rattle.sc_world.proofs.OrderWords.{told-last}
 use Rattle.sc_world.proofs.orders.note_all.Goals as goal
 

@@ -9,7 +9,7 @@ use Rattle.sc_actor.specs.declared.rows.Row.{Row}
 use Rattle.sc_actor.specs.Mail.{mails}
 use Rattle.sc_node_table.specs.Replica.{either}
 use Rattle.sc_world.specs.Summary.{told_of}
-use Rattle.sc_law_lemmas.proofs.Ways.{either_assoc}
+use Rattle.sc_law_walks.proofs.Ways.{either_assoc}
 use Rattle.sc_world.proofs.OrderWords.{told-append}
 use Rattle.sc_world.proofs.orders.note_rows.Goals as goal
 

@@ -1,5 +1,0 @@
-use Rattle.sc_budget_law.proofs.Made.{made_at_budget}
-use Rattle.sc_budget_law.proofs.made_scenarios_are_at_budget.Goals as goal
-
-pub returns : goal.returns
-returns c = made_at_budget

@@ -1,5 +1,0 @@
-use Rattle.sc_budget_law.proofs.Light.{journals_light}
-use Rattle.sc_budget_law.proofs.plain_journals_are_light.Goals as goal
-
-pub returns : goal.returns
-returns c = journals_light c.valid_scenarios_are_bounded.ensures

@@ -1,5 +1,0 @@
--- The definitions of this crate that other crates cite, in one module.
-pub use Rattle.sc_calm_charts_law.specs.Charting.{names_at, all_replicas, far_at, chart_at, replicas_of, led_names, asked_in, went_in, asked_by, latest_in, way_by, ends_by, reach_in, with_names, replica_at, names_upto}
-pub use Rattle.sc_calm_charts_law.specs.Ends.{GoInTurn, EndsFall}
-pub use Rattle.sc_calm_charts_law.specs.Following.{AreAllLed, QuietChartsRest, LedStandOnce, WaitsForNone, AsksSame, ChartsFollow}
-pub use Rattle.sc_calm_charts_law.specs.Fronts.{quiet_front, quiet_upto}

@@ -1,4 +1,0 @@
--- The lemmas of this crate that others cite, under one name.
-pub use Rattle.sc_calm_entries_law.proofs.Counts.{order-entries-count as order_entries_count}
-pub use Rattle.sc_calm_entries_law.proofs.Members.{StandsAs, join-stands, leave-stands, split-stands, vote-waits, watch-stands}
-pub use Rattle.sc_calm_entries_law.proofs.Paid.{bonds-ask as bonds_ask, lone-entries-count as lone_entries_count}

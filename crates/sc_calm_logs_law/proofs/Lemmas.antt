@@ -1,7 +1,0 @@
--- The lemmas of this crate that others cite, under one name.
-pub use Rattle.sc_calm_logs_law.proofs.Along.{at, IsAlong, is_next, by_log, next_ready_is, one_past, entered_along}
-pub use Rattle.sc_calm_logs_law.proofs.Counting.{counted_learnt, each_with_slot}
-pub use Rattle.sc_calm_logs_law.proofs.Journals.{part, roster, fronts, sent_in, along, opens, flying, whole, front, found, stay}
-pub use Rattle.sc_calm_logs_law.proofs.Nodes.{nodes_stay_nodes, slots_have_nodes}
-pub use Rattle.sc_calm_logs_law.proofs.Views.{views_are_replicas}
-pub use Rattle.sc_calm_logs_law.proofs.LawsWhole.{slots_have_rosters, replicas_are_logged, commands_come_next, states_are_logged, entries_bring_nodes, members_are_nodes}

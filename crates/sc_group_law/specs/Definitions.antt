@@ -1,4 +1,0 @@
--- Re-exports of the definitions of this crate that others cite.
-pub use Rattle.sc_group_law.specs.Example.{election_scenario, election_example}
-pub use Rattle.sc_group_law.specs.JoinExample.{join_scenario, join_example}
-pub use Rattle.sc_group_law.specs.Steps.{proposer_steps, asked_in, promises_at, steps, promised_by, promises_of, promises_got, steps_at, steps_from}

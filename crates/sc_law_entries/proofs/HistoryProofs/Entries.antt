@@ -1,0 +1,59 @@
+-- Entries of every kind make moves, where they may be applied, and so they make a legal history.
+use Rattle.std.proofs.Common.{◌≡◌, List, [], ◌∷◌, Option, Some, None, inl, inr, refl, sym, append-nil}
+use Rattle.sc_base.specs.declared.names.Draw.{Draw}
+use Rattle.sc_cmd.specs.declared.commands.Command.{Command}
+use Rattle.sc_cmd.specs.declared.commands.Command.TheVariants.{Noop, Call, Join, Leave, Split, Begin, Prepared, RecordVote, GiveUp, Finish, Watched, RecordWatch}
+use Rattle.sc_machine_table.specs.Definitions.{Group, applied}
+use Rattle.sc_log_entries.specs.declared.LogEntry.{LogEntry}
+use Rattle.sc_log_entries.specs.Definitions.{StoreWorld, after_command, first_world, named_group, told}
+use Rattle.sc_law_entries.specs.history.Definitions.{RequestOf, TellsHoldings, Unmoved, EntriesMakeMoves, EntriesThatMayBeToldTell, MayAllBeTold, MayExecute, AllMakeMoves, IsMoveTo, holdings_in}
+use Rattle.sc_law_entries.proofs.HistoryProofs.Coordinators.{split_goes, vote_goes, watch_goes}
+use Rattle.sc_law_entries.proofs.HistoryProofs.Ending.{finish_goes}
+use Rattle.sc_law_entries.proofs.HistoryProofs.MoveLaw.{move_told, moves_tell_worlds}
+use Rattle.sc_law_entries.proofs.HistoryProofs.QuietLaw.{first_told}
+use Rattle.sc_law_entries.proofs.HistoryProofs.Serves.{call_goes}
+use Rattle.sc_law_entries.proofs.HistoryProofs.Staying.{Goes, begin_goes, give_up_goes, join_goes, leave_goes, noop_goes, prepared_goes, watched_goes}
+
+-- each command
+command_goes : (request : RequestOf) (world : StoreWorld) (name : Draw) (group : Group) (found : named_group name world.groups ≡ Some group) (c : Command) → TellsHoldings request world.history (holdings_in world) → MayExecute request world group c
+    → Goes request world name group found c (applied group c)
+command_goes request world name group found Noop told may = noop_goes request world name group found
+command_goes request world name group found (Call client seq op) told may = call_goes request world name group found client seq op may
+command_goes request world name group found (Join node order) told may = join_goes request world name group found node order
+command_goes request world name group found (Leave node order) told may = leave_goes request world name group found node order
+command_goes request world name group found (Split at child order) told may = split_goes request world name group found at child order may
+command_goes request world name group found (Begin tx body order) told may = begin_goes request world name group found tx body order
+command_goes request world name group found (Prepared tx offer) told may = prepared_goes request world name group found tx offer may
+command_goes request world name group found (RecordVote tx vote by) told may = vote_goes request world name group found tx vote by told may
+command_goes request world name group found (GiveUp tx) told may = give_up_goes request world name group found tx may
+command_goes request world name group found (Finish tx outcome) told may = finish_goes request world name group found tx outcome may
+command_goes request world name group found (Watched tx watch) told may = watched_goes request world name group found tx watch
+command_goes request world name group found (RecordWatch tx vote by) told may = watch_goes request world name group found tx vote by may
+
+-- a world that stays
+nothing_goes : (request : RequestOf) (world : StoreWorld) → IsMoveTo request world world
+nothing_goes request world = record {
+  move = Unmoved;
+  may = tt;
+  holds = λ name. refl;
+  adds = sym (append-nil world.history);
+  tables = λ name group is. inr (inl (group, is, refl));
+}
+
+by_group : (request : RequestOf) (world : StoreWorld) (name : Draw) (c : Command) → TellsHoldings request world.history (holdings_in world) → (o : Option Group) → named_group name world.groups ≡ o
+    → ((group : Group) → o ≡ Some group → MayExecute request world group c) → IsMoveTo request world (after_command world o c)
+by_group request world name c holds None e may = nothing_goes request world
+by_group request world name c holds (Some group) e may = command_goes request world name group e c holds (may group refl)
+
+pub entries_move : EntriesMakeMoves
+entries_move request world entry holds may = by_group request world entry.group entry.command holds (named_group entry.group world.groups) refl may
+
+all_move : (request : RequestOf) (world : StoreWorld) (entries : List LogEntry) → TellsHoldings request world.history (holdings_in world) → MayAllBeTold request world entries → AllMakeMoves request world entries
+all_move request world [] holds may = tt
+all_move request world (entry ∷ entries) holds may =
+    let moves = entries_move request world entry holds may.0 in
+    (moves, all_move request (told world entry) entries (move_told request world (told world entry) holds moves) may.1)
+
+pub entries_tell : EntriesThatMayBeToldTell
+entries_tell request bases begin entries may =
+    moves_tell_worlds request bases begin entries (all_move request (first_world bases) entries (first_told bases begin request) may)

@@ -1,0 +1,108 @@
+-- Each move keeps that the history matches what all groups hold, and so do all moves one after another.
+use Rattle.std.proofs.Common.{◌≡◌, List, [], ◌∷◌, ◌++◌, Option, refl, sym, ap, ◌∙◌, subst, append-nil, append_assoc, arith}
+use Rattle.std.specs.FinMap.{empty, get, get-empty}
+use Rattle.std.specs.Ordering.{nat_cmp}
+use Rattle.sc_base.specs.declared.names.Draw.{Draw}
+use Rattle.sc_ideal.specs.Definitions.{HasEntry}
+use Rattle.sc_ideal.specs.declared.Entry.{Entry}
+use Rattle.sc_law_entries.specs.history.Definitions.{Holding, Holdings, RequestOf, Move, Unmoved, ServedBy, DividedAt, JoinedTo, GivenFrom, TakenUpTo, MayMakeAll, MovesKeepHistories, MovesTellHistories, AreBare, TellsHoldings, with_holding, holdings_after, holdings_after_all, history_by, entries_by}
+use Rattle.sc_law_entries.proofs.HistoryProofs.Disjoint.{IsGood, SharesOut, shared_disjoint, shared_told}
+use Rattle.sc_law_entries.proofs.HistoryProofs.Shares.{divided, joined_up, given, taken}
+use Rattle.sc_law_entries.proofs.HistoryProofs.Serving.{served_kept}
+use Rattle.sc_law_entries.proofs.HistoryProofs.Told.{entry_later}
+use Rattle.std.proofs.lemmas.Option.{none-some}
+use Rattle.sc_log_entries.proofs.Lemmas.{part_of_nothing as empty_part}
+
+-- ---- one move
+
+no_entry : (request : RequestOf) (history : List Entry) (holdings : Holdings) → TellsHoldings request history holdings → TellsHoldings request (history ++ []) holdings
+no_entry request history holdings told = subst (λ es. TellsHoldings request es holdings) (sym (append-nil history)) told
+
+all_good : (request : RequestOf) (history : List Entry) (holdings : Holdings) → TellsHoldings request history holdings → (name : Draw) → IsGood history (holdings name)
+all_good request history holdings told name holding is = (told.disjoint.arcs name holding is, told.told name holding is)
+
+-- two holdings that share out what two had
+shared_kept : (request : RequestOf) (history : List Entry) (holdings : Holdings) (group other : Draw) (mine theirs : Option Holding) → TellsHoldings request history holdings
+    → SharesOut history holdings group other mine theirs → TellsHoldings request (history ++ []) (with_holding other theirs (with_holding group mine holdings))
+shared_kept request history holdings group other mine theirs told share =
+    let good = all_good request history holdings told in
+    no_entry request history _ (record {
+      legal = told.legal;
+      asked = told.asked;
+      disjoint = shared_disjoint history holdings group other mine theirs told.disjoint good share;
+      told = shared_told history holdings group other mine theirs told.disjoint good share;
+    })
+
+pub move_kept : MovesKeepHistories
+move_kept request history holdings Unmoved told may = no_entry request history holdings told
+move_kept request history holdings (ServedBy group client seq op) told may = served_kept request history holdings told group client seq op may
+move_kept request history holdings (DividedAt group at child) told may =
+    shared_kept request history holdings group child _ _ told (divided history holdings told.disjoint (all_good request history holdings told) group at child may)
+move_kept request history holdings (JoinedTo group next) told may =
+    shared_kept request history holdings group next _ _ told (joined_up history holdings told.disjoint (all_good request history holdings told) group next may)
+move_kept request history holdings (GivenFrom group at next) told may =
+    shared_kept request history holdings group next _ _ told (given history holdings told.disjoint (all_good request history holdings told) group at next may)
+move_kept request history holdings (TakenUpTo group at next) told may =
+    shared_kept request history holdings group next _ _ told (taken history holdings told.disjoint (all_good request history holdings told) group at next may)
+
+-- holdings that are the same at each name match the same history
+pub same_told : (request : RequestOf) (history : List Entry) (holdings others : Holdings) → ((name : Draw) → others name ≡ holdings name) → TellsHoldings request history holdings → TellsHoldings request history others
+same_told request history holdings others same told = record {
+  legal = told.legal;
+  asked = told.asked;
+  disjoint = record {
+    arcs = λ name holding is. told.disjoint.arcs name holding (sym (same name) ∙ is);
+    only = λ p name other holding another is its held held_too. told.disjoint.only p name other holding another (sym (same name) ∙ is) (sym (same other) ∙ its) held held_too;
+  };
+  told = λ name holding is. told.told name holding (sym (same name) ∙ is);
+}
+
+-- ---- all moves
+
+tells_on : (request : RequestOf) (history : List Entry) (holdings : Holdings) (moves : List Move) → TellsHoldings request history holdings → MayMakeAll request holdings moves
+    → TellsHoldings request (history ++ history_by holdings moves) (holdings_after_all holdings moves)
+tells_on request history holdings [] told may = no_entry request history holdings told
+tells_on request history holdings (move ∷ moves) told may =
+    let next = holdings_after move holdings in
+    subst (λ es. TellsHoldings request es (holdings_after_all next moves)) (append_assoc history (entries_by move holdings) (history_by next moves))
+    (tells_on request (history ++ entries_by move holdings) next moves (move_kept request history holdings move told may.0) may.1)
+
+may_front : (request : RequestOf) (holdings : Holdings) (front more : List Move) → MayMakeAll request holdings (front ++ more) → MayMakeAll request holdings front
+may_front request holdings [] more may = tt
+may_front request holdings (move ∷ front) more may = (may.0, may_front request (holdings_after move holdings) front more may.1)
+
+history_front : (holdings : Holdings) (front more : List Move) → history_by holdings (front ++ more) ≡ history_by holdings front ++ history_by (holdings_after_all holdings front) more
+history_front holdings [] more = refl
+history_front holdings (move ∷ front) more =
+    ap (λ es. entries_by move holdings ++ es) (history_front (holdings_after move holdings) front more)
+    ∙ sym (append_assoc (entries_by move holdings) (history_by (holdings_after move holdings) front) (history_by (holdings_after_all holdings (move ∷ front)) more))
+
+-- ---- from a bare start
+
+-- at an empty start nothing is in the history
+pub bare_told : (request : RequestOf) (holdings : Holdings) → AreBare holdings → TellsHoldings request [] holdings
+bare_told request holdings bare = record {
+  legal = record { replay = tt; once = λ i j d below inside. absurd (omega arith) };
+  asked = λ e a. absurd a;
+  disjoint = bare.disjoint;
+  told = λ name holding is. (
+      let none = bare.bare name holding is in
+      record {
+        pairs = none.pairs ∙ sym (empty_part holding.arc);
+        noted = λ e a h. absurd a;
+        notes = λ client n e. absurd (none-some n (sym (get-empty nat_cmp client) ∙ ap (λ t. get t client) (sym none.clients) ∙ e));
+      });
+}
+
+tells_all : (request : RequestOf) (holdings : Holdings) → AreBare holdings → (moves : List Move) → MayMakeAll request holdings moves → TellsHoldings request (history_by holdings moves) (holdings_after_all holdings moves)
+tells_all request holdings bare moves may = tells_on request [] holdings moves (bare_told request holdings bare) may
+
+pub moves_tell : MovesTellHistories
+moves_tell request holdings bare moves may = (
+  tells_all request holdings bare moves may,
+  λ front more is group holding found client n e. (
+      let first = tells_all request holdings bare front (may_front request holdings front more (subst (MayMakeAll request holdings) is may)) in
+      let had = (first.told group holding found).notes client n e in
+      subst (λ es. HasEntry es client n.seq n.reply) (sym (ap (history_by holdings) is ∙ history_front holdings front more))
+      (entry_later (history_by holdings front) (history_by (holdings_after_all holdings front) more) client n.seq n.reply had)),
+)

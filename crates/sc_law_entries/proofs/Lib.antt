@@ -1,0 +1,4 @@
+pub mod HistoryProofs
+pub mod RingProofs
+pub mod LogsProofs
+pub mod NamesProofs

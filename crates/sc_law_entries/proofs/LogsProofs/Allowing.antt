@@ -1,0 +1,152 @@
+-- What was allowed stays allowed with more rows, and what an entry of a log makes allowed is allowed in the journal.
+use Rattle.std.proofs.Common.{◌≡◌, List, [], ◌∷◌, ◌++◌, Some, inl, inr, refl, sym, ◌∙◌, ap, subst, append_assoc}
+use Rattle.sc_base.specs.declared.names.Draw.{Draw}
+use Rattle.sc_cmd.specs.declared.commands.Command.{Command}
+use Rattle.sc_cmd.specs.declared.cores.Base.{Base}
+use Rattle.sc_machine_table.specs.Definitions.{Group, group_of, state_after, applied}
+use Rattle.sc_log_entries.specs.declared.LogEntry.{LogEntry}
+use Rattle.sc_log_entries.specs.Definitions.{StoreWorld, first_world, named_group, world_of}
+use Rattle.sc_log_entries.proofs.Lemmas.{world_append, draw_cases}
+use Rattle.sc_law_entries.specs.history.Definitions.{log_in}
+use Rattle.sc_law_entries.proofs.HistoryProofs.Lemmas.{heads, logs_make_states, other_first, own_first, parts_at}
+use Rattle.sc_law_entries.specs.ring.Definitions.{Sources, IsAllowed, AreAllowed, ToldWorld, first_told, stories_told, told_on, told_after, BeginInPlace, stories_of, stories_after}
+use Rattle.sc_law_entries.proofs.RingProofs.Lemmas.{allowed_entries_stay_allowed, entries_keep_the_promises, store_after}
+use Rattle.sc_sound.specs.Definitions.{entries_by_rows, entries_at}
+use Rattle.sc_law_entries.specs.logs.Definitions.{MakesAllowed, AllowedStaysAllowed, FrontsAllow, StatesAllow}
+use Rattle.sc_law_entries.proofs.LogsProofs.Births.{told_append}
+use Rattle.sc_law_entries.proofs.LogsProofs.Generations.{group_found}
+use Rattle.sc_law_entries.proofs.LogsProofs.Parts.{entries_parts}
+use Rattle.sc_law_entries.proofs.LogsProofs.Findings.{told_rows}
+
+-- entries that are allowed one after another, in two parts
+pub allowed_parts : (sources : Sources) (w : ToldWorld) (entries more : List LogEntry) → AreAllowed sources w (entries ++ more) → AreAllowed sources w entries × AreAllowed sources (told_after w entries) more
+allowed_parts sources w [] more a = (tt, a)
+allowed_parts sources w (e ∷ entries) more a = let (first, rest) = allowed_parts sources (told_on w e) entries more a.1 in ((a.0, first), rest)
+
+-- with more entries
+stays : (sources : Sources) (bases : List Base) → BeginInPlace sources bases → (entries more : List LogEntry) → AreAllowed sources (first_told bases) (entries ++ more)
+    → (name : Draw) (command : Command) → IsAllowed sources (stories_of bases entries) name command → IsAllowed sources (stories_of bases (entries ++ more)) name command
+stays sources bases start entries more allowed name command a =
+    let (first, rest) = allowed_parts sources (first_told bases) entries more allowed in
+    subst (λ (w : ToldWorld). IsAllowed sources w.stories name command) (sym (told_append (first_told bases) entries more))
+    (allowed_entries_stay_allowed sources bases entries more start first rest name command a)
+
+pub allowed_stays_allowed : AllowedStaysAllowed
+allowed_stays_allowed sources ahead bases start rows more h name command a =
+    let whole = entries_parts ahead bases [] rows more in
+    let allowed = subst (AreAllowed sources (first_told bases)) whole (told_rows sources ahead bases start (rows ++ more) h).allowed in
+    subst (λ es. IsAllowed sources (stories_of bases es) name command) (sym whole) (stays sources bases start (entries_at ahead bases rows) (entries_by_rows ahead bases rows more) allowed name command a)
+
+-- ---- an entry of a log among the entries
+
+-- the entry of a group after a prefix of its log
+record IsAt (name : Draw) (entries : List LogEntry) (front : List Command) (command : Command) : Type 0 where
+  first : List LogEntry
+  entry : LogEntry
+  more : List LogEntry
+  are : entries ≡ first ++ entry ∷ more
+  log : log_in name first ≡ front
+  its : entry.group ≡ name
+  is : entry.command ≡ command
+
+none_left : (front : List Command) (command : Command) (later : List Command) → [] ≡ front ++ command ∷ later → ⊥
+none_left [] command later e = cc
+none_left (c ∷ front) command later e = cc
+
+find_other : (name : Draw) (e : LogEntry) (entries : List LogEntry) (front : List Command) (command : Command) → (e.group ≡ name → ⊥) → IsAt name entries front command → IsAt name (e ∷ entries) front command
+find_other name e entries front command ne at = record {
+  first = e ∷ at.first;
+  entry = at.entry;
+  more = at.more;
+  are = ap (λ es. e ∷ es) at.are;
+  log = other_first name e at.first ne ∙ at.log;
+  its = at.its;
+  is = at.is;
+}
+
+find_entry : (name : Draw) (entries : List LogEntry) (front : List Command) (command : Command) (later : List Command) → log_in name entries ≡ front ++ command ∷ later → IsAt name entries front command
+find_entry name [] front command later e = absurd (none_left front command later e)
+find_entry name (x ∷ entries) [] command later e = elim (draw_cases x.group name) [
+  | inl same ↦ record {
+    first = [];
+    entry = x;
+    more = entries;
+    are = refl;
+    log = refl;
+    its = same;
+    is = (heads x.command command (log_in name entries) later (sym (own_first name x entries same) ∙ e)).0;
+  }
+  | inr ne ↦ find_other name x entries [] command ne (find_entry name entries [] command later (sym (other_first name x entries ne) ∙ e))
+]
+find_entry name (x ∷ entries) (c ∷ front) command later e = elim (draw_cases x.group name) [
+  | inl same ↦ (
+      let both = heads x.command c (log_in name entries) (front ++ command ∷ later) (sym (own_first name x entries same) ∙ e) in
+      let at = find_entry name entries front command later both.1 in
+      record {
+        first = x ∷ at.first;
+        entry = at.entry;
+        more = at.more;
+        are = ap (λ es. x ∷ es) at.are;
+        log = own_first name x at.first same ∙ ap (λ cs. x.command ∷ cs) at.log ∙ ap (λ d. d ∷ front) both.0;
+        its = at.its;
+        is = at.is;
+      })
+  | inr ne ↦ find_other name x entries (c ∷ front) command ne (find_entry name entries (c ∷ front) command later (sym (other_first name x entries ne) ∙ e))
+]
+
+-- ---- what it makes allowed
+
+module _ (sources : Sources) (bases : List Base) (start : BeginInPlace sources bases) (before : List LogEntry) (entry : LogEntry) (group : Group)
+    (there : named_group entry.group (world_of bases before).groups ≡ Some group) (name : Draw) (command : Command) (makes : MakesAllowed sources entry.group group entry.command name command) where
+  abbrev w : ToldWorld
+  w = told_after (first_told bases) before
+
+  after_is : (told_on w entry).stories ≡ stories_after group entry.command (applied group entry.command).1 w.stories
+  after_is = ap (λ o. stories_told w.stories o entry.command) (ap (λ (x : StoreWorld). named_group entry.group x.groups) (store_after (first_told bases) before) ∙ there)
+
+  allowed_after : AreAllowed sources (first_told bases) before → IsAllowed sources w.stories entry.group entry.command → IsAllowed sources (stories_of bases (before ++ entry ∷ [])) name command
+  allowed_after allowed may =
+      subst (λ (x : ToldWorld). IsAllowed sources x.stories name command) (sym (told_append (first_told bases) before (entry ∷ [])))
+      (subst (λ ys. IsAllowed sources ys name command) (sym after_is)
+      (makes (λ n. named_group n (world_of bases before).groups) w.stories (entries_keep_the_promises sources bases before start allowed) there may))
+
+  pub allows : (more : List LogEntry) → AreAllowed sources (first_told bases) (before ++ entry ∷ more) → IsAllowed sources (stories_of bases (before ++ entry ∷ more)) name command
+  allows more allowed =
+      let (first, rest) = allowed_parts sources (first_told bases) before (entry ∷ more) allowed in
+      let again : (before ++ entry ∷ []) ++ more ≡ before ++ entry ∷ more = append_assoc before (entry ∷ []) more in
+      subst (λ es. IsAllowed sources (stories_of bases es) name command) again
+      (stays sources bases start (before ++ entry ∷ []) more (subst (AreAllowed sources (first_told bases)) (sym again) allowed) name command (allowed_after first rest.0))
+
+pub fronts_allow : FrontsAllow
+fronts_allow sources ahead bases start rows h base a front entry later is name command makes =
+    let k = told_rows sources ahead bases start rows h in
+    let b = k.born base (group_found ahead bases rows base a) in
+    let at = find_entry base.core.id b.rest front entry later (b.log_is ∙ is) in
+    let before = b.first ++ at.first in
+    let group : Group = state_after (group_of base) front in
+    let whole : entries_at ahead bases rows ≡ before ++ at.entry ∷ at.more = b.are ∙ ap (λ es. b.first ++ es) at.are ∙ sym (append_assoc b.first at.first (at.entry ∷ at.more)) in
+    let there : named_group base.core.id (world_of bases before).groups ≡ Some group =
+    ap (λ (w : StoreWorld). named_group base.core.id w.groups) (world_append (first_world bases) b.first at.first)
+    ∙ logs_make_states (world_of bases b.first) base.core.id (group_of base) b.there at.first ∙ ap (λ cs. Some (state_after (group_of base) cs)) at.log in
+    subst (λ es. IsAllowed sources (stories_of bases es) name command) (sym whole)
+    (allows sources bases start before at.entry group (ap (λ n. named_group n (world_of bases before).groups) at.its ∙ there) name command
+    (subst (λ n. MakesAllowed sources n group at.entry.command name command) (sym at.its) (subst (λ c. MakesAllowed sources base.core.id group c name command) (sym at.is) makes))
+    at.more (subst (AreAllowed sources (first_told bases)) whole k.allowed))
+
+-- ---- what a group makes allowed as it stands
+
+pub states_allow : StatesAllow
+states_allow sources ahead bases start rows h base a front later is name command stands =
+    let k = told_rows sources ahead bases start rows h in
+    let b = k.born base (group_found ahead bases rows base a) in
+    let at = parts_at base.core.id b.rest front later (b.log_is ∙ is) in
+    let before = b.first ++ at.first in
+    let group : Group = state_after (group_of base) front in
+    let whole : entries_at ahead bases rows ≡ before ++ at.rest = b.are ∙ ap (λ es. b.first ++ es) at.are ∙ sym (append_assoc b.first at.first at.rest) in
+    let there : named_group base.core.id (world_of bases before).groups ≡ Some group =
+    ap (λ (w : StoreWorld). named_group base.core.id w.groups) (world_append (first_world bases) b.first at.first)
+    ∙ logs_make_states (world_of bases b.first) base.core.id (group_of base) b.there at.first ∙ ap (λ cs. Some (state_after (group_of base) cs)) at.log in
+    let allowed = subst (AreAllowed sources (first_told bases)) whole k.allowed in
+    let facts = entries_keep_the_promises sources bases before start (allowed_parts sources (first_told bases) before at.rest allowed).0 in
+    subst (λ es. IsAllowed sources (stories_of bases es) name command) (sym whole)
+    (stays sources bases start before at.rest allowed name command (stands (λ n. named_group n (world_of bases before).groups) (stories_of bases before) facts there))

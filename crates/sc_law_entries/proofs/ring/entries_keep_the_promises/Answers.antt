@@ -1,0 +1,5 @@
+use Rattle.sc_law_entries.proofs.RingProofs.Sound.{entries_keep_the_promises}
+use Rattle.sc_law_entries.proofs.ring.entries_keep_the_promises.Goals as goal
+
+pub returns : goal.returns
+returns c = entries_keep_the_promises

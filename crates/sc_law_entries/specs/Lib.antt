@@ -1,0 +1,4 @@
+pub mod history
+pub mod ring
+pub mod logs
+pub mod names

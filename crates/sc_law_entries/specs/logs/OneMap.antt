@@ -1,0 +1,21 @@
+-- What allowed entries make of the store: one map, served by the groups of the ring.
+use Rattle.std.specs.Prelude.{List}
+use Rattle.sc_base.specs.Definitions.{Among}
+use Rattle.sc_cmd.specs.declared.cores.Base.{Base}
+use Rattle.sc_ideal.specs.Definitions.{Legal}
+use Rattle.sc_log_entries.specs.declared.Cut.{Cut}
+use Rattle.sc_log_entries.specs.declared.LogEntry.{LogEntry}
+use Rattle.sc_log_entries.specs.Definitions.{HoldsItsPart, world_of}
+use Rattle.sc_law_entries.specs.ring.Definitions.{Sources, AreAllowed, first_told, BeginInPlace, IsRingSound}
+use Rattle.sc_law_entries.specs.history.Definitions.{BeginBare, LogNotesStay}
+
+-- the ring is sound, the history is legal, the map after it, on each range, is the pairs of the range's group, and what any log ever made its group note has its entry in the history
+pub record MakeOneMap (bases : List Base) (entries : List LogEntry) : Type 0 where
+  pub ring : IsRingSound (world_of bases entries)
+  pub legal : Legal (world_of bases entries).history
+  pub parts : (cut : Cut) → Among cut (world_of bases entries).ring → HoldsItsPart (world_of bases entries) cut
+  pub notes : LogNotesStay bases entries
+
+-- every list of allowed entries, from groups in place that hold nothing, makes one map
+abbrev pub AllowedEntriesMakeOneMap : Type 0
+AllowedEntriesMakeOneMap = (sources : Sources) (bases : List Base) (entries : List LogEntry) → BeginInPlace sources bases → BeginBare bases → AreAllowed sources (first_told bases) entries → MakeOneMap bases entries

@@ -1,0 +1,312 @@
+-- Promises and votes that are counted.
+use Rattle.std.proofs.Common.{◌≡◌, ℕ, ◌+◌, ◌-◌, ◌<◌, ◌≤◌, ◌&&◌, ◌||◌, not, nat_lt, Bool, true, eqb, List, [], ◌∷◌, ◌++◌, length, filter, Option, Some, None, ◌⊎◌, inl, inr, refl, sym, ◌∙◌, ap, subst, append-nil, append_assoc, arith}
+use Rattle.std.specs.Prelude.{slice_get}
+use Rattle.std.specs.List.{flat_map}
+use Rattle.std.proofs.lemmas.Bool.{cases_Bool, eqb-true, eqb-false, ltb-true, ltb-false, and_parts, cond_both}
+use Rattle.sc_node_table.specs.Values.{Ballot, Command, Base, Mail, MailBody, Counted, Chosen, NotYet, Flight, Report}
+use Rattle.sc_base.specs.Definitions.{same_ballot, is_member, with_member, is_majority, Among, Each}
+use Rattle.sc_paxos_words.specs.Definitions.{LeaderState, flight_at, without_flight_at, promise_counted, kept_voters, add_voter, voters_after, with_voters, vote_at, counted}
+use Rattle.sc_paxos_words.proofs.Lemmas.{Each-among, Each-weaker, Each-append, Each-filter, find_found}
+use Rattle.sc_paxos_law.specs.Definitions.{Prepared, Promised, Offered, Accepted, needed, members_of, CountedPromise}
+use Rattle.sc_paxos_law.proofs.Lemmas.{was_offered, one_offer}
+use Rattle.sc_node_table.specs.Definitions.{with_slot, ReplicaState, Place, Executed, next, set_at, has_room, leads, promise_row, readied, vote_tallied, voted, accepted_row}
+use Rattle.sc_sound.specs.Definitions.{Ahead}
+use Rattle.sc_law_groups.proofs.GroupProofs.Growth.{IsLearnt}
+use Rattle.sc_law_groups.proofs.GroupProofs.Invariant.{Steps, rule, first, IsFlying, IsTaken, IsReplica, next_after}
+use Rattle.sc_law_groups.proofs.GroupProofs.Speech.{Speaks}
+use Rattle.sc_law_groups.proofs.GroupProofs.Midway.{Fine, turn}
+use Rattle.sc_law_groups.proofs.GroupProofs.Parts.{among_without_flight, Each-without_flight}
+use Rattle.sc_law_groups.proofs.GroupProofs.Executing.{fine_executed}
+use Rattle.std.proofs.lemmas.List.{map-append}
+use Rattle.sc_law_groups.proofs.GroupProofs.Offering.{fine_pumped}
+use Rattle.sc_base.proofs.Lemmas.{ballot_is}
+
+reports_push : (votes : List (CountedPromise Command)) (vote : CountedPromise Command) → flat_map (λ (v : CountedPromise Command). v.reports) (votes ++ vote ∷ []) ≡ flat_map (λ (v : CountedPromise Command). v.reports) votes ++ vote.reports
+reports_push [] vote = append-nil vote.reports
+reports_push (v ∷ votes) vote = ap (λ rs. v.reports ++ rs) (reports_push votes vote) ∙ sym (append_assoc v.reports (flat_map (λ (x : CountedPromise Command). x.reports) votes) vote.reports)
+
+-- ---- kept voters
+
+pub each_voter : (P : ℕ → Type 0) (node : ℕ) (o : Option (List ℕ)) → P node → Each P (kept_voters o) → Each P (kept_voters (add_voter node o))
+each_voter P node None p e = (p, tt)
+each_voter P node (Some voters) p e =
+    cond_both (is_member voters node || eqb (length voters) 9) (Some voters) (Some (with_member voters node)) (λ o. Each P (kept_voters o)) (λ _. e)
+    (λ _. Each-append P (filter (λ m. nat_lt m node) voters) (node ∷ filter (λ m. nat_lt node m) voters) (Each-filter P (λ m. nat_lt m node) voters e) (p, Each-filter P (λ m. nat_lt node m) voters e))
+
+pub each_after : (P : ℕ → Type 0) (members : List ℕ) (node : ℕ) (o : Option (List ℕ)) → P node → Each P (kept_voters o) → Each P (kept_voters (voters_after members node o))
+each_after P members node o p e = cond_both (is_member members node) (add_voter node o) o (λ x. Each P (kept_voters x)) (λ _. each_voter P node o p e) (λ _. e)
+
+each_with_voters : (P : Flight Command → Type 0) (slot : ℕ) (voters : Option (List ℕ)) (fs : List (Flight Command)) → Each P fs → ((f : Flight Command) → Among f fs → f.slot ≡ slot → P (record f { voters = voters }))
+    → Each P (with_voters slot voters fs)
+each_with_voters P slot voters [] e new = tt
+each_with_voters P slot voters (f ∷ fs) e new =
+    cond_both (eqb f.slot slot) (record f { voters = voters } ∷ fs) (f ∷ with_voters slot voters fs) (Each P)
+    (λ t. (new f (inl refl) (eqb-true f.slot slot t), e.1)) (λ _. (e.0, each_with_voters P slot voters fs e.1 (λ g a. new g (inr a))))
+
+still_flying : (slot : ℕ) (voters : Option (List ℕ)) (fs : List (Flight Command)) (at : ℕ) (f : Flight Command) → Among f fs → f.slot ≡ at
+    → (g : Flight Command) × Among g (with_voters slot voters fs) × (g.slot ≡ at)
+still_flying slot voters [] at f a e = absurd a
+still_flying slot voters (x ∷ fs) at f (inl same) e =
+    cond_both (eqb x.slot slot) (record x { voters = voters } ∷ fs) (x ∷ with_voters slot voters fs) (λ gs. (g : Flight Command) × Among g gs × (g.slot ≡ at))
+    (λ _. (record x { voters = voters }, inl refl, ap (λ (y : Flight Command). y.slot) same ∙ e)) (λ _. (x, inl refl, ap (λ (y : Flight Command). y.slot) same ∙ e))
+still_flying slot voters (x ∷ fs) at f (inr a) e =
+    cond_both (eqb x.slot slot) (record x { voters = voters } ∷ fs) (x ∷ with_voters slot voters fs) (λ gs. (g : Flight Command) × Among g gs × (g.slot ≡ at))
+    (λ _. (f, inr a, e)) (λ _. (let k = still_flying slot voters fs at f a e in (k.0, inr k.1, k.2)))
+
+-- ---- what is ready
+
+pub each_with_slot : (P : ℕ × Command → Type 0) (es : List (ℕ × Command)) (slot : ℕ) (c : Command) → Each P es → P (slot, c) → Each P (with_slot es slot c)
+each_with_slot P [] slot c e p = (p, tt)
+each_with_slot P (x ∷ es) slot c e p =
+    cond_both (eqb x.0 slot) _ _ (Each P) (λ _. (p, e.1)) (λ _. cond_both (nat_lt slot x.0) _ _ (Each P) (λ _. (p, e)) (λ _. (e.0, each_with_slot P es slot c e.1 p)))
+
+has_slot : (es : List (ℕ × Command)) (slot : ℕ) (c : Command) → Among (slot, c) (with_slot es slot c)
+has_slot [] slot c = inl refl
+has_slot (x ∷ es) slot c =
+    cond_both (eqb x.0 slot) _ _ (Among (slot, c)) (λ _. inl refl) (λ _. cond_both (nat_lt slot x.0) _ _ (Among (slot, c)) (λ _. inl refl) (λ _. inr (has_slot es slot c)))
+
+still_ready : (es : List (ℕ × Command)) (slot : ℕ) (c : Command) (x : ℕ × Command) → Among x es → (x.0 ≡ slot → ⊥) → Among x (with_slot es slot c)
+still_ready [] slot c x a ne = absurd a
+still_ready (y ∷ es) slot c x (inl same) ne =
+    cond_both (eqb y.0 slot) _ _ (Among x) (λ t. absurd (ne (ap (λ (p : ℕ × Command). p.0) (sym same) ∙ eqb-true y.0 slot t)))
+    (λ _. cond_both (nat_lt slot y.0) _ _ (Among x) (λ _. inr (inl same)) (λ _. inl same))
+still_ready (y ∷ es) slot c x (inr a) ne =
+    cond_both (eqb y.0 slot) _ _ (Among x) (λ _. inr a) (λ _. cond_both (nat_lt slot y.0) _ _ (Among x) (λ _. inr (inr a)) (λ _. inr (still_ready es slot c x a ne)))
+
+module _ (ahead : Ahead) (base : Base) (made : Command → Type 0) (heard : MailBody → Type 0) (me : ℕ) (older : List Mail) (before : Steps) (speaks : Speaks ahead base made heard before)
+    (some : (log : List Command) → Each made log → (node : ℕ) × (rest : List ℕ) × ((rule ahead base).members log ≡ node ∷ rest)) where
+  abbrev Ok : Place → Type 0
+  Ok = Fine ahead base made heard me older before
+
+  abbrev Replica : Steps → ReplicaState → Type 0
+  Replica h r = IsReplica ahead base made h me r
+
+  -- ---- a promise
+
+  voter_replica : (h : Steps) (from : ℕ) (ballot : Ballot) (reports : List (Report Command)) (start : ℕ) (r : ReplicaState) → Replica h r → r.running ≡ true → ballot ≡ r.leader.ballot
+      → Among (Promised from ballot start reports) h → Among (Prepared ballot start) h
+      → Replica h (record r { leader = record r.leader { promisers = r.leader.promisers ++ from ∷ []; reports = r.leader.reports ++ reports } })
+  voter_replica h from ballot reports start r k runs same promised asked =
+      let l = k.leads runs in
+      let vote : CountedPromise Command = record { node = from; from = start; reports = reports } in
+      record {
+        me_is = k.me_is;
+        whole = k.whole;
+        log_is = k.log_is;
+        acceptor_is = k.acceptor_is;
+        tops = k.tops;
+        prepares = k.prepares;
+        count = k.count;
+        sets = k.sets;
+        calls = k.calls;
+        acts = k.acts;
+        flights = k.flights;
+        ready = k.ready;
+        leads = λ _. record {
+          own = l.own;
+          low = l.low;
+          first_is = l.first_is;
+          votes = l.votes ++ vote ∷ [];
+          promisers = ap (λ ns. ns ++ from ∷ []) l.promisers ∙ sym (map-append (λ (v : CountedPromise Command). v.node) l.votes (vote ∷ []));
+          reports = ap (λ rs. rs ++ reports) l.reports ∙ sym (reports_push l.votes vote);
+          made = Each-append _ l.votes (vote ∷ []) l.made
+              ((subst (λ b. Among (Promised from b start reports) h) same promised, k.prepares ballot start asked (ap (λ (b : Ballot). b.node) same ∙ l.own)), tt);
+          offers = l.offers;
+        };
+      }
+
+  -- the row of a Promise keeps what holds
+  pub fine_promise_row : (from : ℕ) (ballot : Ballot) (reports : List (Report Command)) (start : ℕ) (r : ReplicaState) (mails : List Mail) → (f : Ok (r, mails))
+      → Among (Promised from ballot start reports) (f.newer ++ before) → Among (Prepared ballot start) (f.newer ++ before) → Ok (promise_row from ballot reports (r, mails))
+  unfolding promise_row
+  fine_promise_row from ballot reports start r mails f promised asked =
+      cond_both (leads ballot r) _ _ Ok
+      (λ t. (
+      let parts = and_parts r.running (same_ballot ballot r.leader.ballot) t in
+      let after = cond_both (same_ballot ballot r.leader.ballot && not (is_member r.leader.promisers from)) _ _
+      (λ (x : Bool × LeaderState Command). Replica (f.newer ++ before) (record r { leader = x.1 }))
+      (λ _. voter_replica (f.newer ++ before) from ballot reports start r f.replica parts.0 (ballot_is ballot r.leader.ballot parts.1) promised asked) (λ _. f.replica) in
+      fine_pumped ahead base made heard me older before speaks some _ (turn ahead base made heard me older before r (record r { leader = (promise_counted from ballot reports r.leader).1 }) mails f after)))
+      (λ _. f)
+
+  -- ---- a vote
+
+  -- a command that a majority accepted is ready
+  pub ready_replica : (h : Steps) (slot : ℕ) (c : Command) (r : ReplicaState) (k : Replica h r) → IsLearnt (rule ahead base) h slot c
+      → Replica h (record r { leader = without_flight_at slot r.leader; ready = with_slot r.ready slot c })
+  ready_replica h slot c r k t = record {
+    me_is = k.me_is;
+    whole = k.whole;
+    log_is = k.log_is;
+    acceptor_is = k.acceptor_is;
+    tops = k.tops;
+    prepares = k.prepares;
+    count = k.count;
+    sets = k.sets;
+    calls = k.calls;
+    acts = k.acts;
+    flights = Each-without_flight _ slot r.leader.flights k.flights;
+    ready = each_with_slot _ r.ready slot c k.ready t;
+    leads = λ runs. (let l = k.leads runs in
+        record { own = l.own; low = l.low; first_is = l.first_is; votes = l.votes; promisers = l.promisers; reports = l.reports; made = l.made; offers = λ at d a. stays at (l.offers at d a) });
+  }
+    where
+      stays : (at : ℕ) → (at < length k.whole + 1) ⊎ IsTaken ahead base r.leader r.ready at → (at < length k.whole + 1) ⊎ IsTaken ahead base (without_flight_at slot r.leader) (with_slot r.ready slot c) at
+      stays at (inl lt) = inl lt
+      stays at (inr t) =
+          elim (cases_Bool (eqb at slot)) [
+            | inl e ↦ inr (inr (c, subst (λ n. Among (n, c) (with_slot r.ready slot c)) (sym (eqb-true at slot e)) (has_slot r.ready slot c)))
+            | inr n ↦ (
+                let ne = eqb-false at slot n in
+                elim t [
+                  | inl (g, a, e) ↦ inr (inl (g, among_without_flight slot r.leader.flights g a (λ s. ne (sym e ∙ s)), e))
+                  | inr (d, a) ↦ inr (inr (d, still_ready r.ready slot c (at, d) a ne))
+                ])
+          ]
+
+  voters_replica : (h : Steps) (slot : ℕ) (voters : Option (List ℕ)) (r : ReplicaState) (k : Replica h r)
+      → ((g : Flight Command) → Among g r.leader.flights → g.slot ≡ slot → IsFlying ahead base h r.leader.ballot (record g { voters = voters }))
+      → Replica h (record r { leader = record r.leader { flights = with_voters slot voters r.leader.flights } })
+  voters_replica h slot voters r k new = record {
+    me_is = k.me_is;
+    whole = k.whole;
+    log_is = k.log_is;
+    acceptor_is = k.acceptor_is;
+    tops = k.tops;
+    prepares = k.prepares;
+    count = k.count;
+    sets = k.sets;
+    calls = k.calls;
+    acts = k.acts;
+    flights = each_with_voters _ slot voters r.leader.flights k.flights new;
+    ready = k.ready;
+    leads = λ runs. (let l = k.leads runs in
+        record { own = l.own; low = l.low; first_is = l.first_is; votes = l.votes; promisers = l.promisers; reports = l.reports; made = l.made; offers = λ at d a. stays at (l.offers at d a) });
+  }
+    where
+      stays : (at : ℕ) → (at < length k.whole + 1) ⊎ IsTaken ahead base r.leader r.ready at
+          → (at < length k.whole + 1) ⊎ IsTaken ahead base (record r.leader { flights = with_voters slot voters r.leader.flights }) r.ready at
+      stays at (inl lt) = inl lt
+      stays at (inr (inl (g, a, e))) = inr (inl (still_flying slot voters r.leader.flights at g a e))
+      stays at (inr (inr t)) = inr (inr t)
+
+  -- what holds of a replica with its mail and the children that a row made
+  abbrev OkAfter : Executed → Type 0
+  OkAfter step = Ok step.0
+
+  -- a command became ready
+  unfoldable pub ready_place : (slot : ℕ) (c : Command) (r : ReplicaState) (mails : List Mail) → (f : Ok (r, mails)) → IsLearnt (rule ahead base) (f.newer ++ before) slot c
+      → Ok (record r { leader = without_flight_at slot r.leader; ready = with_slot r.ready slot c }, mails)
+  ready_place slot c r mails f t =
+      turn ahead base made heard me older before r (record r { leader = without_flight_at slot r.leader; ready = with_slot r.ready slot c }) mails f (ready_replica (f.newer ++ before) slot c r f.replica t)
+
+  readied_place : (slot : ℕ) (c : Command) (r : ReplicaState) (mails : List Mail) → (f : Ok (r, mails)) → IsLearnt (rule ahead base) (f.newer ++ before) slot c → r.running ≡ true → Ok (readied slot c (record r { leader = without_flight_at slot r.leader }, mails)).0
+  unfolding readied ready_place turn
+  readied_place slot c r mails f t runs =
+      let after : ReplicaState = record r { leader = without_flight_at slot r.leader; ready = with_slot r.ready slot c } in
+      let place = ready_place slot c r mails f t in
+      cond_both (eqb slot (next r) && has_room (record r { leader = without_flight_at slot r.leader })) _ _ OkAfter
+      (λ e. (
+      let parts = and_parts (eqb slot (next r)) (has_room (record r { leader = without_flight_at slot r.leader })) e in
+      fine_executed ahead base made heard me older before speaks some true c after mails place
+      (subst (λ n. IsLearnt (rule ahead base) (f.newer ++ before) n c) (eqb-true slot (next r) parts.0) t) (λ _. runs)))
+      (λ _. place)
+
+  module _ (from : ℕ) (slot : ℕ) (set : List ℕ) (r : ReplicaState) (mails : List Mail) (f : Ok (r, mails)) (runs : r.running ≡ true)
+      (d : Command) (did : Among (Accepted from r.leader.ballot slot d) (f.newer ++ before))
+      (is : set ≡ members_of (rule ahead base) f.replica.whole slot) (known : needed (rule ahead base) slot ≤ length f.replica.whole) where
+    abbrev h : Steps
+    h = f.newer ++ before
+
+    abbrev b : Ballot
+    b = r.leader.ballot
+
+    -- what is in flight at the slot is what was accepted there
+    same_value : (g : Flight Command) → Among g r.leader.flights → g.slot ≡ slot → d ≡ g.value
+    same_value g a e =
+        let flies = Each-among _ r.leader.flights g f.replica.flights a in
+        one_offer (rule ahead base) (first ahead base) h b slot d g.value f.lawful (was_offered (rule ahead base) (first ahead base) h from b slot d f.lawful did)
+        (subst (λ n. Among (Offered b n g.value) h) e flies.0)
+
+    accepted_by : (flight : Flight Command) → Among flight r.leader.flights → flight.slot ≡ slot → Each (λ n. Among (Accepted n b slot d) h) (kept_voters (voters_after set from flight.voters))
+    accepted_by flight a e =
+        let flies = Each-among _ r.leader.flights flight f.replica.flights a in
+        each_after (λ n. Among (Accepted n b slot d) h) set from flight.voters did
+        (Each-weaker _ _ (λ n x. subst (λ v. Among (Accepted n b slot v) h) (sym (same_value flight a e)) (subst (λ m. Among (Accepted n b m flight.value) h) e x)) (kept_voters flight.voters) flies.1)
+
+    learnt_here : (flight : Flight Command) → Among flight r.leader.flights → flight.slot ≡ slot → is_majority set (kept_voters (voters_after set from flight.voters)) ≡ true → IsLearnt (rule ahead base) h slot flight.value
+    learnt_here flight a e most =
+        subst (IsLearnt (rule ahead base) h slot) (same_value flight a e)
+        (record {
+          log = f.replica.whole;
+          is_log = f.replica.log_is.is_log;
+          chosen = record {
+            known = known;
+            chosen = record {
+              ballot = b;
+              voters = kept_voters (voters_after set from flight.voters);
+              each = accepted_by flight a e;
+              majority = ltb-true _ _ (subst (λ ms. is_majority ms (kept_voters (voters_after set from flight.voters)) ≡ true) is most);
+            };
+          };
+        })
+
+    voted_at : (o : Option (Flight Command)) → flight_at slot r.leader.flights ≡ o → Ok (vote_tallied slot (vote_at from slot set o r.leader) (r, mails)).0
+    voted_at None e = f
+    voted_at (Some flight) e =
+        let there = find_found (λ (g : Flight Command). eqb g.slot slot) r.leader.flights flight e in
+        let at = eqb-true flight.slot slot there.1 in
+        let voters = voters_after set from flight.voters in
+        cond_both (is_majority set (kept_voters voters)) _ _ (λ (x : Counted Command × LeaderState Command). Ok (vote_tallied slot x (r, mails)).0)
+        (λ most. readied_place slot flight.value r mails f (learnt_here flight there.0 at most) runs)
+        (λ _. turn ahead base made heard me older before r (record r { leader = record r.leader { flights = with_voters slot voters r.leader.flights } }) mails f
+        (voters_replica h slot voters r f.replica (λ g a same. (
+        let flies = Each-among _ r.leader.flights g f.replica.flights a in
+        (flies.0, Each-weaker _ _ (λ n x. subst (λ v. Among (Accepted n b g.slot v) h) (same_value g a same) (subst (λ m. Among (Accepted n b m d) h) (sym same) x)) (kept_voters voters) (accepted_by flight there.0 at))))))
+
+    counted_place : Ok (vote_tallied slot (counted from b slot set r.leader) (r, mails)).0
+    counted_place =
+        cond_both (same_ballot b r.leader.ballot) _ _ (λ (x : Counted Command × LeaderState Command). Ok (vote_tallied slot x (r, mails)).0) (λ _. voted_at (flight_at slot r.leader.flights) refl) (λ _. f)
+
+    -- a count comes to a command that is chosen, or to none yet
+    module _ (Q : Counted Command × LeaderState Command → Type 0) (chosen : (c : Command) → IsLearnt (rule ahead base) h slot c → Q (Chosen c, without_flight_at slot r.leader))
+        (other : (count : ℕ) (leader : LeaderState Command) → Q (NotYet count, leader)) where
+      count_at : (o : Option (Flight Command)) → flight_at slot r.leader.flights ≡ o → Q (vote_at from slot set o r.leader)
+      count_at None e = other 0 r.leader
+      count_at (Some flight) e =
+          let there = find_found (λ (g : Flight Command). eqb g.slot slot) r.leader.flights flight e in
+          let at = eqb-true flight.slot slot there.1 in
+          cond_both (is_majority set (kept_voters (voters_after set from flight.voters))) _ _ Q (λ most. chosen flight.value (learnt_here flight there.0 at most)) (λ _. other _ _)
+
+      pub count_is : Q (counted from b slot set r.leader)
+      count_is = cond_both (same_ballot b r.leader.ballot) _ _ Q (λ _. count_at (flight_at slot r.leader.flights) refl) (λ _. other 0 r.leader)
+
+  -- the members of an open slot are those that the log gives
+  pub set_is : (h : Steps) (slot : ℕ) (set : List ℕ) (r : ReplicaState) (k : Replica h r) → set_at slot r ≡ Some set → (set ≡ members_of (rule ahead base) k.whole slot) × (needed (rule ahead base) slot ≤ length k.whole)
+  set_is h slot set r k e =
+      cond_both (nat_lt slot (next r)) None (slice_get r.sets (slot - next r))
+      (λ (o : Option (List ℕ)). o ≡ Some set → (set ≡ members_of (rule ahead base) k.whole slot) × (needed (rule ahead base) slot ≤ length k.whole))
+      (λ _ x. cc)
+      (λ n x. (
+      let up = ltb-false slot (next r) n in
+      let at = next_after ahead base made h me r k in
+      let same : length k.whole + 1 + (slot - next r) ≡ slot = omega (arith, up, at) in
+      subst (λ m. (set ≡ members_of (rule ahead base) k.whole m) × (needed (rule ahead base) m ≤ length k.whole)) same (k.sets (slot - next r) set x))) e
+
+  -- the row of an Accepted keeps what holds
+  pub fine_accepted_row : (from : ℕ) (ballot : Ballot) (slot : ℕ) (d : Command) (r : ReplicaState) (mails : List Mail) → (f : Ok (r, mails)) → Among (Accepted from ballot slot d) (f.newer ++ before)
+      → Ok (accepted_row from ballot slot (r, mails)).0
+  unfolding accepted_row
+  fine_accepted_row from ballot slot d r mails f did =
+      cond_both (leads ballot r) _ _ OkAfter
+      (λ t. (
+      let parts = and_parts r.running (same_ballot ballot r.leader.ballot) t in
+      by_set parts.0 (ballot_is ballot r.leader.ballot parts.1) (set_at slot r) refl))
+      (λ _. f)
+    where
+      by_set : r.running ≡ true → ballot ≡ r.leader.ballot → (o : Option (List ℕ)) → set_at slot r ≡ o → Ok (voted from ballot slot o (r, mails)).0
+      by_set runs same None e = f
+      by_set runs same (Some set) e =
+          let here = set_is (f.newer ++ before) slot set r f.replica e in
+          subst (λ b. Ok (vote_tallied slot (counted from b slot set r.leader) (r, mails)).0) (sym same)
+          (counted_place from slot set r mails f runs d (subst (λ b. Among (Accepted from b slot d) (f.newer ++ before)) same did) here.0 here.1)

@@ -1,0 +1,2 @@
+pub mod GroupProofs
+pub mod WholeProofs

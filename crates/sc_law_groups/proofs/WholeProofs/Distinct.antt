@@ -1,0 +1,166 @@
+-- The participant of a merge is not its watcher: a participant that stands behind another group is not its own successor.
+use Rattle.std.proofs.Common.{◌≡◌, ℕ, ◌&&◌, not, true, List, [], ◌∷◌, Option, Some, None, refl, sym, ◌∙◌, ap, subst, option_map}
+use Rattle.std.proofs.lemmas.Bool.{cond_both}
+use Rattle.std.proofs.lemmas.Option.{same_Some}
+use Rattle.sc_base.specs.Definitions.{same_draw}
+use Rattle.sc_node_table.specs.Values.{Draw, Body, Offer, Watch, Command, Noop, Call, Join, Leave, Split, Begin, Prepared, RecordVote, GiveUp, Finish, Watched, RecordWatch, Base, Coordinating, Effect, Frozen, Heard, Outcome, Past, Vote}
+use Rattle.sc_cmd.specs.declared.bodies.Body.TheVariants as At
+use Rattle.sc_cmd.specs.declared.effects.Effect.TheVariants as Was
+use Rattle.sc_cmd.specs.declared.votes.Vote.TheVariants as Vows
+use Rattle.sc_cmd.specs.Definitions.{is_changed, decided_in, is_alone}
+use Rattle.sc_machine_table.specs.Definitions.{Group, applied}
+use Rattle.sc_log_entries.specs.Definitions.{after_outcome, named_group}
+use Rattle.sc_log_entries.specs.declared.LogEntry.{LogEntry}
+use Rattle.sc_law_entries.specs.ring.Definitions.{Sources, IsVoteCast, IsAllowed, AreAllowed, ToldWorld, first_told, told_on, told_after, stories_told, Groups, LockOk, IsCoordinating, IsPromised, BeginInPlace, stories_of, Story, Stories, put, retold, unsigned, new_story, vote_in, watch_vote_in, with_vote, with_watch_vote, with_decision, with_asked, with_answer, stories_after}
+use Rattle.sc_law_entries.proofs.RingProofs.Lemmas.{Decisions, decisions, outcome_of, settle_by, living, living_by, eff, view_of, arc_of, succ_of, Old, IsPair, not_back, at_start, Kept, Ring, KeptWorld, kept_on}
+use Rattle.sc_law_groups.specs.whole.Definitions.{PartiesAreApart}
+use Rattle.sc_law_groups.proofs.WholeProofs.Coming.{IsDull, comes}
+
+-- a story of which the participant is not the watcher
+abbrev IsApartStory : Story → Type 0
+IsApartStory y = (offer : Offer) (watch : Watch) → y.offer ≡ Some offer → y.watch ≡ Some watch → offer.part ≡ watch.part → ⊥
+
+-- with one story more
+apart_put : (ys : Stories) (tx : Draw) (o : Option Story) → ((y : Story) → o ≡ Some y → IsApartStory y) → PartiesAreApart ys → PartiesAreApart (put ys tx o)
+apart_put ys tx o new old t story =
+    cond_both (same_draw t tx) o (ys t) (λ (x : Option Story). x ≡ Some story → (offer : Offer) (watch : Watch) → story.offer ≡ Some offer → story.watch ≡ Some watch → offer.part ≡ watch.part → ⊥)
+    (λ _ e. new story e) (λ _ e. old t story e)
+
+-- with one story that goes on
+apart_retold : (ys : Stories) (tx : Draw) (f : Story → Story) → ((y : Story) → ys tx ≡ Some y → IsApartStory (f y)) → PartiesAreApart ys → PartiesAreApart (retold ys tx f)
+apart_retold ys tx f new old = by (ys tx) refl
+  where
+    by : (o : Option Story) → ys tx ≡ o → PartiesAreApart (put ys tx (option_map f o))
+    by None e = apart_put ys tx None (λ y is. cc) old
+    by (Some story) e = apart_put ys tx (Some (f story)) (λ y is. (let same : f story ≡ y = cc in subst IsApartStory same (new story e))) old
+
+-- a transaction that begins has no watcher, or no participant
+apart_new : (s : Group) (body : Body) → IsApartStory (new_story s body)
+apart_new s At.Merge offer watch o w same = (let no_way : None ≡ Some watch = w in cc)
+apart_new s (At.Repart at) offer watch o w same = (let no_way : None ≡ Some watch = w in cc)
+apart_new s (At.Migrate node) offer watch o w same = (let no_way : None ≡ Some watch = w in cc)
+apart_new s (At.Split at child) offer watch o w same = (let no_way : None ≡ Some offer = o in cc)
+
+-- a story that goes on keeps whom it asks
+voted_same : (o : Option Vote) (y : Story) → IsApartStory y → IsApartStory (with_vote o y)
+voted_same None y k = k
+voted_same (Some vote) y k = k
+
+-- what a watcher votes leaves the parties
+watched_same : (o : Option Past) (y : Story) → IsApartStory y → IsApartStory (with_watch_vote o y)
+watched_same None y k = k
+watched_same (Some past) y k = k
+
+-- so does what is decided
+decided_same : (o : Option Outcome) (y : Story) → IsApartStory y → IsApartStory (with_decision o y)
+decided_same None y k = k
+decided_same (Some outcome) y k = k
+
+-- a dull effect changes nothing
+pub dull_same : (effect : Effect) → IsDull effect → is_changed effect ≡ true → ⊥
+dull_same Was.Changed d e = d
+dull_same (Was.Voted vote) d e = d
+dull_same (Was.Decided outcome) d e = d
+dull_same _ d e = cc
+
+-- a vote that changes its coordinator is of a merge
+merges : (s : Group) (tx : Draw) (vote : Vote) (by : ℕ) → is_changed (applied s (RecordVote tx vote by)).1 ≡ true → (order : ℕ) × (got : Option Heard) × (s.core.lock ≡ Coordinating tx At.Merge order got)
+merges s tx vote by changed =
+    comes s (λ d x. d ≡ RecordVote tx vote by → is_changed x.1 ≡ true → (order : ℕ) × (got : Option Heard) × (s.core.lock ≡ Coordinating tx At.Merge order got))
+    (record {
+      same = λ d effect dull is e. absurd (dull_same effect dull e);
+      served = λ client seq op after effect core is e. cc;
+      joined = λ node order is e. cc;
+      left = λ node order is e. cc;
+      parted = λ at child order free is e. cc;
+      split = λ at child order free is e. cc;
+      begun = λ t body order free is e. cc;
+      offered = λ t offer new is e. cc;
+      asked = λ t watch new is e. cc;
+      heard = λ t order got lock frozen from is e. (let one : t ≡ tx = cc in (order, got, lock ∙ ap (λ d. Coordinating d At.Merge order got) one));
+      ended = λ d t ends free after outcome r is e. cc;
+      finished = λ t binds after outcome r is e. cc;
+    }) (RecordVote tx vote by) refl changed
+
+-- a group that is there counts as it stands, where nothing settles it
+eff_open : (f : Decisions) (s : Group) → settle_by s.core.lock f s ≡ s → s.core.gone ≡ None → eff f (Some s) ≡ Some s
+eff_open f s e here = ap living e ∙ ap (λ gone. living_by gone s) here
+
+module _ (sources : Sources) (ring : Ring) (gs : Groups) (ys : Stories) (g : Draw) (s : Group) (k : Kept sources.owner ring gs ys) (is : gs g ≡ Some s) where
+  -- the participant that was heard is not its own successor
+  heard_apart : (tx : Draw) (frozen : Frozen) → IsVoteCast ys tx (Vows.Yes frozen) → (order : ℕ) (got : Option Heard) → s.core.lock ≡ Coordinating tx At.Merge order got → (story : Story) → ys tx ≡ Some story
+      → (offer : Offer) → story.offer ≡ Some offer → offer.part ≡ frozen.succ.group → ⊥
+  heard_apart tx frozen cast order got lock story there offer offered same =
+      let own : IsCoordinating ys g s tx At.Merge got = subst (LockOk ys g s) lock (k.0.group g s is).lock_ok in
+      let mine = same_Some story own.story (sym there ∙ own.is) in
+      let voted = same_Some cast.0 story (sym cast.1 ∙ there) in
+      let undecided : story.outcome ≡ None = ap (λ (y : Story). y.outcome) mine ∙ own.undecided in
+      let vote : story.vote ≡ Some (Vows.Yes frozen) = ap (λ (y : Story). y.vote) (sym voted) ∙ cast.2 in
+      let fr = (k.0.story tx story there).frozen undecided frozen vote in
+      let p = fr.group in
+      let name = fr.offer.part in
+      let asked : name ≡ offer.part = ap (λ (o : Offer). o.part) (same_Some (unsigned fr.offer) offer (sym fr.offered ∙ offered)) in
+      let succ : s.core.succ.group ≡ name = ap (λ (o : Offer). o.part) (same_Some _ (unsigned fr.offer) (sym own.offer ∙ ap (λ (y : Story). y.offer) (sym mine) ∙ fr.offered)) in
+      let bound : IsPromised ys name p tx fr.offer = subst (LockOk ys name p) fr.lock (k.0.group name p fr.is).lock_ok in
+      let f = decisions ys in
+      let none : f tx ≡ None = ap outcome_of there ∙ undecided in
+      let here : Old gs ys g ≡ Some s = ap (eff f) is ∙ eff_open f s (ap (λ l. settle_by l f s) lock) own.here in
+      let its : Old gs ys name ≡ Some p = ap (eff f) fr.is ∙ eff_open f p (ap (λ l. settle_by l f p) fr.lock ∙ ap (λ o. after_outcome o tx p) none) bound.here in
+      let next : p.core.succ.group ≡ frozen.succ.group = ap (λ (x : Frozen). x.succ.group) fr.same in
+      let pair : IsPair (view_of (Old gs ys)) g name s.core.arc p.core.arc = record {
+        first = ap arc_of here;
+        second = ap arc_of its;
+        line = ap succ_of here ∙ succ;
+        apart = λ e. own.apart (succ ∙ sym e);
+      } in
+      not_back (view_of (Old gs ys)) g name s.core.arc p.core.arc k.1.0.1 pair (ap succ_of its ∙ next ∙ sym same ∙ sym asked)
+
+  -- a participant that is asked for after a vote is not the watcher
+  asked_apart : (tx : Draw) (vote : Vote) → IsVoteCast ys tx vote → (order : ℕ) (got : Option Heard) → s.core.lock ≡ Coordinating tx At.Merge order got → (story : Story) → ys tx ≡ Some story → IsApartStory story → IsApartStory (with_asked s.core vote story)
+  asked_apart tx (Vows.Yes frozen) cast order got lock story there old offer watch o w same =
+      let part : frozen.succ.group ≡ watch.part = ap (λ (x : Watch). x.part) (same_Some _ watch w) in
+      heard_apart tx frozen cast order got lock story there offer o (same ∙ sym part)
+  asked_apart tx (Vows.No why) cast order got lock story there old offer watch o w same = old offer watch o w same
+
+  -- so is a story that goes on by a vote
+  answer_apart : (tx : Draw) (vote : Vote) (by : ℕ) → IsVoteCast ys tx vote → (story : Story) → ys tx ≡ Some story → IsApartStory story → IsApartStory (with_answer s.core vote (applied s (RecordVote tx vote by)).1 story)
+  answer_apart tx vote by cast story there old =
+      cond_both (is_changed (applied s (RecordVote tx vote by)).1) (with_asked s.core vote story) (with_decision (decided_in (applied s (RecordVote tx vote by)).1) story) IsApartStory
+      (λ t. (let m = merges s tx vote by t in asked_apart tx vote cast m.0 m.1 m.2 story there old))
+      (λ _. decided_same (decided_in (applied s (RecordVote tx vote by)).1) story old)
+
+  -- with one entry more
+  entry_apart : (c : Command) → IsAllowed sources ys g c → PartiesAreApart ys → PartiesAreApart (stories_after s c (applied s c).1 ys)
+  entry_apart Noop a old = old
+  entry_apart (Call client seq op) a old = old
+  entry_apart (Join node order) a old = old
+  entry_apart (Leave node order) a old = old
+  entry_apart (Finish tx outcome) a old = old
+  entry_apart (Split at child order) a old =
+      cond_both (is_changed (applied s (Split at child order)).1 && not (is_alone s.core)) (put ys child (Some (new_story s (At.Split at child)))) ys PartiesAreApart
+      (λ _. apart_put ys child (Some (new_story s (At.Split at child))) (λ y e. (let same : new_story s (At.Split at child) ≡ y = cc in subst IsApartStory same (apart_new s (At.Split at child)))) old) (λ _. old)
+  entry_apart (Begin tx body order) a old =
+      cond_both (is_changed (applied s (Begin tx body order)).1) (put ys tx (Some (new_story s body))) ys PartiesAreApart
+      (λ _. apart_put ys tx (Some (new_story s body)) (λ y e. (let same : new_story s body ≡ y = cc in subst IsApartStory same (apart_new s body))) old) (λ _. old)
+  entry_apart (Prepared tx offer) a old = apart_retold ys tx _ (λ y e. voted_same (vote_in s (applied s (Prepared tx offer)).1) y (old tx y e)) old
+  entry_apart (Watched tx watch) a old = apart_retold ys tx _ (λ y e. watched_same (watch_vote_in (applied s (Watched tx watch)).1) y (old tx y e)) old
+  entry_apart (RecordVote tx vote by) a old = apart_retold ys tx _ (λ y e. answer_apart tx vote by a y e (old tx y e)) old
+  entry_apart (RecordWatch tx vote by) a old = apart_retold ys tx _ (λ y e. decided_same (decided_in (applied s (RecordWatch tx vote by)).1) y (old tx y e)) old
+  entry_apart (GiveUp tx) a old = apart_retold ys tx _ (λ y e. decided_same (decided_in (applied s (GiveUp tx)).1) y (old tx y e)) old
+
+-- with one entry more
+told_apart : (sources : Sources) (w : ToldWorld) (e : LogEntry) → KeptWorld sources.owner w → IsAllowed sources w.stories e.group e.command → PartiesAreApart w.stories → PartiesAreApart (told_on w e).stories
+told_apart sources w e k a old = by (named_group e.group w.store.groups) refl
+  where
+    by : (o : Option Group) → named_group e.group w.store.groups ≡ o → PartiesAreApart (stories_told w.stories o e.command)
+    by None is = old
+    by (Some s) is = entry_apart sources _ _ w.stories e.group s k.kept is e.command a old
+
+-- with all entries
+all_apart : (sources : Sources) (w : ToldWorld) (entries : List LogEntry) → KeptWorld sources.owner w → AreAllowed sources w entries → PartiesAreApart w.stories → PartiesAreApart (told_after w entries).stories
+all_apart sources w [] k a old = old
+all_apart sources w (e ∷ entries) k a old = all_apart sources (told_on w e) entries (kept_on sources w e k a.0) a.1 (told_apart sources w e k a.0 old)
+
+-- after allowed entries
+pub parties_are_apart : (sources : Sources) (bases : List Base) → BeginInPlace sources bases → (entries : List LogEntry) → AreAllowed sources (first_told bases) entries → PartiesAreApart (stories_of bases entries)
+parties_are_apart sources bases start entries allowed = all_apart sources (first_told bases) entries (at_start sources bases start) allowed (λ tx story e. cc)

@@ -1,0 +1,80 @@
+-- The orders of a lawful journal of a valid scenario are at positions of the ring, so what nodes queue for them, and for what policies order, is allowed by the owners of names.
+use Rattle.std.proofs.Common.{ℕ, List, [], ◌∷◌, ◌++◌, map, inl, refl, sym, subst}
+use Rattle.sc_base.specs.Definitions.{Each, next_name}
+use Rattle.sc_node_table.specs.Values.{Order, OrderLine, Mail, Row}
+use Rattle.sc_cmd.specs.declared.orders.Order.TheVariants as An
+use Rattle.sc_node_table.specs.Definitions.{group_of_order, names_after_ticks, ordered_command, name_of}
+use Rattle.sc_paxos_words.proofs.Lemmas.{Each-among, Each-append, Each-from_All}
+use Rattle.sc_paxos_law.proofs.Lemmas.{Among-right}
+use Rattle.sc_sound.specs.Definitions.{Ahead, Lawful, line_of, schedule, system_of}
+use Rattle.sc_scenario.specs.Definitions.{IsBounded, IsBoundedLine, IsBoundedOrder}
+use Rattle.sc_scenario.specs.declared.scenarios.Asks.{Asks}
+use Rattle.sc_scenario.specs.declared.scenarios.Scenario.{Scenario}
+use Rattle.sc_scenario.specs.declared.scenarios.SchedLine.{SchedLine}
+use Rattle.sc_scenario.specs.declared.scenarios.SchedLine.TheVariants as scheduled
+use Rattle.sc_law_entries.specs.ring.Definitions.{IsAllowed}
+use Rattle.sc_law_entries.specs.names.Definitions.{IsAtPosition, TakesOrder, TakenOrdersAreAllowed, TakesWish, TakenWishesAreAllowed, WishesAreAtPositions, owner_in}
+use Rattle.sc_law_groups.proofs.GroupProofs.Lemmas.{IsToldSo, TellsSo, told_induction}
+use Rattle.sc_law_entries.specs.logs.Definitions.{Rows}
+use Rattle.sc_law_groups.specs.whole.Definitions.{section_op, ToldAreAllowed, WishedAreAllowed, OrdersAreAllowed}
+
+-- ---- the schedule
+
+at_position : (nodes : ℕ) (order : Order) → IsBoundedOrder nodes order → IsAtPosition order
+at_position nodes (An.Split group at) bounded = bounded
+at_position nodes (An.Repart group at) bounded = bounded
+at_position nodes _ bounded = tt
+
+-- an order at a position, whichever node gets it
+abbrev IsPlaced : ℕ → OrderLine → Type 0
+IsPlaced who line = IsAtPosition line.order
+
+placed_line : (nodes : ℕ) (clients : List Asks) (line : SchedLine) → IsBoundedLine nodes clients line → TellsSo IsPlaced (line_of line)
+placed_line nodes clients (scheduled.Told node line) bounded = at_position nodes line.order bounded.1
+placed_line nodes clients (scheduled.Go client) bounded = tt
+placed_line nodes clients (scheduled.Deliver who k) bounded = tt
+placed_line nodes clients (scheduled.Drop who k) bounded = tt
+placed_line nodes clients (scheduled.Again mail) bounded = tt
+placed_line nodes clients (scheduled.Tick who) bounded = tt
+placed_line nodes clients (scheduled.Crash node) bounded = tt
+placed_line nodes clients (scheduled.Settle most) bounded = tt
+placed_line nodes clients (scheduled.Free most workers) bounded = tt
+placed_line nodes clients (scheduled.Storm number most) bounded = tt
+
+placed_lines : (nodes : ℕ) (clients : List Asks) (lines : List SchedLine) → Each (IsBoundedLine nodes clients) lines → Each (TellsSo IsPlaced) (map line_of lines)
+placed_lines nodes clients [] bounded = tt
+placed_lines nodes clients (line ∷ lines) bounded = (placed_line nodes clients line bounded.0, placed_lines nodes clients lines bounded.1)
+
+-- ---- its rows
+
+module _ (ahead : Ahead) (words : ℕ → ℕ → ℕ × ℕ) (scenario : Scenario) (bounded : IsBounded scenario) where
+  -- a row that brings no order but at a position
+  abbrev IsPlacedRow : Row Mail OrderLine → Type 0
+  IsPlacedRow row = IsToldSo IsPlaced row.who row.event
+
+  placed_rows : (rows : Rows) → Lawful ahead words scenario rows → Each IsPlacedRow rows
+  placed_rows rows lawful =
+      told_induction IsPlaced (system_of ahead words scenario) (Each IsPlacedRow) (λ before row p told step. Each-append IsPlacedRow before (row ∷ []) p (told, tt)) (schedule scenario) rows
+      (placed_lines scenario.nodes scenario.clients scenario.lines (Each-from_All (IsBoundedLine scenario.nodes scenario.clients) scenario.lines bounded.lines)) tt lawful
+
+  -- what is queued for an order of the schedule is allowed by the owners of the whole journal
+  told_allowed : TakenOrdersAreAllowed → (rows : Rows) → Lawful ahead words scenario rows → ToldAreAllowed (record { owner = owner_in ahead scenario rows; request = section_op scenario }) ahead scenario rows
+  told_allowed law rows lawful before row later are line told low high node value_is r found taken stories =
+      let all = subst (Each IsPlacedRow) are (placed_rows rows lawful) in
+      let placed = subst (IsToldSo IsPlaced row.who) told (Each-among IsPlacedRow (before ++ row ∷ later) row all (Among-right row before (row ∷ later) (inl refl))) in
+      let takes : TakesOrder ahead scenario before row line node r = record { low = low; high = high; value_is = value_is; event_is = told; found = found; taken = taken } in
+      subst (λ (journal : Rows). IsAllowed (record { owner = owner_in ahead scenario journal; request = section_op scenario }) stories (group_of_order line.order) (ordered_command (next_name node.draws) line.number line.order)) (sym are)
+      (law ahead scenario before row later line node r takes placed (section_op scenario) stories)
+
+  -- so is what is queued for what policies order
+  wished_allowed : TakenWishesAreAllowed → WishesAreAtPositions → (rows : Rows) → WishedAreAllowed (record { owner = owner_in ahead scenario rows; request = section_op scenario }) ahead scenario rows
+  wished_allowed law positions rows before row later are event low high node value_is older newer r replicas line wished taken stories =
+      let name = next_name (names_after_ticks node.policy node.draws older) in
+      let placed = positions node.policy r line wished in
+      let takes : TakesWish ahead scenario before row line node older newer r = record { low = low; high = high; value_is = value_is; event_is = event; replicas_are = replicas; wished = wished; taken = taken } in
+      subst (λ (journal : Rows). IsAllowed (record { owner = owner_in ahead scenario journal; request = section_op scenario }) stories (name_of r) (ordered_command name line.number line.order)) (sym are)
+      (law ahead scenario before row later line node older newer r takes placed (section_op scenario) stories)
+
+  -- both
+  pub orders_allowed : TakenOrdersAreAllowed → TakenWishesAreAllowed → WishesAreAtPositions → (rows : Rows) → Lawful ahead words scenario rows → OrdersAreAllowed (record { owner = owner_in ahead scenario rows; request = section_op scenario }) ahead scenario rows
+  orders_allowed told wished positions rows lawful = record { told = told_allowed told rows lawful; wished = wished_allowed wished positions rows }

@@ -1,0 +1,11 @@
+-- Re-exports of the definitions of this crate that others cite.
+pub use Rattle.sc_law_groups.specs.whole.Begins.{BeginsWell, section_op, IsReady, IsFresh, HasSeats, AsksAre, op_or_get}
+pub use Rattle.sc_law_groups.specs.whole.Laws.{MembersStayRosters, LawfulJournalsDecideInTurn, LawfulJournalsAreSound, LawfulJournalsHoldBeside}
+pub use Rattle.sc_law_groups.specs.whole.Orders.{OrdersAreAllowed, ToldAreAllowed, WishedAreAllowed}
+pub use Rattle.sc_law_groups.specs.whole.Parameters.{MayQueue, IsHeardAt, stories_at, IsIssuedCall, IsHeard}
+pub use Rattle.sc_law_groups.specs.whole.Parties.{PartiesAreApart, MergesFit}
+pub use Rattle.sc_law_groups.specs.whole.SplitExample.{split_scenario, split_example}
+pub use Rattle.sc_law_groups.specs.whole.StartLaws.{ValidScenariosBeginWell}
+pub use Rattle.sc_law_groups.specs.whole.Texts.{election_text, join_text, two_text, split_text}
+pub use Rattle.sc_law_groups.specs.whole.TwoGroups.{two_scenario, two_example}
+pub use Rattle.sc_law_groups.specs.whole.Valid.{ValidJournalsAreSound, ValidEntriesAreLogs}

@@ -1,0 +1,2 @@
+pub mod QueueProofs
+pub mod RefusalProofs

@@ -1,0 +1,72 @@
+-- What holds of a replica with its mails, and is kept by the parts of a row, is kept by the row.
+use Rattle.std.proofs.Common.{ℕ, ◌||◌, not, nat_le, nat_lt, Bool, true, List, [], ◌∷◌, filter, Option, Some, None}
+use Rattle.sc_node_table.specs.Values.{Ballot, Command}
+use Rattle.sc_base.specs.Definitions.{is_member}
+use Rattle.sc_paxos_words.specs.Definitions.{without_flight_at, entry_at, prepared}
+use Rattle.sc_node_table.specs.Definitions.{welcomed, slot_lost, landed, executed_one, next_child, next_ready, ending, executed_ready, all_ready, executed, install_to, welcomed_all, pumped, put_back, ReplicaState, Place, Executed, childless, members, next, flying, taught, most_taught, ask_answered, ask_row, same_command, without_slot, promise_to, promised}
+use Rattle.sc_law_walks.proofs.Ways.{either_way}
+
+-- a place with nothing in flight or ready at a slot
+abbrev pub cleared : ℕ → Place → Place
+cleared slot (r, mails) = (record r { leader = without_flight_at slot r.leader; ready = without_slot r.ready slot }, mails)
+
+module _ (F : Place → Type 0) where
+  -- what holds of a replica with its mail and the children that are made
+  abbrev FAfter : Executed → Type 0
+  FAfter step = F step.0
+
+  -- those that an entry added are welcomed
+  pub welcomed_place : ((nodes : List ℕ) (place : Place) → F place → F (welcomed_all nodes place)) → (counted : Bool) (nodes : List ℕ) (place : Place) → F place → F (welcomed counted nodes place)
+  unfolding welcomed
+  welcomed_place welcomes counted nodes (r, mails) f =
+      either_way F counted (welcomed_all (filter (λ node. not (is_member nodes node)) (members r)) (r, mails)) (r, mails) (welcomes (filter (λ node. not (is_member nodes node)) (members r)) (r, mails) f) f
+
+  -- a prepare is answered by the executed state, or by the acceptor
+  pub promised_place : (from : ℕ) (ballot : Ballot) (from_slot : ℕ) (place : Place) → F (install_to from place) → F (promise_to from ballot (prepared ballot from_slot place.0.acceptor) place) → F (promised from ballot from_slot place)
+  unfolding promised
+  promised_place from ballot from_slot (r, mails) install promise =
+      either_way F (nat_le from_slot r.acceptor.floor) (install_to from (r, mails)) (promise_to from ballot (prepared ballot from_slot r.acceptor) (r, mails)) install promise
+
+  -- who asks is taught, or sent the executed state
+  answered_by : (o : Option Command) (from slot : ℕ) (place : Place) → F (install_to from place) → F (place.0, taught most_taught place.0 from slot place.1) → F (ask_answered o from slot place)
+  answered_by None from slot place install teach = install
+  answered_by (Some command) from slot (r, mails) install teach = teach
+
+  pub asked_place : (from slot : ℕ) (place : Place) → F place → F (install_to from place) → F (place.0, taught most_taught place.0 from slot place.1) → F (ask_row from slot place)
+  unfolding ask_row
+  asked_place from slot (r, mails) f install teach =
+      either_way F (nat_lt slot (next r)) (ask_answered (entry_at slot r.log) from slot (r, mails)) (r, mails) (answered_by (entry_at slot r.log) from slot (r, mails) install teach) f
+
+  -- ---- a slot that is decided: O holds of what was under way there, if anything was
+
+  module _ (O : Option Command → Type 0) (back : (command : Command) (place : Place) → O (Some command) → F place → F (put_back command place.0, place.1)) where
+    lost_by : (counted : Bool) (command : Command) (o : Option Command) (place : Place) → O o → F place → F (slot_lost counted command o place.0, place.1)
+    lost_by counted command None place k f = f
+    lost_by counted command (Some other) (r, mails) k f =
+        either_way (λ (x : ReplicaState). F (x, mails)) (counted || same_command other command) r (put_back other r) f (back other (r, mails) k f)
+
+    -- what was under way there goes back, if it lost the slot
+    pub landed_place : (counted : Bool) (slot : ℕ) (command : Command) (place : Place) → O (flying place.0 slot) → F (cleared slot place) → F (landed counted slot command place)
+    unfolding landed
+    landed_place counted slot command (r, mails) k f = lost_by counted command (flying r slot) (cleared slot (r, mails)) k f
+
+  -- ---- an execution: O holds of what is ready next, if anything is
+
+  module _ (O : Option Command → Type 0) (ready : (place : Place) → F place → O (next_ready place.0)) (one : (command : Command) (place : Place) → O (Some command) → F place → F (executed_one true command place))
+      (pumps : (place : Place) → F place → F (pumped place)) where
+    ready_by : (es : List (ℕ × Command)) (place : Place) (o : Option Command) → O o → F place → ((p : Place) → F p → F (executed_ready es p).0)
+        → FAfter (elim o [ None ↦ childless place | Some command ↦ ending (next_child command place.0) (executed_ready es (executed_one true command place)) ])
+    ready_by es place None k f more = f
+    ready_by es place (Some command) k f more = pumps (executed_ready es (executed_one true command place)).0 (more (executed_one true command place) (one command place k f))
+
+    ready_places : (es : List (ℕ × Command)) (place : Place) → F place → F (executed_ready es place).0
+    unfolding executed_ready
+    ready_places [] place f = f
+    ready_places (e ∷ es) place f = ready_by es place (next_ready place.0) (ready place f) f (λ p g. ready_places es p g)
+
+    -- an entry, what was ready after it, and the pump
+    pub executed_place : (counted : Bool) (command : Command) (place : Place) → F (executed_one counted command place) → F (executed counted command place).0
+    unfolding executed
+    executed_place counted command place f =
+        let after : Place = executed_one counted command place in
+        pumps (all_ready after).0 (ready_places after.0.ready after f)

@@ -1,0 +1,289 @@
+-- What of a replica's table leaves its group and its log, and so is no entry.
+use Rattle.std.proofs.Common.{ℕ, ◌+◌, ◌-◌, ◌^◌, ◌&&◌, not, nat_le, eqb, Bool, true, false, cond, List, [], ◌∷◌, ◌++◌, Option, Some, None}
+use Rattle.std.specs.Prelude.{is_some}
+use Rattle.std.specs.List.{filter, list_any}
+use Rattle.sc_node_table.specs.Values.{Ballot, Draw, Op, Offer, Watch, Command, Noop, Call, Join, Leave, Split, Begin, Prepared, RecordVote, GiveUp, Finish, Watched, RecordWatch, Effect, Route, ToldResult, Outcome, Past, Vote, AnswerBody, PrepareAnswer, AcceptAnswer, Must, Gap, Report}
+use Rattle.sc_cmd.specs.declared.votes.Past.TheVariants as Cast
+use Rattle.sc_cmd.specs.declared.votes.Vote.TheVariants as Votes
+use Rattle.sc_mail.specs.declared.bodies.AnswerBody.TheVariants as Answers
+use Rattle.sc_base.specs.Definitions.{is_member, least_of}
+use Rattle.sc_paxos_words.specs.declared.answers.PrepareAnswer.TheVariants as Prepared
+use Rattle.sc_paxos_words.specs.declared.answers.AcceptAnswer.TheVariants as Asked
+use Rattle.sc_paxos_words.specs.declared.answers.Must.TheVariants.{Value, Free as Open}
+use Rattle.sc_paxos_words.specs.Definitions.{AcceptorState, accepted as accepted_by, below, LeaderState, promise_counted, must, prepared}
+use Rattle.sc_node_table.specs.Definitions.{has_act, act_queued, elected, ended, stopped, saw, answer_of, told_call, order_result, told_effect, announced, learnt_to, welcomed, slot_lost, left_gone, left, is_among, looked_for, looked, install_to, asked_to_promise, welcomed_all, Found, is_act, from_calls, from_acts, from_queues, found_by, found_for, offered, pumped_from, pumped, put_back, call_of, without_call, ReplicaState, Place, next, members, settled, may_offer, taken_at, under_way, is_idle, last_slot, refused_at, queued, requested, request_row, ask_row, spoken, noted_outcome, standing_vote, sent_elsewhere, offered_by, offer_row, watched_by, watch_row, awaits_vote, awaits_watch, vote_met, vote_row, watch_met, watched_row, elsewhere_row, is_bound, outcome_row, hinted, promise_to, promised, prepare_row, accepted_to, took, accept_row, leads, promise_row, nack_row}
+use Rattle.sc_node_table.specs.declared.Before.{Before}
+use Rattle.sc_law_walks.proofs.Lemmas.{asked_place, either_way}
+
+-- P speaks of a replica's group, its log and its number alone
+module _ (P : ReplicaState → Type 0) (any : (r : ReplicaState) (acceptor : AcceptorState Command) (hint : Option ℕ) (top : Ballot) (running : Bool) (leader : LeaderState Command) (ready : List (ℕ × Command)) (acts calls : List Command) (waits : ℕ)
+    → P r → P (record r { acceptor = acceptor; hint = hint; top = top; running = running; leader = leader; ready = ready; acts = acts; calls = calls; waits = waits })) where
+  abbrev pub F : Place → Type 0
+  F place = P place.0
+
+  back : (command : Command) (r : ReplicaState) → P r → P (put_back command r)
+  unfolding put_back
+  back Noop r p = p
+  back (Call client seq op) r p = any r r.acceptor r.hint r.top r.running r.leader r.ready r.acts _ r.waits p
+  back (Join node order) r p = any r r.acceptor r.hint r.top r.running r.leader r.ready r.acts (Join node order ∷ r.calls) r.waits p
+  back (Leave node order) r p = any r r.acceptor r.hint r.top r.running r.leader r.ready r.acts (Leave node order ∷ r.calls) r.waits p
+  back (Split at child order) r p = any r r.acceptor r.hint r.top r.running r.leader r.ready r.acts (Split at child order ∷ r.calls) r.waits p
+  back (Begin tx body order) r p = any r r.acceptor r.hint r.top r.running r.leader r.ready r.acts (Begin tx body order ∷ r.calls) r.waits p
+  back (Prepared tx offer) r p = any r r.acceptor r.hint r.top r.running r.leader r.ready (Prepared tx offer ∷ r.acts) r.calls r.waits p
+  back (RecordVote tx vote by) r p = any r r.acceptor r.hint r.top r.running r.leader r.ready (RecordVote tx vote by ∷ r.acts) r.calls r.waits p
+  back (GiveUp tx) r p = any r r.acceptor r.hint r.top r.running r.leader r.ready (GiveUp tx ∷ r.acts) r.calls r.waits p
+  back (Finish tx outcome) r p = any r r.acceptor r.hint r.top r.running r.leader r.ready (Finish tx outcome ∷ r.acts) r.calls r.waits p
+  back (Watched tx watch) r p = any r r.acceptor r.hint r.top r.running r.leader r.ready (Watched tx watch ∷ r.acts) r.calls r.waits p
+  back (RecordWatch tx vote by) r p = any r r.acceptor r.hint r.top r.running r.leader r.ready (RecordWatch tx vote by ∷ r.acts) r.calls r.waits p
+
+  -- ---- leaders
+
+  pub elects : (place : Place) → F place → F (elected place)
+  unfolding elected
+  elects (r, mails) p = either_way F (eqb r.top.round (2 ^ 32 - 1)) _ _ p (any r r.acceptor (Some r.me) _ true _ [] r.acts r.calls 0 p)
+
+  pub ends : (hint : Option ℕ) (answer : AnswerBody) (place : Place) → F place → F (ended hint answer place)
+  unfolding ended
+  ends hint answer (r, mails) p = any r r.acceptor hint r.top false _ [] [] [] r.waits p
+
+  stops : (hint : Option ℕ) (place : Place) → F place → F (stopped hint place)
+  stops hint place p = ends hint (Answers.NotLeader hint) place p
+
+  pub sees : (ballot : Ballot) (place : Place) → F place → F (saw ballot place)
+  unfolding saw
+  sees ballot (r, mails) p =
+      let seen : ReplicaState = cond (below r.top ballot) (record r { top = ballot }) r in
+      let k : P seen = either_way P (below r.top ballot) (record r { top = ballot }) r (any r r.acceptor r.hint ballot r.running r.leader r.ready r.acts r.calls r.waits p) p in
+      either_way F (r.running && below r.leader.ballot ballot) (stopped (Some ballot.node) (seen, mails)) (seen, mails) (stops (Some ballot.node) (seen, mails) k) k
+
+  pub state_sent : (node : ℕ) (place : Place) → F place → F (install_to node place)
+  unfolding install_to
+  state_sent node (r, mails) p = p
+
+  -- ---- the pump
+
+  abbrev FF : Found → Type 0
+  FF found = F found.1
+
+  calls_find : (place : Place) → F place → FF (from_calls place)
+  unfolding from_calls
+  calls_find (r, mails) p = any r r.acceptor r.hint r.top r.running r.leader r.ready r.acts _ r.waits p
+
+  acts_find : (acts : List Command) (place : Place) → F place → FF (from_acts acts place)
+  acts_find [] place p = calls_find place p
+  acts_find (act ∷ acts) (r, mails) p = either_way FF (is_idle r) (Some act, (record r { acts = acts }, mails)) (None, (r, mails)) (any r r.acceptor r.hint r.top r.running r.leader r.ready acts r.calls r.waits p) p
+
+  queues_find : (place : Place) → F place → FF (from_queues place)
+  unfolding from_queues
+  queues_find (r, mails) p = either_way FF (list_any is_act (under_way r)) _ _ p (acts_find r.acts (r, mails) p)
+
+  by_must : (m : Must Command) (place : Place) → F place → FF (found_by m place)
+  by_must (Value command) place p = p
+  by_must Gap place p = p
+  by_must Open place p = queues_find place p
+
+  slot_finds : (slot : ℕ) (place : Place) → F place → FF (found_for slot place)
+  unfolding found_for
+  slot_finds slot (r, mails) p = by_must (must slot r.leader) (r, mails) p
+
+  slot_offered : (slot : ℕ) (set : List ℕ) (command : Command) (place : Place) → F place → F (offered slot set command place)
+  unfolding offered
+  slot_offered slot set command (r, mails) p = any r r.acceptor r.hint r.top r.running _ r.ready r.acts r.calls r.waits p
+
+  pump_by : (slot : ℕ) (set : List ℕ) (sets : List (List ℕ)) (found : Found) → FF found → ((place : Place) → F place → F (pumped_from (slot + 1) sets place))
+      → F (elim (found.0) [ None ↦ found.1 | Some command ↦ pumped_from (slot + 1) sets (offered slot set command found.1) ])
+  pump_by slot set sets (None, place) p more = p
+  pump_by slot set sets (Some command, place) p more = more (offered slot set command place) (slot_offered slot set command place p)
+
+  from_pumps : (slot : ℕ) (sets : List (List ℕ)) (place : Place) → F place → F (pumped_from slot sets place)
+  unfolding pumped_from
+  from_pumps slot [] place p = p
+  from_pumps slot (set ∷ sets) place p =
+      either_way F (is_some (taken_at place.0 slot)) _ _ (from_pumps (slot + 1) sets place p)
+      (either_way F (may_offer place.0 set) _ _ (pump_by slot set sets (found_for slot place) (slot_finds slot place p) (λ q k. from_pumps (slot + 1) sets q k)) p)
+
+  pub pumps : (place : Place) → F place → F (pumped place)
+  unfolding pumped
+  pumps place p = either_way F (settled place.0 && nat_le (next place.0) last_slot) (pumped_from (next place.0) place.0.sets place) place (from_pumps (next place.0) place.0.sets place p) p
+
+  -- ---- an entry, but for the entry itself
+
+  call_told : (answer : Option AnswerBody) (command : Command) (place : Place) → F place → F (told_call answer command place)
+  unfolding told_call
+  call_told (Some answer) (Call client seq op) (r, mails) p = p
+  call_told None (Call client seq op) (r, mails) p = back (Call client seq op) r p
+  call_told (Some answer) _ place p = p
+  call_told None _ place p = p
+
+  effect_told : (result : Option ToldResult) (command : Command) (place : Place) → F place → F (told_effect result command place)
+  unfolding told_effect
+  effect_told None command place p = p
+  effect_told (Some result) command (r, mails) p = p
+
+  pub announces : (counted : Bool) (effect : Effect) (command : Command) (place : Place) → F place → F (announced counted effect command place)
+  unfolding announced
+  announces counted effect command place p =
+      effect_told (order_result command effect) command (cond counted (told_call (answer_of effect) command place) place)
+      (either_way F counted (told_call (answer_of effect) command place) place (call_told (answer_of effect) command place p) p)
+
+  pub speaks : (counted : Bool) (before : Before) (effect : Effect) (command : Command) (place : Place) → F place → F (spoken counted before effect command place)
+  unfolding spoken
+  speaks counted before effect command (r, mails) p = p
+
+  pub teaches : (counted : Bool) (nodes : List ℕ) (slot : ℕ) (command : Command) (place : Place) → F place → F (learnt_to counted nodes slot command place)
+  unfolding learnt_to
+  teaches counted nodes slot command (r, mails) p = either_way F counted _ (r, mails) p p
+
+  asks_promise : (node : ℕ) (place : Place) → F place → F (asked_to_promise node place)
+  asks_promise node (r, mails) p = either_way F r.leader.is_first (r, mails) _ p p
+
+  all_welcomed : (nodes : List ℕ) (place : Place) → F place → F (welcomed_all nodes place)
+  unfolding welcomed_all
+  all_welcomed [] place p = p
+  all_welcomed (node ∷ nodes) place p = all_welcomed nodes (asked_to_promise node (install_to node place)) (asks_promise node (install_to node place) (state_sent node place p))
+
+  pub welcomes : (counted : Bool) (before : List ℕ) (place : Place) → F place → F (welcomed counted before place)
+  unfolding welcomed
+  welcomes counted before (r, mails) p =
+      either_way F counted (welcomed_all (filter (λ node. not (is_member before node)) (members r)) (r, mails)) (r, mails) (all_welcomed (filter (λ node. not (is_member before node)) (members r)) (r, mails) p) p
+
+  pub loses : (counted : Bool) (command : Command) (o : Option Command) (r : ReplicaState) → P r → P (slot_lost counted command o r)
+  loses counted command None r p = p
+  loses counted command (Some other) r p = either_way P _ r (put_back other r) p (back other r p)
+
+  gone_leaves : (gone : Option Route) (place : Place) → F place → F (left_gone gone place)
+  gone_leaves (Some into) place p = ends None (Answers.Gone into) place p
+  gone_leaves None (r, mails) p = either_way F (is_member (members r) r.me) (r, mails) (stopped (Some (least_of (members r))) (r, mails)) p (stops (Some (least_of (members r))) (r, mails) p)
+
+  pub leaves : (place : Place) → F place → F (left place)
+  unfolding left
+  leaves (r, mails) p = either_way F r.running (left_gone r.group.core.gone (r, mails)) (r, mails) (gone_leaves r.group.core.gone (r, mails) p) p
+
+  with_hint : (r : ReplicaState) (hint : Option ℕ) → P r → P (record r { hint = hint })
+  with_hint r hint p = any r r.acceptor hint r.top r.running r.leader r.ready r.acts r.calls r.waits p
+
+  looks_for : (gone : Option Route) (place : Place) → F place → F (looked_for gone place)
+  looks_for (Some into) place p = p
+  looks_for None (r, mails) p =
+      either_way F (is_among (members r) r.hint) (r, mails) _ p
+      (either_way F (eqb (least_of (members r)) r.me) (elected (record r { hint = Some r.me }, mails)) (record r { hint = Some (least_of (members r)) }, mails) (elects (record r { hint = Some r.me }, mails) (with_hint r (Some r.me) p))
+      (with_hint r (Some (least_of (members r))) p))
+
+  pub looks : (place : Place) → F place → F (looked place)
+  unfolding looked
+  looks (r, mails) p = either_way F r.running (r, mails) (looked_for r.group.core.gone (r, mails)) p (looks_for r.group.core.gone (r, mails) p)
+
+  -- ---- rows that execute nothing
+
+  queues_call : (o : Option ℕ) (client seq : ℕ) (op : Op) (place : Place) → F place → F (queued o client seq op place)
+  unfolding queued
+  queues_call None client seq op (r, mails) p = pumps (record r { calls = r.calls ++ Call client seq op ∷ [] }, mails) (any r r.acceptor r.hint r.top r.running r.leader r.ready r.acts (r.calls ++ Call client seq op ∷ []) r.waits p)
+  queues_call (Some other) client seq op (r, mails) p =
+      either_way F (nat_le seq other) (r, mails) _ p
+      (pumps (record r { calls = without_call r.calls client ++ Call client seq op ∷ [] }, mails) (any r r.acceptor r.hint r.top r.running r.leader r.ready r.acts (without_call r.calls client ++ Call client seq op ∷ []) r.waits p))
+
+  requests : (o : Option AnswerBody) (client seq : ℕ) (op : Op) (place : Place) → F place → F (requested o client seq op place)
+  unfolding requested
+  requests (Some answer) client seq op (r, mails) p = p
+  requests None client seq op (r, mails) p = queues_call (call_of r.calls client) client seq op (r, mails) p
+
+  pub request_rests : (client seq : ℕ) (op : Op) (place : Place) → F place → F (request_row client seq op place)
+  unfolding request_row
+  request_rests client seq op (r, mails) p = requests (refused_at r.group.core.gone op r) client seq op (r, mails) p
+
+  hints : (ballot : Ballot) (r : ReplicaState) → P r → P (hinted ballot r)
+  hints ballot r p = either_way P r.running r (record r { hint = Some ballot.node }) p (with_hint r (Some ballot.node) p)
+
+  with_acceptor : (r : ReplicaState) (acceptor : AcceptorState Command) → P r → P (record r { acceptor = acceptor })
+  with_acceptor r acceptor p = any r acceptor r.hint r.top r.running r.leader r.ready r.acts r.calls r.waits p
+
+  promises_to : (from : ℕ) (ballot : Ballot) (answer : PrepareAnswer Command × AcceptorState Command) (place : Place) → F place → F (promise_to from ballot answer place)
+  promises_to from ballot (Prepared.Promise reports, acceptor) (r, mails) p = hints ballot (record r { acceptor = acceptor }) (with_acceptor r acceptor p)
+  promises_to from ballot (Prepared.Ignored was, acceptor) (r, mails) p = with_acceptor r acceptor p
+
+  promises : (from : ℕ) (ballot : Ballot) (from_slot : ℕ) (place : Place) → F place → F (promised from ballot from_slot place)
+  unfolding promised
+  promises from ballot from_slot (r, mails) p =
+      either_way F (nat_le from_slot r.acceptor.floor) _ _ (state_sent from (r, mails) p) (promises_to from ballot (prepared ballot from_slot r.acceptor) (r, mails) p)
+
+  pub prepare_rests : (from : ℕ) (ballot : Ballot) (from_slot : ℕ) (place : Place) → F place → F (prepare_row from ballot from_slot place)
+  unfolding prepare_row
+  prepare_rests from ballot from_slot place p = promises from ballot from_slot (saw ballot place) (sees ballot place p)
+
+  accepts_to : (from : ℕ) (ballot : Ballot) (slot : ℕ) (answer : AcceptAnswer × AcceptorState Command) (place : Place) → F place → F (accepted_to from ballot slot answer place)
+  accepts_to from ballot slot (Asked.Accepted, acceptor) (r, mails) p = hints ballot (record r { acceptor = acceptor }) (with_acceptor r acceptor p)
+  accepts_to from ballot slot (Asked.Ignored was, acceptor) (r, mails) p = with_acceptor r acceptor p
+
+  takes_report : (from : ℕ) (report : Report Command) (place : Place) → F place → F (took from report place)
+  unfolding took
+  takes_report from report (r, mails) p =
+      either_way F (nat_le report.slot r.acceptor.floor) _ _ (state_sent from (r, mails) p) (accepts_to from report.ballot report.slot (accepted_by report r.acceptor) (r, mails) p)
+
+  pub accept_rests : (from : ℕ) (ballot : Ballot) (slot : ℕ) (command : Command) (place : Place) → F place → F (accept_row from ballot slot command place)
+  unfolding accept_row
+  accept_rests from ballot slot command place p = takes_report from (record { slot = slot; ballot = ballot; value = command }) (saw ballot place) (sees ballot place p)
+
+  pub promise_rests : (from : ℕ) (ballot : Ballot) (reports : List (Report Command)) (place : Place) → F place → F (promise_row from ballot reports place)
+  unfolding promise_row
+  promise_rests from ballot reports (r, mails) p =
+      either_way F (leads ballot r) (pumped (record r { leader = (promise_counted from ballot reports r.leader).1 }, mails)) (r, mails)
+      (pumps (record r { leader = (promise_counted from ballot reports r.leader).1 }, mails) (any r r.acceptor r.hint r.top r.running (promise_counted from ballot reports r.leader).1 r.ready r.acts r.calls r.waits p)) p
+
+  pub nack_rests : (ballot : Ballot) (place : Place) → F place → F (nack_row ballot place)
+  unfolding nack_row
+  nack_rests ballot place p = sees ballot place p
+
+  pub ask_rests : (from slot : ℕ) (place : Place) → F place → F (ask_row from slot place)
+  ask_rests from slot (r, mails) p = asked_place F from slot (r, mails) p (state_sent from (r, mails) p) p
+
+  act_queues : (act : Command) (place : Place) → F place → F (act_queued act place)
+  unfolding act_queued
+  act_queues act (r, mails) p =
+      pumps (cond (has_act act r) r (record r { acts = r.acts ++ act ∷ [] }), mails)
+      (either_way P (has_act act r) r (record r { acts = r.acts ++ act ∷ [] }) p (any r r.acceptor r.hint r.top r.running r.leader r.ready (r.acts ++ act ∷ []) r.calls r.waits p))
+
+  offers_by : (o : Option Past) (from : ℕ) (tx : Draw) (offer : Offer) (place : Place) → F place → F (offered_by o from tx offer place)
+  offers_by (Some vote) from tx offer (r, mails) p = p
+  offers_by None from tx offer (r, mails) p = either_way F r.running (act_queued (Prepared tx offer) (r, mails)) (sent_elsewhere from tx offer.coord (r, mails)) (act_queues (Prepared tx offer) (r, mails) p) p
+
+  pub offer_rests : (from : ℕ) (tx : Draw) (offer : Offer) (place : Place) → F place → F (offer_row from tx offer place)
+  unfolding offer_row
+  offer_rests from tx offer (r, mails) p = offers_by (standing_vote r.group.core tx) from tx offer (r, mails) p
+
+  watches_by : (o : Option Past) (from : ℕ) (tx : Draw) (watch : Watch) (place : Place) → F place → F (watched_by o from tx watch place)
+  watches_by (Some vote) from tx watch (r, mails) p = p
+  watches_by None from tx watch (r, mails) p = either_way F r.running (act_queued (Watched tx watch) (r, mails)) (sent_elsewhere from tx watch.coord (r, mails)) (act_queues (Watched tx watch) (r, mails) p) p
+
+  pub watch_rests : (from : ℕ) (tx : Draw) (watch : Watch) (place : Place) → F place → F (watch_row from tx watch place)
+  unfolding watch_row
+  watch_rests from tx watch (r, mails) p = watches_by (standing_vote r.group.core tx) from tx watch (r, mails) p
+
+  files : (act : Command) (wanted : Bool) (place : Place) → F place → F (cond (place.0.running && wanted) (act_queued act place) place)
+  files act wanted place p = either_way F (place.0.running && wanted) (act_queued act place) place (act_queues act place p) p
+
+  votes_met : (vote : Vote) (o : Option Outcome) (from : ℕ) (tx part : Draw) (place : Place) → F place → F (vote_met vote o from tx part place)
+  votes_met (Votes.Yes frozen) (Some outcome) from tx part (r, mails) p = p
+  votes_met (Votes.Yes frozen) None from tx part (r, mails) p = files (RecordVote tx (Votes.Yes frozen) from) (awaits_vote r.group.core.lock tx) (r, mails) p
+  votes_met (Votes.No why) outcome from tx part (r, mails) p = files (RecordVote tx (Votes.No why) from) (awaits_vote r.group.core.lock tx) (r, mails) p
+
+  pub vote_rests : (from : ℕ) (tx part : Draw) (vote : Vote) (place : Place) → F place → F (vote_row from tx part vote place)
+  unfolding vote_row
+  vote_rests from tx part vote (r, mails) p = votes_met vote (noted_outcome r.group.core tx) from tx part (r, mails) p
+
+  watchers_met : (vote : Past) (o : Option Outcome) (from : ℕ) (tx part : Draw) (place : Place) → F place → F (watch_met vote o from tx part place)
+  watchers_met Cast.Yes (Some outcome) from tx part (r, mails) p = p
+  watchers_met Cast.Yes None from tx part (r, mails) p = files (RecordWatch tx Cast.Yes from) (awaits_watch r.group.core.lock tx) (r, mails) p
+  watchers_met (Cast.No why) outcome from tx part (r, mails) p = files (RecordWatch tx (Cast.No why) from) (awaits_watch r.group.core.lock tx) (r, mails) p
+  watchers_met Cast.Ended outcome from tx part (r, mails) p = files (RecordWatch tx Cast.Ended from) (awaits_watch r.group.core.lock tx) (r, mails) p
+
+  pub watched_rests : (from : ℕ) (tx part : Draw) (vote : Past) (place : Place) → F place → F (watched_row from tx part vote place)
+  unfolding watched_row
+  watched_rests from tx part vote (r, mails) p = watchers_met vote (noted_outcome r.group.core tx) from tx part (r, mails) p
+
+  pub elsewhere_rests : (from : ℕ) (tx : Draw) (hint : Option ℕ) (place : Place) → F place → F (elsewhere_row from tx hint place)
+  unfolding elsewhere_row
+  elsewhere_rests from tx hint (r, mails) p = either_way F (settled r) _ (r, mails) p p
+
+  pub outcome_rests : (tx : Draw) (outcome : Outcome) (place : Place) → F place → F (outcome_row tx outcome place)
+  unfolding outcome_row
+  outcome_rests tx outcome (r, mails) p = files (Finish tx outcome) (is_bound r.group.core.lock tx) (r, mails) p

@@ -1,0 +1,16 @@
+-- The replicas of players are those of the nodes.
+use Rattle.std.specs.Prelude.{◌≡◌, ℕ}
+use Rattle.sc_node_table.specs.Values.{Draw}
+use Rattle.sc_scenario.specs.Definitions.{IsBounded}
+use Rattle.sc_scenario.specs.declared.scenarios.Scenario.{Scenario}
+use Rattle.sc_sound.specs.Definitions.{births, as_nodes}
+use Rattle.sc_live_steps.specs.calm.Definitions.{Rows}
+use Rattle.sc_live_journals.specs.rows.Definitions.{view_at}
+use Rattle.sc_live_journals.specs.charts.Definitions.{replica_at as chart_replica}
+use Rattle.sc_live_answers.specs.Settings.{AreAtNodes}
+use Rattle.sc_live_plain.specs.Definitions.{replicas_after}
+
+-- after any rows of a scenario the replica of a group at a player is that of the node with its number, where all replicas are at nodes; and the chart has the same
+pub record ViewsAgree : Type 0 where
+  pub nodes : (scenario : Scenario) (rows : Rows) (name : Draw) (who : ℕ) → IsBounded scenario → AreAtNodes scenario rows → view_at (births as_nodes scenario) rows name who ≡ replicas_after scenario rows name who
+  pub charts : (scenario : Scenario) (rows : Rows) (name : Draw) (who : ℕ) → chart_replica (births as_nodes scenario) rows name who ≡ view_at (births as_nodes scenario) rows name who

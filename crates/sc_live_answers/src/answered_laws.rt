@@ -1,0 +1,50 @@
+//! Calm scenarios are answered, at their budget or where no line was cut off. Definitions and laws, no logic.
+ghost use Rattle.sc_live_answers.specs.Answered.{CalmJournalsGoOn, CalmLinesSettle, CalmRequestsAreAnswered, SettledRequestsAreAnswered};
+
+use sc_law_groups::valid_journals_are_sound;
+use sc_live_plain::{plain_journals_are_answered, plain_lines_end_quiet};
+use sc_scenario::valid_scenarios_are_bounded;
+
+/// Proves that a valid calm scenario at its budget that gives an order has charts as `AreCharted`
+/// asks, by which the rows of its lawful journals find what the potential needs, and that each
+/// lawful journal of it with no mail pending is a quiet journal (`IsQuietJournal`). The proof cuts
+/// a journal into segments, requests or one order, each from a quiet prefix on.
+pub fn calm_journals_go_on()
+    ensures { CalmJournalsGoOn }
+{
+    valid_scenarios_are_bounded();
+}
+
+/// Proves that in each lawful journal of a valid calm scenario at its budget no line of deliveries
+/// is cut off: each ends with no mail pending, in whichever order threads deliver. In such a
+/// journal each actor takes its mail in ascending order of number.
+pub fn calm_lines_settle()
+    ensures { CalmLinesSettle }
+{
+    calm_journals_go_on();
+    plain_lines_end_quiet();
+}
+
+/// Proves that in each whole lawful journal of a valid calm scenario at its budget every request
+/// is answered of a client whose `go` line is followed by a line of deliveries: the client kept a
+/// reply to each of its requests.
+pub fn calm_requests_are_answered()
+    ensures { CalmRequestsAreAnswered }
+{
+    valid_scenarios_are_bounded();
+    valid_journals_are_sound();
+    calm_lines_settle();
+    calm_journals_go_on();
+    plain_journals_are_answered();
+}
+
+/// In each whole journal of a valid calm scenario in which no line of deliveries was cut off, and
+/// that has at most 2^28 rows, every request of a client whose go line is followed by a line of
+/// deliveries is answered: the client kept a reply to each. No line needs room for a budget.
+pub fn settled_requests_are_answered()
+    ensures { SettledRequestsAreAnswered }
+{
+    valid_scenarios_are_bounded();
+    valid_journals_are_sound();
+    calm_journals_go_on();
+}

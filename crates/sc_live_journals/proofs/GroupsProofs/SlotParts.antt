@@ -1,0 +1,282 @@
+-- What a replica has in flight and ready stays from its next slot on by the parts of its rows.
+use Rattle.std.proofs.Common.{◌≡◌, ℕ, ◌+◌, ◌-◌, ◌^◌, ◌≤◌, ◌&&◌, nat_le, eqb, Bool, true, false, true≢false, cond, List, [], ◌∷◌, ◌++◌, length, Option, Some, None, refl, sym, ◌∙◌, ap, subst, arith}
+use Rattle.std.specs.Prelude.{is_some}
+use Rattle.std.specs.List.{list_any}
+use Rattle.std.proofs.lemmas.Bool.{cond_both, and_parts}
+use Rattle.sc_node_table.specs.Values.{Ballot, Command, Noop, Call, Effect, Route, ToldResult, AnswerBody, Mail, Must, Gap, Flight}
+use Rattle.sc_mail.specs.declared.bodies.AnswerBody.TheVariants as Says
+use Rattle.sc_base.specs.Definitions.{is_member, least_of}
+use Rattle.sc_machine_table.specs.Definitions.{applied}
+use Rattle.sc_paxos_words.specs.declared.answers.Must.TheVariants.{Value, Free as Open}
+use Rattle.sc_paxos_words.specs.Definitions.{below, must, flight_at, new_leader, without_flight}
+use Rattle.sc_node_table.specs.Definitions.{has_act, with_act, act_queued, elected, ended, stopped, saw, entered, answer_of, told_call, order_result, told_effect, announced, learnt_to, welcomed, landed, left_gone, left, is_among, looked_for, looked, executed_one, has_room, next_ready, next_child, ending, executed_ready, all_ready, executed, install_to, asked_to_promise, welcomed_all, Found, is_act, from_calls, from_acts, from_queues, found_by, found_for, offered, pumped_from, pumped, put_back, ReplicaState, Place, Executed, childless, flying, next, members, settled, may_offer, first_set, taken_at, under_way, is_idle, last_slot, forgotten, at_slot, without_slot, before_of, spoken}
+use Rattle.sc_node_table.specs.declared.Before.{Before}
+use Rattle.sc_law_walks.proofs.Lemmas.{entered_next, welcomed_place, landed_place, either_way}
+use Rattle.sc_live_journals.specs.groups.Definitions.{HasFrom, IsSlotKept}
+use Rattle.sc_live_journals.proofs.GroupsProofs.SlotLists.{fly_past, fly_pushed, wait_past}
+use Rattle.sc_live_journals.proofs.GroupsProofs.Clearing.{none_mapped, none_first}
+use Rattle.sc_node_table.proofs.Lemmas.{one-shorter}
+use Rattle.sc_live_steps.proofs.FollowingProofs.Lemmas.{none_there as none_is}
+
+-- what is ready is not executed where nothing runs, or nothing is ready
+pub off_done : (r : ReplicaState) → r.running ≡ false → next_ready r ≡ None
+off_done r off = ap (λ b. cond (b && has_room r) (at_slot r.ready (next r)) None) off
+
+pub empty_done : (r : ReplicaState) → at_slot r.ready (next r) ≡ None → next_ready r ≡ None
+empty_done r e = either_way (λ (o : Option Command). o ≡ None) (r.running && has_room r) (at_slot r.ready (next r)) None e refl
+
+-- what is in flight or ready is so from n on, the next slot is m, and where d is true nothing that is ready is to be executed now
+module _ (n m : ℕ) (d : Bool) where
+  abbrev pub W : Place → Type 0
+  W place = HasFrom n place.0 × (next place.0 ≡ m) × (d ≡ true → next_ready place.0 ≡ None)
+
+  -- ---- what goes back
+
+  back_well : (command : Command) (r : ReplicaState) → W (r, []) → W (put_back command r, [])
+  unfolding put_back
+  back_well Noop r k = k
+  back_well _ r k = k
+
+  -- ---- leaders
+
+  pub ended_well : (hint : Option ℕ) (answer : AnswerBody) (place : Place) → W place → W (ended hint answer place)
+  unfolding ended
+  ended_well hint answer (r, mails) k = (((tt, tt), (tt, tt), λ off. (refl, refl)), k.1, λ e. refl)
+
+  pub elected_well : (place : Place) → W place → W (elected place)
+  unfolding elected
+  elected_well (r, mails) k =
+      let ballot : Ballot = record { round = r.top.round + 1; node = r.me } in
+      either_way W (eqb r.top.round (2 ^ 32 - 1)) _ _ k
+      (((tt, tt), (tt, tt), λ off. absurd (true≢false off)), k.1, λ e. empty_done (record r { top = ballot; hint = Some r.me; running = true; leader = new_leader ballot (next r); ready = []; waits = 0 }) refl)
+
+  pub saw_well : (ballot : Ballot) (place : Place) → W place → W (saw ballot place)
+  unfolding saw
+  saw_well ballot (r, mails) k =
+      let seen : ReplicaState = cond (below r.top ballot) (record r { top = ballot }) r in
+      let s : W (seen, mails) = either_way (λ (x : ReplicaState). W (x, mails)) (below r.top ballot) (record r { top = ballot }) r k k in
+      either_way W (r.running && below r.leader.ballot ballot) (stopped (Some ballot.node) (seen, mails)) (seen, mails) (ended_well (Some ballot.node) (Says.NotLeader (Some ballot.node)) (seen, mails) s) s
+
+  -- ---- the state is sent
+
+  pub sent_well : (node : ℕ) (place : Place) → W place → W (install_to node place)
+  unfolding install_to
+  sent_well node (r, mails) k = k
+
+  asked_well : (node : ℕ) (place : Place) → W place → W (asked_to_promise node place)
+  asked_well node (r, mails) k = either_way W r.leader.is_first _ _ k k
+
+  welcomed_well : (nodes : List ℕ) (place : Place) → W place → W (welcomed_all nodes place)
+  unfolding welcomed_all
+  welcomed_well [] place k = k
+  welcomed_well (node ∷ nodes) place k = welcomed_well nodes (asked_to_promise node (install_to node place)) (asked_well node (install_to node place) (sent_well node place k))
+
+  -- ---- what is reported of an entry
+
+  told_well : (answer : Option AnswerBody) (command : Command) (place : Place) → W place → W (told_call answer command place)
+  unfolding told_call put_back
+  told_well (Some answer) (Call client seq op) (r, mails) k = k
+  told_well None (Call client seq op) (r, mails) k = k
+  told_well (Some answer) _ place k = k
+  told_well None _ place k = k
+
+  effect_well : (result : Option ToldResult) (command : Command) (place : Place) → W place → W (told_effect result command place)
+  unfolding told_effect
+  effect_well None command place k = k
+  effect_well (Some result) command (r, mails) k = k
+
+  announced_well : (counted : Bool) (effect : Effect) (command : Command) (place : Place) → W place → W (announced counted effect command place)
+  unfolding announced
+  announced_well counted effect command place k =
+      effect_well (order_result command effect) command (cond counted (told_call (answer_of effect) command place) place) (either_way W counted (told_call (answer_of effect) command place) place (told_well (answer_of effect) command place k) k)
+
+  spoken_well : (counted : Bool) (before : Before) (effect : Effect) (command : Command) (place : Place) → W place → W (spoken counted before effect command place)
+  unfolding spoken
+  spoken_well counted before effect command (r, mails) k = k
+
+  learnt_well : (counted : Bool) (nodes : List ℕ) (slot : ℕ) (command : Command) (place : Place) → W place → W (learnt_to counted nodes slot command place)
+  unfolding learnt_to
+  learnt_well counted nodes slot command (r, mails) k = either_way W counted _ _ k k
+
+  gone_well : (gone : Option Route) (place : Place) → W place → W (left_gone gone place)
+  gone_well (Some into) place k = ended_well None (Says.Gone into) place k
+  gone_well None (r, mails) k = either_way W (is_member (members r) r.me) (r, mails) (stopped (Some (least_of (members r))) (r, mails)) k (ended_well (Some (least_of (members r))) (Says.NotLeader (Some (least_of (members r)))) (r, mails) k)
+
+  left_well : (place : Place) → W place → W (left place)
+  unfolding left
+  left_well (r, mails) k = either_way W r.running (left_gone r.group.core.gone (r, mails)) (r, mails) (gone_well r.group.core.gone (r, mails) k) k
+
+  looked_by : (gone : Option Route) (place : Place) → W place → W (looked_for gone place)
+  looked_by (Some into) place k = k
+  looked_by None (r, mails) k =
+      either_way W (is_among (members r) r.hint) (r, mails) _ k
+      (either_way W (eqb (least_of (members r)) r.me) (elected (record r { hint = Some r.me }, mails)) (record r { hint = Some (least_of (members r)) }, mails) (elected_well (record r { hint = Some r.me }, mails) k) k)
+
+  pub looked_well : (place : Place) → W place → W (looked place)
+  unfolding looked
+  looked_well (r, mails) k = either_way W r.running (r, mails) (looked_for r.group.core.gone (r, mails)) k (looked_by r.group.core.gone (r, mails) k)
+
+-- ---- the pump
+
+module _ (n : ℕ) (d : Bool) where
+  -- one that runs
+  abbrev Runs : Place → Type 0
+  Runs place = W n n d place × (place.0.running ≡ true)
+
+  module _ (slot : ℕ) where
+    -- a replica that runs, with nothing in flight or ready at a slot
+    abbrev Open_ : Place → Type 0
+    Open_ place = Runs place × (taken_at place.0 slot ≡ None)
+
+    abbrev FoundRuns : Found → Type 0
+    FoundRuns found = Open_ found.1
+
+    calls_well : (place : Place) → Open_ place → FoundRuns (from_calls place)
+    unfolding from_calls
+    calls_well (r, mails) k = k
+
+    acts_well : (acts : List Command) (place : Place) → Open_ place → FoundRuns (from_acts acts place)
+    acts_well [] place k = calls_well place k
+    acts_well (act ∷ acts) (r, mails) k = either_way FoundRuns (is_idle r) (Some act, (record r { acts = acts }, mails)) (None, (r, mails)) k k
+
+    queues_well : (place : Place) → Open_ place → FoundRuns (from_queues place)
+    unfolding from_queues
+    queues_well (r, mails) k = either_way FoundRuns (list_any is_act (under_way r)) (None, (r, mails)) (from_acts r.acts (r, mails)) k (acts_well r.acts (r, mails) k)
+
+    found_by_well : (what : Must Command) (place : Place) → Open_ place → FoundRuns (found_by what place)
+    found_by_well (Value command) place k = k
+    found_by_well Gap place k = k
+    found_by_well Open place k = queues_well place k
+
+    found_well : (place : Place) → Open_ place → FoundRuns (found_for slot place)
+    unfolding found_for
+    found_well (r, mails) k = found_by_well (must slot r.leader) (r, mails) k
+
+    offered_well : (set : List ℕ) (command : Command) (place : Place) → n ≤ slot → Open_ place → Runs (offered slot set command place)
+    unfolding offered
+    offered_well set command (r, mails) from k = (
+      (
+        (
+          fly_pushed n (record { slot = slot; value = command; voters = None }) r.leader.flights from (none_mapped (λ (flight : Flight Command). flight.value) (flight_at slot r.leader.flights) (none_first (flying r slot) (at_slot r.ready slot) k.1)) k.0.0.0.0,
+          k.0.0.0.1,
+          λ off. absurd (true≢false (sym k.0.1 ∙ off)),
+        ),
+        k.0.0.1,
+        k.0.0.2,
+      ),
+      k.0.1,
+    )
+
+    pump_by : (set : List ℕ) (sets : List (List ℕ)) (found : Found) → n ≤ slot → FoundRuns found → ((place : Place) → Runs place → Runs (pumped_from (slot + 1) sets place))
+        → Runs (elim (found.0) [ None ↦ found.1 | Some command ↦ pumped_from (slot + 1) sets (offered slot set command found.1) ])
+    pump_by set sets (None, place) from k more = k.0
+    pump_by set sets (Some command, place) from k more = more (offered slot set command place) (offered_well set command place from k)
+
+  from_well : (slot : ℕ) (sets : List (List ℕ)) (place : Place) → n ≤ slot → Runs place → Runs (pumped_from slot sets place)
+  unfolding pumped_from
+  from_well slot [] place from k = k
+  from_well slot (set ∷ sets) place from k =
+      cond_both (is_some (taken_at place.0 slot)) _ _ Runs (λ _. from_well (slot + 1) sets place (omega (arith, from)) k)
+      (λ none. either_way Runs (may_offer place.0 set) _ _ (pump_by slot set sets (found_for slot place) from (found_well slot place (k, none_is (taken_at place.0 slot) none)) (λ p q. from_well (slot + 1) sets p (omega (arith, from)) q)) k)
+
+  pub pumped_well : (place : Place) → W n n d place → W n n d (pumped place)
+  unfolding pumped
+  pumped_well place k =
+      cond_both (settled place.0 && nat_le (next place.0) last_slot) (pumped_from (next place.0) place.0.sets place) place (W n n d)
+      (λ t. (from_well (next place.0) place.0.sets place (let is = k.1 in omega (arith, is)) (k, (and_parts place.0.running (may_offer place.0 (first_set place.0.sets)) (and_parts (settled place.0) (nat_le (next place.0) last_slot) t).0).0)).0) (λ _. k)
+
+-- ---- an entry
+
+-- all that is in flight or ready is so from the next slot on
+abbrev pub S : ReplicaState → Type 0
+S r = HasFrom (next r) r
+
+entered_has : (command : Command) (r : ReplicaState) → S r → HasFrom (next r) (entered command r)
+unfolding entered forgotten
+entered_has command r k = k
+
+entered_well : (command : Command) (r : ReplicaState) (mails : List Mail) → S r → W (next r) (next r + 1) false (entered command r, mails)
+entered_well command r mails k = (entered_has command r k, entered_next command r, λ e. absurd (true≢false (sym e)))
+
+landed_well : (n m : ℕ) (counted : Bool) (command : Command) (place : Place) → W n m false place → W (n + 1) m false (landed counted n command place)
+landed_well n m counted command place k =
+    landed_place (W (n + 1) m false) (λ _. Unit {0}) (λ other p o q. back_well (n + 1) m false other p.0 q) counted n command place tt
+    ((fly_past n place.0.leader.flights k.0.0, wait_past n place.0.ready k.0.1, λ off. (let o = k.0.2 off in (ap (λ (fs : List (Flight Command)). without_flight n fs) o.0, ap (λ es. without_slot es n) o.1))), k.1, λ e. absurd (true≢false (sym e)))
+
+one_well : (counted : Bool) (command : Command) (place : Place) → S place.0 → S (executed_one counted command place).0
+unfolding executed_one
+one_well counted command (r, mails) k =
+    let n = next r in
+    let m = next r + 1 in
+    let effect : Effect = (applied r.group command).1 in
+    let place0 : Place = (entered command r, mails) in
+    let place1 : Place = announced counted effect command place0 in
+    let k1 : W n m false place1 = announced_well n m false counted effect command place0 (entered_well command r mails k) in
+    let place2 : Place = spoken counted (before_of r.group.core) effect command place1 in
+    let k2 : W n m false place2 = spoken_well n m false counted (before_of r.group.core) effect command place1 k1 in
+    let place3 : Place = learnt_to counted (members r) n command place2 in
+    let k3 : W n m false place3 = learnt_well n m false counted (members r) n command place2 k2 in
+    let place4 : Place = welcomed counted (members r) place3 in
+    let k4 : W n m false place4 = welcomed_place (W n m false) (welcomed_well n m false) counted (members r) place3 k3 in
+    let place5 : Place = landed counted n command place4 in
+    let k5 : W m m false place5 = landed_well n m counted command place4 k4 in
+    let k6 : W m m false (looked (left place5)) = looked_well m m false (left place5) (left_well m m false place5 k5) in
+    subst (λ x. HasFrom x (looked (left place5)).0) (sym k6.1) k6.0
+
+-- a place whose replica keeps its slots
+abbrev pub K : Place → Type 0
+K place = IsSlotKept place.0
+
+-- what a row leaves, with the children that it made, keeps its slots
+abbrev pub KAfter : Executed → Type 0
+KAfter step = K step.0
+
+pub to_parts : (place : Place) → K place → W (next place.0) (next place.0) true place
+to_parts place k = (k.0, refl, λ e. k.1)
+
+pub from_parts : (n : ℕ) (place : Place) → W n n true place → K place
+from_parts n place k = (subst (λ x. HasFrom x place.0) (sym k.1) k.0, k.2 refl)
+
+pub pumps : (place : Place) → K place → K (pumped place)
+pumps place k = from_parts (next place.0) (pumped place) (pumped_well (next place.0) true place (to_parts place k))
+
+none_at : (es : List (ℕ × Command)) (slot : ℕ) → length es ≤ 0 → at_slot es slot ≡ None
+none_at [] slot few = refl
+none_at (e ∷ es) slot few = absurd (omega (arith, few))
+
+ready_well : (es : List (ℕ × Command)) (place : Place) → S place.0 → length place.0.ready ≤ length es → K (executed_ready es place).0
+unfolding executed_ready
+ready_well [] place k few = (k, empty_done place.0 (none_at place.0.ready (next place.0) few))
+ready_well (e ∷ es) place k few = by (next_ready place.0) refl (λ p q l. ready_well es p q l)
+  where
+    by : (o : Option Command) → next_ready place.0 ≡ o → ((p : Place) → S p.0 → length p.0.ready ≤ length es → K (executed_ready es p).0)
+        → KAfter (elim o [ None ↦ childless place | Some command ↦ ending (next_child command place.0) (executed_ready es (executed_one true command place)) ])
+    by None i more = (k, i)
+    by (Some command) i more =
+        (let less = one-shorter command place i in
+        pumps (executed_ready es (executed_one true command place)).0 (more (executed_one true command place) (one_well true command place k) (omega (arith, less, few))))
+
+pub executed_well : (counted : Bool) (command : Command) (place : Place) → S place.0 → K (executed counted command place).0
+unfolding executed
+executed_well counted command place k = (let after : Place = executed_one counted command place in pumps (all_ready after).0 (ready_well after.0.ready after (one_well counted command place k) (omega arith)))
+
+-- ---- parts of rows
+
+pub acts_kept : (act : Command) (place : Place) → K place → K (act_queued act place)
+unfolding act_queued
+acts_kept act (r, mails) k = pumps (with_act act r, mails) (either_way (λ (x : ReplicaState). IsSlotKept x) (has_act act r) r (record r { acts = r.acts ++ act ∷ [] }) k k)
+
+pub ends : (hint : Option ℕ) (answer : AnswerBody) (place : Place) → K place → K (ended hint answer place)
+ends hint answer place k = from_parts (next place.0) (ended hint answer place) (ended_well (next place.0) (next place.0) true hint answer place (to_parts place k))
+
+pub elects : (place : Place) → K place → K (elected place)
+elects place k = from_parts (next place.0) (elected place) (elected_well (next place.0) (next place.0) true place (to_parts place k))
+
+pub sees : (ballot : Ballot) (place : Place) → K place → K (saw ballot place)
+sees ballot place k = from_parts (next place.0) (saw ballot place) (saw_well (next place.0) (next place.0) true ballot place (to_parts place k))
+
+pub sends : (node : ℕ) (place : Place) → K place → K (install_to node place)
+sends node place k = from_parts (next place.0) (install_to node place) (sent_well (next place.0) (next place.0) true node place (to_parts place k))
+
+pub looks : (place : Place) → K place → K (looked place)
+looks place k = from_parts (next place.0) (looked place) (looked_well (next place.0) (next place.0) true place (to_parts place k))

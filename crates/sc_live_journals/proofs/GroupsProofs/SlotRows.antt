@@ -1,0 +1,302 @@
+-- What a replica has in flight and ready stays from its next slot on by each row of its table.
+use Rattle.std.proofs.Common.{◌≡◌, ℕ, ◌-◌, ◌≤◌, ◌&&◌, ◌||◌, not, nat_le, nat_lt, eqb, refl, Bool, true, false, true≢false, cond, List, [], ◌∷◌, ◌++◌, length, Option, Some, None, sym, ◌∙◌, ap, subst}
+use Rattle.std.specs.Prelude.{is_some}
+use Rattle.std.proofs.lemmas.Bool.{cond_both, and_parts, eqb-false}
+use Rattle.sc_base.specs.Definitions.{Drawer, next_name, same_ballot, is_member, is_majority}
+use Rattle.sc_node_table.specs.Values.{Ballot, Draw, Op, Offer, Watch, Command, Call, GiveUp, Prepared as PreparedAct, RecordVote, Finish, Watched, RecordWatch, Base, Lock, Free, Coordinating, Promised, Watching, OrderLine, OrderRefusal, Outcome, Past, Vote, AnswerBody, Mail, MailBody, Request, Answer, Prepare, Promise, Accept, Accepted, Nack, Learn, Ask, Install, TxPrepare, TxVote, TxOutcome, TxElsewhere, TxWatch, TxWatched, Told as ToldMail, Report, PrepareAnswer, AcceptAnswer, Counted, Chosen, NotYet, Flight}
+use Rattle.sc_cmd.specs.declared.votes.Past.TheVariants as Cast
+use Rattle.sc_cmd.specs.declared.votes.Vote.TheVariants as Vows
+use Rattle.sc_mail.specs.declared.bodies.AnswerBody.TheVariants as Says
+use Rattle.sc_paxos_words.specs.declared.answers.PrepareAnswer.TheVariants as Prepared
+use Rattle.sc_paxos_words.specs.declared.answers.AcceptAnswer.TheVariants as Asked
+use Rattle.sc_paxos_words.specs.Definitions.{prepared, accepted as accepted_by, AcceptorState, LeaderState, promise_counted, flight_at, without_flight_at, entry_at, vote_at, voters_after, kept_voters, with_voters}
+use Rattle.sc_node_table.specs.Definitions.{with_act, has_act, act_queued, ended, stopped, saw, executed, has_room, named, jumped, ordered_command, untaken, taken_or_told, ordered_row, wished_line, with_command, with_line, wishing, pumped, call_of, without_call, patience, one_tick_more, waited_in, reminded, ReplicaState, Place, Executed, childless, next, members, settled, is_idle, set_at, last_slot, forgotten, born_replica, installed_replica, refused_at, queued, requested, request_row, learn_row, ask_row, looked_up, took_over, install_row, made_by, asked_again, told_last, tick_row, mailed, slots_ahead, at_slot, with_slot, noted_outcome, standing_vote, sent_elsewhere, offered_by, offer_row, watched_by, watch_row, awaits_vote, awaits_watch, vote_queued, vote_met, vote_row, watch_queued, watch_met, watched_row, elsewhere_row, is_bound, outcome_row, hinted, promise_to, prepare_row, accepted_to, took, accept_row, leads, promise_row, readied, vote_tallied, voted, accepted_row, nack_row}
+use Rattle.sc_law_walks.proofs.Lemmas.{promised_place, asked_place, either_way}
+use Rattle.sc_live_journals.specs.groups.Definitions.{FlyFrom, WaitFrom, HasFrom, IsSlotKept}
+use Rattle.sc_live_journals.proofs.GroupsProofs.SlotLists.{fly_without, fly_polled, flies_from, wait_in, in_other}
+use Rattle.sc_live_journals.proofs.GroupsProofs.SlotParts.{K, KAfter, off_done, empty_done, pumps, acts_kept, ends, elects, sees, sends, looks, executed_well}
+
+no_room : (b c : Bool) (o : Option Command) → c ≡ false → cond (b && c) o None ≡ None
+no_room true true o e = absurd (true≢false e)
+no_room true false o e = refl
+no_room false c o e = refl
+
+module _ (me : ℕ) where
+  -- ---- Request
+
+  queued_well : (o : Option ℕ) (client seq : ℕ) (op : Op) (place : Place) → K place → K (queued o client seq op place)
+  unfolding queued
+  queued_well None client seq op (r, mails) k = pumps (record r { calls = r.calls ++ Call client seq op ∷ [] }, mails) k
+  queued_well (Some other) client seq op (r, mails) k =
+      either_way K (nat_le seq other) (r, mails) (pumped (record r { calls = without_call r.calls client ++ Call client seq op ∷ [] }, mails)) k (pumps (record r { calls = without_call r.calls client ++ Call client seq op ∷ [] }, mails) k)
+
+  requested_well : (o : Option AnswerBody) (client seq : ℕ) (op : Op) (place : Place) → K place → K (requested o client seq op place)
+  unfolding requested
+  requested_well (Some answer) client seq op (r, mails) k = k
+  requested_well None client seq op (r, mails) k = queued_well (call_of r.calls client) client seq op (r, mails) k
+
+  request_well : (client seq : ℕ) (op : Op) (place : Place) → K place → K (request_row client seq op place)
+  unfolding request_row
+  request_well client seq op (r, mails) k = requested_well (refused_at r.group.core.gone op r) client seq op (r, mails) k
+
+  -- ---- promises and votes
+
+  hinted_well : (ballot : Ballot) (r : ReplicaState) → IsSlotKept r → IsSlotKept (hinted ballot r)
+  hinted_well ballot r k = either_way IsSlotKept r.running r (record r { hint = Some ballot.node }) k k
+
+  promise_well : (from : ℕ) (ballot : Ballot) (p : PrepareAnswer Command × AcceptorState Command) (place : Place) → K place → K (promise_to from ballot p place)
+  promise_well from ballot (Prepared.Promise reports, acceptor) (r, mails) k = hinted_well ballot (record r { acceptor = acceptor }) k
+  promise_well from ballot (Prepared.Ignored was, acceptor) (r, mails) k = k
+
+  prepare_well : (from : ℕ) (ballot : Ballot) (from_slot : ℕ) (place : Place) → K place → K (prepare_row from ballot from_slot place)
+  unfolding prepare_row
+  prepare_well from ballot from_slot place k =
+      let seen : Place = saw ballot place in
+      let q : K seen = sees ballot place k in
+      promised_place K from ballot from_slot seen (sends from seen q) (promise_well from ballot (prepared ballot from_slot seen.0.acceptor) seen q)
+
+  accepted_to_well : (from : ℕ) (ballot : Ballot) (slot : ℕ) (p : AcceptAnswer × AcceptorState Command) (place : Place) → K place → K (accepted_to from ballot slot p place)
+  accepted_to_well from ballot slot (Asked.Accepted, acceptor) (r, mails) k = hinted_well ballot (record r { acceptor = acceptor }) k
+  accepted_to_well from ballot slot (Asked.Ignored was, acceptor) (r, mails) k = k
+
+  took_well : (from : ℕ) (report : Report Command) (place : Place) → K place → K (took from report place)
+  unfolding took
+  took_well from report (r, mails) k =
+      either_way K (nat_le report.slot r.acceptor.floor) _ _ (sends from (r, mails) k) (accepted_to_well from report.ballot report.slot (accepted_by report r.acceptor) (r, mails) k)
+
+  accept_well : (from : ℕ) (ballot : Ballot) (slot : ℕ) (command : Command) (place : Place) → K place → K (accept_row from ballot slot command place)
+  unfolding accept_row
+  accept_well from ballot slot command place k = took_well from (record { slot = slot; ballot = ballot; value = command }) (saw ballot place) (sees ballot place k)
+
+  -- what a leader counts leaves all in flight at its slots
+  promise_flights : (from : ℕ) (ballot : Ballot) (reports : List (Report Command)) (l : LeaderState Command) → (promise_counted from ballot reports l).1.flights ≡ l.flights
+  promise_flights from ballot reports l = either_way (λ (x : Bool × LeaderState Command). x.1.flights ≡ l.flights) (same_ballot ballot l.ballot && not (is_member l.promisers from)) _ _ refl refl
+
+  with_leader : (r : ReplicaState) (l : LeaderState Command) → FlyFrom (next r) l.flights → r.running ≡ true → IsSlotKept r → IsSlotKept (record r { leader = l })
+  with_leader r l fly on k = ((fly, k.0.1, λ off. absurd (true≢false (sym on ∙ off))), k.1)
+
+  leads_on : (ballot : Ballot) (r : ReplicaState) → leads ballot r ≡ true → r.running ≡ true
+  leads_on ballot r t = (and_parts r.running (same_ballot ballot r.leader.ballot) t).0
+
+  promise_row_well : (from : ℕ) (ballot : Ballot) (reports : List (Report Command)) (place : Place) → K place → K (promise_row from ballot reports place)
+  unfolding promise_row
+  promise_row_well from ballot reports (r, mails) k =
+      let leader : LeaderState Command = (promise_counted from ballot reports r.leader).1 in
+      cond_both (leads ballot r) (pumped (record r { leader = leader }, mails)) (r, mails) K
+      (λ t. pumps (record r { leader = leader }, mails) (with_leader r leader (subst (FlyFrom (next r)) (sym (promise_flights from ballot reports r.leader)) k.0.0) (leads_on ballot r t) k)) (λ _. k)
+
+  readied_well : (slot : ℕ) (command : Command) (place : Place) → next place.0 ≤ slot → place.0.running ≡ true → K place → KAfter (readied slot command place)
+  unfolding readied
+  readied_well slot command (r, mails) from on k = by (eqb slot (next r)) (has_room r) refl refl
+    where
+      has : HasFrom (next r) (record r { ready = with_slot r.ready slot command })
+      has = (k.0.0, wait_in (next r) slot command r.ready from k.0.1, λ off. absurd (true≢false (sym on ∙ off)))
+
+      by : (b c : Bool) → eqb slot (next r) ≡ b → has_room r ≡ c
+          → KAfter (cond {A = Executed} (b && c) (executed true command (record r { ready = with_slot r.ready slot command }, mails)) (childless (record r { ready = with_slot r.ready slot command }, mails)))
+      by true true e f = executed_well true command (record r { ready = with_slot r.ready slot command }, mails) has
+      by true false e f = (has, no_room r.running (has_room r) (at_slot (with_slot r.ready slot command) (next r)) f)
+      by false c e f = (has, ap (λ o. cond (r.running && has_room r) o None) (in_other slot (next r) command r.ready (eqb-false slot (next r) e)) ∙ k.1)
+
+  tallied_well : (slot : ℕ) (p : Counted Command × LeaderState Command) (place : Place) → next place.0 ≤ slot → FlyFrom (next place.0) p.1.flights → place.0.running ≡ true → K place → KAfter (vote_tallied slot p place)
+  tallied_well slot (Chosen command, leader) (r, mails) from fly on k = readied_well slot command (record r { leader = leader }, mails) from on (with_leader r leader fly on k)
+  tallied_well slot (NotYet count, leader) (r, mails) from fly on k = with_leader r leader fly on k
+
+  -- a vote counts for what is in flight
+  vote_at_well : (from slot : ℕ) (set : List ℕ) (o : Option (Flight Command)) (place : Place) → flight_at slot place.0.leader.flights ≡ o → place.0.running ≡ true → K place → KAfter (vote_tallied slot (vote_at from slot set o place.0.leader) place)
+  vote_at_well from slot set None (r, mails) e on k = k
+  vote_at_well from slot set (Some flight) (r, mails) e on k =
+      either_way (λ (p : Counted Command × LeaderState Command). KAfter (vote_tallied slot p (r, mails))) (is_majority set (kept_voters (voters_after set from flight.voters))) _ _
+      (tallied_well slot (Chosen flight.value, without_flight_at slot r.leader) (r, mails) (flies_from (next r) slot r.leader.flights flight k.0.0.0 e) (fly_without (next r) slot r.leader.flights k.0.0) on k)
+      (with_leader r (record r.leader { flights = with_voters slot (voters_after set from flight.voters) r.leader.flights }) (fly_polled (next r) slot (voters_after set from flight.voters) r.leader.flights k.0.0) on k)
+
+  voted_well : (from : ℕ) (ballot : Ballot) (slot : ℕ) (set : Option (List ℕ)) (place : Place) → place.0.running ≡ true → K place → KAfter (voted from ballot slot set place)
+  voted_well from ballot slot None place on k = k
+  voted_well from ballot slot (Some set) (r, mails) on k =
+      either_way (λ (p : Counted Command × LeaderState Command). KAfter (vote_tallied slot p (r, mails))) (same_ballot ballot r.leader.ballot) _ _
+      (vote_at_well from slot set (flight_at slot r.leader.flights) (r, mails) refl on k) k
+
+  accepted_well : (from : ℕ) (ballot : Ballot) (slot : ℕ) (place : Place) → K place → KAfter (accepted_row from ballot slot place)
+  unfolding accepted_row
+  accepted_well from ballot slot (r, mails) k = cond_both (leads ballot r) (voted from ballot slot (set_at slot r) (r, mails)) (childless (r, mails)) KAfter (λ t. voted_well from ballot slot (set_at slot r) (r, mails) (leads_on ballot r t) k) (λ _. k)
+
+  nack_well : (ballot : Ballot) (place : Place) → K place → K (nack_row ballot place)
+  unfolding nack_row
+  nack_well ballot place k = sees ballot place k
+
+  -- ---- Learn, Ask and Install
+
+  learn_well : (from slot : ℕ) (command : Command) (place : Place) → K place → KAfter (learn_row from slot command place)
+  unfolding learn_row
+  learn_well from slot command (r, mails) k =
+      either_way KAfter (nat_lt last_slot slot) _ _ k (either_way KAfter (eqb slot (next r)) _ _ (executed_well false command (r, mails) k.0) (either_way KAfter (nat_lt (next r) slot) _ _ k k))
+
+  ask_well : (from slot : ℕ) (place : Place) → K place → K (ask_row from slot place)
+  ask_well from slot (r, mails) k = asked_place K from slot (r, mails) k (sends from (r, mails) k) k
+
+  looked_up_well : (from : ℕ) (place : Place) → K place → K (looked_up from place)
+  unfolding looked_up
+  looked_up_well from (r, mails) k = either_way K (is_member (members r) from) _ _ k (looks (r, mails) k)
+
+  -- one that does not run has nothing in flight or ready, wherever it is
+  still_kept : (n : ℕ) (r : ReplicaState) → r.leader.flights ≡ [] → r.ready ≡ [] → HasFrom n r
+  still_kept n r flights ready = (subst (FlyFrom n) (sym flights) (tt, tt), subst (WaitFrom n) (sym ready) (tt, tt), λ off. (flights, ready))
+
+  jumped_rest : (slot : ℕ) (base : Base) (sets : List (List ℕ)) (r : ReplicaState) → ((jumped slot base sets r).running ≡ r.running) × ((jumped slot base sets r).leader ≡ r.leader) × ((jumped slot base sets r).ready ≡ r.ready)
+  unfolding jumped forgotten
+  jumped_rest slot base sets r = (refl, refl, refl)
+
+  -- the state of a later slot
+  jumped_well : (slot : ℕ) (base : Base) (sets : List (List ℕ)) (r : ReplicaState) → r.running ≡ false → IsSlotKept r → IsSlotKept (jumped slot base sets r)
+  jumped_well slot base sets r off k =
+      let same = jumped_rest slot base sets r in
+      let none = k.0.2 off in
+      (still_kept (next (jumped slot base sets r)) (jumped slot base sets r) (ap (λ l. l.flights) same.1 ∙ none.0) (same.2 ∙ none.1), off_done (jumped slot base sets r) (same.0 ∙ off))
+
+  ended_off : (hint : Option ℕ) (answer : AnswerBody) (r : ReplicaState) (mails : List Mail) → (ended hint answer (r, mails)).0.running ≡ false
+  unfolding ended
+  ended_off hint answer r mails = refl
+
+  over_well : (from slot : ℕ) (base : Base) (sets : List (List ℕ)) (place : Place) → K place → K (took_over from slot base sets place)
+  unfolding took_over
+  over_well from slot base sets (r, mails) k =
+      let place1 : Place = cond r.running (stopped (Some from) (r, mails)) (r, mails) in
+      let k1 : K place1 × (place1.0.running ≡ false) =
+      cond_both r.running (stopped (Some from) (r, mails)) (r, mails) (λ (p : Place). K p × (p.0.running ≡ false))
+      (λ _. (ends (Some from) (Says.NotLeader (Some from)) (r, mails) k, ended_off (Some from) (Says.NotLeader (Some from)) r mails)) (λ off. (k, off)) in
+      looked_up_well from (jumped slot base sets place1.0, place1.1) (jumped_well slot base sets place1.0 k1.1 k1.0)
+
+  install_well : (from slot : ℕ) (base : Base) (sets : List (List ℕ)) (place : Place) → K place → K (install_row from slot base sets place)
+  unfolding install_row
+  install_well from slot base sets (r, mails) k = either_way K (not (eqb (length sets) (length r.sets)) || (nat_lt last_slot slot || nat_lt slot (next r))) (r, mails) (took_over from slot base sets (r, mails)) k (over_well from slot base sets (r, mails) k)
+
+  -- ---- the parties of a transaction
+
+  offered_by_well : (o : Option Past) (from : ℕ) (tx : Draw) (offer : Offer) (place : Place) → K place → K (offered_by o from tx offer place)
+  offered_by_well (Some vote) from tx offer (r, mails) k = k
+  offered_by_well None from tx offer (r, mails) k = either_way K r.running (act_queued (PreparedAct tx offer) (r, mails)) (sent_elsewhere from tx offer.coord (r, mails)) (acts_kept (PreparedAct tx offer) (r, mails) k) k
+
+  offer_well : (from : ℕ) (tx : Draw) (offer : Offer) (place : Place) → K place → K (offer_row from tx offer place)
+  unfolding offer_row
+  offer_well from tx offer (r, mails) k = offered_by_well (standing_vote r.group.core tx) from tx offer (r, mails) k
+
+  watched_by_well : (o : Option Past) (from : ℕ) (tx : Draw) (watch : Watch) (place : Place) → K place → K (watched_by o from tx watch place)
+  watched_by_well (Some vote) from tx watch (r, mails) k = k
+  watched_by_well None from tx watch (r, mails) k = either_way K r.running (act_queued (Watched tx watch) (r, mails)) (sent_elsewhere from tx watch.coord (r, mails)) (acts_kept (Watched tx watch) (r, mails) k) k
+
+  watch_well : (from : ℕ) (tx : Draw) (watch : Watch) (place : Place) → K place → K (watch_row from tx watch place)
+  unfolding watch_row
+  watch_well from tx watch (r, mails) k = watched_by_well (standing_vote r.group.core tx) from tx watch (r, mails) k
+
+  vote_queued_well : (from : ℕ) (tx : Draw) (vote : Vote) (place : Place) → K place → K (vote_queued from tx vote place)
+  vote_queued_well from tx vote (r, mails) k = either_way K (r.running && awaits_vote r.group.core.lock tx) _ _ (acts_kept (RecordVote tx vote from) (r, mails) k) k
+
+  vote_met_well : (vote : Vote) (o : Option Outcome) (from : ℕ) (tx part : Draw) (place : Place) → K place → K (vote_met vote o from tx part place)
+  vote_met_well (Vows.Yes frozen) (Some outcome) from tx part (r, mails) k = k
+  vote_met_well (Vows.Yes frozen) None from tx part place k = vote_queued_well from tx (Vows.Yes frozen) place k
+  vote_met_well (Vows.No why) outcome from tx part place k = vote_queued_well from tx (Vows.No why) place k
+
+  vote_well : (from : ℕ) (tx part : Draw) (vote : Vote) (place : Place) → K place → K (vote_row from tx part vote place)
+  unfolding vote_row
+  vote_well from tx part vote (r, mails) k = vote_met_well vote (noted_outcome r.group.core tx) from tx part (r, mails) k
+
+  watch_queued_well : (from : ℕ) (tx : Draw) (vote : Past) (place : Place) → K place → K (watch_queued from tx vote place)
+  watch_queued_well from tx vote (r, mails) k = either_way K (r.running && awaits_watch r.group.core.lock tx) _ _ (acts_kept (RecordWatch tx vote from) (r, mails) k) k
+
+  watch_met_well : (vote : Past) (o : Option Outcome) (from : ℕ) (tx part : Draw) (place : Place) → K place → K (watch_met vote o from tx part place)
+  watch_met_well Cast.Yes (Some outcome) from tx part (r, mails) k = k
+  watch_met_well Cast.Yes None from tx part place k = watch_queued_well from tx Cast.Yes place k
+  watch_met_well (Cast.No why) outcome from tx part place k = watch_queued_well from tx (Cast.No why) place k
+  watch_met_well Cast.Ended outcome from tx part place k = watch_queued_well from tx Cast.Ended place k
+
+  watched_well : (from : ℕ) (tx part : Draw) (vote : Past) (place : Place) → K place → K (watched_row from tx part vote place)
+  unfolding watched_row
+  watched_well from tx part vote (r, mails) k = watch_met_well vote (noted_outcome r.group.core tx) from tx part (r, mails) k
+
+  elsewhere_well : (from : ℕ) (tx : Draw) (hint : Option ℕ) (place : Place) → K place → K (elsewhere_row from tx hint place)
+  unfolding elsewhere_row
+  elsewhere_well from tx hint (r, mails) k = either_way K (settled r) _ _ k k
+
+  outcome_well : (tx : Draw) (outcome : Outcome) (place : Place) → K place → K (outcome_row tx outcome place)
+  unfolding outcome_row
+  outcome_well tx outcome (r, mails) k = either_way K (r.running && is_bound r.group.core.lock tx) _ _ (acts_kept (Finish tx outcome) (r, mails) k) k
+
+  -- ---- orders, and a tick
+
+  taken_well : (o : Option OrderRefusal) (number : ℕ) (command : Command) (place : Place) → K place → K (taken_or_told o number command place)
+  taken_well (Some why) number command (r, mails) k = k
+  taken_well None number command (r, mails) k = pumps (record r { calls = r.calls ++ command ∷ [] }, mails) k
+
+  pub order_well : (drawer : Drawer) (line : OrderLine) (place : Place) → K place → K (ordered_row drawer line place)
+  unfolding ordered_row
+  order_well drawer line (r, mails) k = taken_well (untaken drawer line r) line.number (ordered_command (next_name drawer) line.number line.order) (r, mails) k
+
+  waited_well : (lock : Lock) (r : ReplicaState) → IsSlotKept r → IsSlotKept (waited_in lock r)
+  waited_well Free r k = k
+  waited_well (Promised tx offer) r k = k
+  waited_well (Watching tx watch) r k = k
+  waited_well (Coordinating tx body order heard) r k =
+      let more : ReplicaState = record r { waits = one_tick_more r.waits } in
+      either_way (λ (x : ReplicaState). IsSlotKept x) (nat_le patience more.waits) (with_act (GiveUp tx) more) more
+      (either_way (λ (x : ReplicaState). IsSlotKept x) (has_act (GiveUp tx) more) more (record more { acts = more.acts ++ GiveUp tx ∷ [] }) k k) k
+
+  reminded_well : (place : Place) → K place → K (reminded place)
+  unfolding reminded
+  reminded_well (r, mails) k = waited_well r.group.core.lock r k
+
+  command_well : (o : Option OrderRefusal) (command : Command) (r : ReplicaState) → IsSlotKept r → IsSlotKept (with_command o command r)
+  command_well (Some why) command r k = k
+  command_well None command r k = k
+
+  line_well : (drawer : Drawer) (o : Option OrderLine) (r : ReplicaState) → IsSlotKept r → IsSlotKept (with_line drawer o r)
+  line_well drawer None r k = k
+  line_well drawer (Some line) r k = command_well (untaken drawer line r) (ordered_command (next_name drawer) line.number line.order) r k
+
+  wishing_well : (on : Bool) (drawer : Drawer) (place : Place) → K place → K (wishing on drawer place)
+  unfolding wishing
+  wishing_well on drawer (r, mails) k = line_well drawer (wished_line on r) r k
+
+  reminding_well : (on : Bool) (drawer : Drawer) (place : Place) → K place → K (pumped (wishing on drawer (reminded place)))
+  reminding_well on drawer place k = pumps (wishing on drawer (reminded place)) (wishing_well on drawer (reminded place) (reminded_well place k))
+
+  pub tick_well : (on : Bool) (drawer : Drawer) (place : Place) → K place → K (tick_row on drawer place)
+  unfolding tick_row
+  tick_well on drawer (r, mails) k =
+      either_way K (is_some r.group.core.gone || not (is_member (members r) r.me)) _ _ k
+      (either_way K (not (settled r)) _ _ (elects (r, mails) k)
+      (either_way K (is_idle r) _ _ (reminding_well on drawer (r, told_last (entry_at (next r - 1) r.log) r mails) k) (reminding_well on drawer (r, asked_again r (next r) r.sets mails) k)))
+
+  -- ---- all mail
+
+  pub mailed_well : (from : ℕ) (body : MailBody) (place : Place) → K place → KAfter (mailed from body place)
+  unfolding mailed
+  mailed_well from (Request group client seq op) place k = request_well client seq op place k
+  mailed_well from (Prepare group ballot from_slot) place k = prepare_well from ballot from_slot place k
+  mailed_well from (Promise group ballot reports) place k = promise_row_well from ballot reports place k
+  mailed_well from (Accept group ballot slot command) place k = accept_well from ballot slot command place k
+  mailed_well from (Accepted group ballot slot) place k = accepted_well from ballot slot place k
+  mailed_well from (Nack group ballot) place k = nack_well ballot place k
+  mailed_well from (Learn group slot command) place k = learn_well from slot command place k
+  mailed_well from (Ask group from_slot) place k = ask_well from from_slot place k
+  mailed_well from (Install group slot base sets) place k = install_well from slot base sets place k
+  mailed_well from (Answer group seq answer) place k = k
+  mailed_well from (TxPrepare tx offer) place k = offer_well from tx offer place k
+  mailed_well from (TxVote tx coord part vote) place k = vote_well from tx part vote place k
+  mailed_well from (TxOutcome tx part outcome) place k = outcome_well tx outcome place k
+  mailed_well from (TxElsewhere tx coord hint) place k = elsewhere_well from tx hint place k
+  mailed_well from (TxWatch tx watch) place k = watch_well from tx watch place k
+  mailed_well from (TxWatched tx coord part vote) place k = watched_well from tx part vote place k
+  mailed_well from (ToldMail order result) place k = k
+
+  -- ---- births, and a replica that is made of a state
+
+  pub born_well : (base : Base) → IsSlotKept (born_replica slots_ahead me base)
+  born_well base = (((tt, tt), (tt, tt), λ off. (refl, refl)), empty_done (born_replica slots_ahead me base) refl)
+
+  installed_well : (slot : ℕ) (base : Base) (sets : List (List ℕ)) → IsSlotKept (installed_replica me slot base sets)
+  unfolding forgotten
+  installed_well slot base sets = (((tt, tt), (tt, tt), λ off. (refl, refl)), refl)
+
+  pub made_well : (from : ℕ) (group : Draw) (slot : ℕ) (base : Base) (sets : List (List ℕ)) → K (made_by me from group slot base sets)
+  unfolding made_by
+  made_well from group slot base sets = looked_up_well from (installed_replica me slot (named group base) sets, []) (installed_well slot (named group base) sets)

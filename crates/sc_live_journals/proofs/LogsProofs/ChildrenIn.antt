@@ -1,0 +1,14 @@
+-- The child of an entry is one of its log's.
+use Rattle.std.proofs.Common.{[], ◌≡◌, List, ◌∷◌, ◌++◌, Some, inl, refl, sym, subst, option_to_list}
+use Rattle.sc_base.specs.Definitions.{Among}
+use Rattle.sc_node_table.specs.Values.{Command, Base}
+use Rattle.sc_machine_table.specs.Definitions.{Group, state_after, applied}
+use Rattle.sc_log_entries.specs.Definitions.{birth_of}
+use Rattle.sc_paxos_law.proofs.Lemmas.{Among-left, Among-right}
+use Rattle.sc_sound.specs.Definitions.{children_of}
+use Rattle.sc_live_journals.proofs.LogsProofs.Journals.{front}
+
+pub child_in : (group : Group) (front : List Command) (c : Command) (child : Base) → birth_of (state_after group front) c (applied (state_after group front) c).1 ≡ Some child → Among child (children_of group (front ++ c ∷ []))
+child_in group [] c child e = Among-left child (option_to_list (birth_of group c (applied group c).1)) [] (subst (λ o. Among child (option_to_list o)) (sym e) (inl refl))
+child_in group (d ∷ front) c child e =
+    Among-right child (option_to_list (birth_of group d (applied group d).1)) (children_of (applied group d).0 (front ++ c ∷ [])) (child_in (applied group d).0 front c child e)

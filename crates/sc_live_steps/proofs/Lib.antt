@@ -1,0 +1,5 @@
+pub mod PumpProofs
+pub mod FollowingProofs
+pub mod OrdersProofs
+pub mod CalmProofs
+pub mod EntriesProofs

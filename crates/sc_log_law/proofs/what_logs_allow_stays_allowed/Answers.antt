@@ -1,5 +1,0 @@
-use Rattle.sc_log_law.proofs.Allowing.{allowed_stays_allowed, fronts_allow, states_allow}
-use Rattle.sc_log_law.proofs.what_logs_allow_stays_allowed.Goals as goal
-
-pub returns : goal.returns
-returns c = record { stays = allowed_stays_allowed; fronts = fronts_allow; states = states_allow }

@@ -1,9 +1,0 @@
--- Re-exports of the definitions of this crate that others cite.
-pub use Rattle.sc_log_law.specs.Allows.{MakesAllowed, AllowsAsItStands, GroupAllows, EndsBy}
-pub use Rattle.sc_log_law.specs.Beside.{IsIssuedIn, IsDecidedBefore, HoldsBeside, HasOneValue, RepliesAreDecided}
-pub use Rattle.sc_log_law.specs.Descent.{Rows, added_by, Descends, IsFound, newborn_by}
-pub use Rattle.sc_log_law.specs.Example.{split_sources, lone_bases, journal_split, put_a_call, offers_split, accepts_split, decides_split, asks_child, offers_put, decides_put, ExampleInTurn}
-pub use Rattle.sc_log_law.specs.Findings.{AreFound, StayAsTold, AreItsLogs, IsNewborn, AreOldOrNew, TellOneMap, IsFoundByName, IsToldAt}
-pub use Rattle.sc_log_law.specs.InTurn.{DecideInTurn, DecidesInTurn}
-pub use Rattle.sc_log_law.specs.Laws.{GroupsAreFound, AllowedStaysAllowed, FrontsAllow, StatesAllow, GroupsAllowOthers, GroupsAreOldOrNew, EntriesAreLogs, EntriesAreAllowed, EntriesTellOneMap, HistoryIsTold, ToldRowsStay, JournalsInTurnAreSound, RowsDecideForOne, RowsGoOn}
-pub use Rattle.sc_log_law.specs.OneMap.{AllowedEntriesMakeOneMap}

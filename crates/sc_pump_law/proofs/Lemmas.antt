@@ -1,2 +1,0 @@
--- The lemmas of this crate that others cite, under one name.
-pub use Rattle.sc_pump_law.proofs.Pumping.{pumps_leave as pumps_leave_none, none_at, none_from}

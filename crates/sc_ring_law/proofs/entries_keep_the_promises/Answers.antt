@@ -1,5 +1,0 @@
-use Rattle.sc_ring_law.proofs.Sound.{entries_keep_the_promises}
-use Rattle.sc_ring_law.proofs.entries_keep_the_promises.Goals as goal
-
-pub returns : goal.returns
-returns c = entries_keep_the_promises
