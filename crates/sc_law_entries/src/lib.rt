@@ -1,4 +1,7 @@
-//! sc_law_entries
+//! The entries of all logs: `history`, what they make of the store; `ring`, what they make of the
+//! groups and of the ring, where each entry is allowed; `logs`, the two together and what the rows
+//! of a journal decide; `names`, that each name that nodes draw is drawn once. Definitions and
+//! laws; no code that runs.
 #![tactic(auto)]
 
 pub mod history;

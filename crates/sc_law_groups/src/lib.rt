@@ -1,4 +1,6 @@
-//! sc_law_groups
+//! What every lawful journal says of its groups: `group`, of each by itself, whoever joins or
+//! leaves it; `whole`, of all together, whatever they order. So lawful journals of valid scenarios
+//! are sound. Definitions and laws; no code that runs.
 #![tactic(auto)]
 
 pub mod group;

@@ -1,4 +1,6 @@
-//! sc_law_refusal
+//! Why a replica turns a client away: `queue`, a leader's queue has at most one request of each
+//! client; `refusal`, each answer that refuses has its cause in the state that was executed when
+//! the answer was made. Definitions and laws; no code that runs.
 #![tactic(auto)]
 
 pub mod queue;

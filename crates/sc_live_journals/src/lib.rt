@@ -1,4 +1,7 @@
-//! sc_live_journals
+//! From rows to the journals of calm scenarios: `rows`, each row as one between a leader and its
+//! nodes; `mail`, replicas and mail; `logs`, what a group's log says of them; `groups`, that a
+//! group is well led; `scenes`, the stages of an order; `charts`, by which what is owed is counted.
+//! Definitions and laws; no function.
 #![tactic(auto)]
 
 pub mod charts;

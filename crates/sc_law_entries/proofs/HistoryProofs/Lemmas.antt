@@ -1,4 +1,4 @@
--- The lemmas of this crate that others cite, under one name.
+-- The lemmas of this part of the crate that others cite, under one name.
 pub use Rattle.sc_law_entries.proofs.HistoryProofs.Entries.{entries_tell}
 pub use Rattle.sc_law_entries.proofs.HistoryProofs.EntriesExample.{example_of_entries}
 pub use Rattle.sc_law_entries.proofs.HistoryProofs.Fronts.{own_first, other_first, logs_make_states, heads, parts_at, fronts_answer}

@@ -1,4 +1,4 @@
--- Laws that follow from lemmas of this crate and of those below.
+-- Laws that follow from lemmas of this part of the crate and of those that it stands on.
 use Rattle.sc_law_entries.proofs.LogsProofs.Sound.{journals_in_turn_are_sound as journals_in_turn_are_sound_by}
 use Rattle.sc_law_entries.proofs.LogsProofs.OneMap.{allowed_entries_make_one_map}
 use Rattle.sc_law_entries.specs.logs.Definitions.{JournalsInTurnAreSound}

@@ -1,4 +1,4 @@
--- The lemmas of this crate that others cite, under one name.
+-- The lemmas of this part of the crate that others cite, under one name.
 pub use Rattle.sc_law_entries.proofs.LogsProofs.OneMap.{allowed_entries_make_one_map}
 pub use Rattle.sc_law_entries.proofs.LogsProofs.Lists.{find_base}
 pub use Rattle.sc_law_entries.proofs.LogsProofs.Children.{log_append}

@@ -1,4 +1,4 @@
--- The lemmas of this crate that others cite, under one name.
+-- The lemmas of this part of the crate that others cite, under one name.
 pub use Rattle.sc_law_entries.proofs.NamesProofs.Counters.{others_are_free as names_have_one_owner_others, nodes_have_names as counters_part_names}
 pub use Rattle.sc_law_entries.proofs.NamesProofs.Wished.{wishes_at_positions as orders_are_allowed_positions}
 pub use Rattle.sc_law_entries.proofs.NamesProofs.Ordered.{orders_are_allowed as orders_are_allowed_allowed, wishes_are_allowed as orders_are_allowed_wishes}

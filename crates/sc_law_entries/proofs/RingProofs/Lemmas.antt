@@ -1,4 +1,4 @@
--- The lemmas of this crate that others cite, under one name.
+-- The lemmas of this part of the crate that others cite, under one name.
 pub use Rattle.sc_law_entries.proofs.RingProofs.View.{IsOnRing, Ring, Holds}
 pub use Rattle.sc_law_entries.proofs.RingProofs.Arcs.{end_right, right_is}
 pub use Rattle.sc_law_entries.proofs.RingProofs.Cover.{from_at, at-same, at-other}

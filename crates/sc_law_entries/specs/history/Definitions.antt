@@ -1,4 +1,4 @@
--- Re-exports of the definitions of this crate that others cite.
+-- Re-exports of the definitions of this part of the crate that others cite.
 pub use Rattle.sc_law_entries.specs.history.Example.{ExampleOfEntries, answers_with, example_log, get_a, get_entry, lone_base, offspring, put_a, put_entry, split_entry, two_requests, ExampleOfMoves, bare_ring, example_moves, lone_holdings, parent}
 pub use Rattle.sc_law_entries.specs.history.Fronts.{log_in, FrontsAnswerByHistory, LogsMakeStates}
 pub use Rattle.sc_law_entries.specs.history.Laws.{IsReplied, LeavesWhole, HoldsNothing, IsNoted, IsDone, LogsTellHistories}

@@ -1,4 +1,4 @@
--- Re-exports of the definitions of this crate that others cite.
+-- Re-exports of the definitions of this part of the crate that others cite.
 pub use Rattle.sc_law_entries.specs.logs.Allows.{MakesAllowed, AllowsAsItStands, GroupAllows, EndsBy}
 pub use Rattle.sc_law_entries.specs.logs.Beside.{IsIssuedIn, IsDecidedBefore, HoldsBeside, HasOneValue, RepliesAreDecided}
 pub use Rattle.sc_law_entries.specs.logs.Descent.{Rows, added_by, Descends, IsFound, newborn_by}

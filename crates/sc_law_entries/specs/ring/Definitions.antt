@@ -1,4 +1,4 @@
--- Re-exports of the definitions of this crate that others cite.
+-- Re-exports of the definitions of this part of the crate that others cite.
 pub use Rattle.sc_law_entries.specs.ring.Allowed.{ToldWorld, first_told, told_after, Sources, IsVoteCast, IsAllowed, AreAllowed, stories_told, told_on, IsWatchVoteCast, IsShared}
 pub use Rattle.sc_law_entries.specs.ring.Invariant.{Groups, IsCoordinating, Facts, LockOk, IsPromised, has_born, has_decided, IsOwnBody, IsFrozen, IsAgreed, IsEarned, Origin, GroupOk, IsVoter, IsWatcher, StoryOk}
 pub use Rattle.sc_law_entries.specs.ring.Stories.{Story, Stories, put, retold, unsigned, offer_for, new_story, vote_by, with_vote, with_watch_vote, with_decision, with_asked, stories_after, vote_in, watch_vote_in, with_answer, offer_with, watch_with, unsigned_watch, watch_for, merge_watch, no_stories}

@@ -1,4 +1,4 @@
--- The lemmas of this crate that others cite, under one name.
+-- The lemmas of this part of the crate that others cite, under one name.
 pub use Rattle.sc_law_groups.proofs.GroupProofs.Lists.{each_got, Each-take}
 pub use Rattle.sc_law_groups.proofs.GroupProofs.Parts.{Each-without_slot, slot_among, rest_length}
 pub use Rattle.sc_law_groups.proofs.GroupProofs.Growth.{IsLearnt, by_own_log, grown_learnt}

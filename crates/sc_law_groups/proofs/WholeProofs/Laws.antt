@@ -1,4 +1,4 @@
--- Laws that follow from lemmas of this crate and of those below.
+-- Laws that follow from lemmas of this part of the crate and of those that it stands on.
 use Rattle.sc_law_groups.proofs.WholeProofs.Sound.{lawful_journals_are_sound as lawful_journals_are_sound_by, lawful_journals_decide_in_turn}
 use Rattle.sc_law_entries.proofs.LogsProofs.Lemmas.{journals_in_turn_are_sound, entries_are_allowed_logs_logs}
 use Rattle.sc_law_groups.specs.whole.Definitions.{LawfulJournalsAreSound, ValidJournalsAreSound, ValidEntriesAreLogs}

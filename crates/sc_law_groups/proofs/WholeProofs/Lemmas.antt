@@ -1,4 +1,4 @@
--- The lemmas of this crate that others cite, under one name.
+-- The lemmas of this part of the crate that others cite, under one name.
 pub use Rattle.sc_law_groups.proofs.WholeProofs.Apart.{IsNew, IsOldOrNew}
 pub use Rattle.sc_law_groups.proofs.WholeProofs.Asking.{BeginsShared, hears_merges, none_split, splits_fit}
 pub use Rattle.sc_law_groups.proofs.WholeProofs.Children.{fresh_children, listed}

@@ -1,4 +1,4 @@
--- The laws of this crate: lawful journals decide in turn, so the law of journals makes them sound.
+-- The laws of this part of the crate: lawful journals decide in turn, so the law of journals makes them sound.
 use Rattle.std.proofs.Common.{◌≡◌, ◌∷◌, ◌++◌, ◌∙◌, ap, append_assoc}
 use Rattle.sc_node_table.specs.Values.{OrderLine, Mail, Row}
 use Rattle.sc_actor.proofs.Lemmas.{lawful-prefix}

@@ -1,4 +1,4 @@
--- Re-exports of the definitions of this crate that others cite.
+-- Re-exports of the definitions of this part of the crate that others cite.
 pub use Rattle.sc_law_groups.specs.whole.Begins.{BeginsWell, section_op, IsReady, IsFresh, HasSeats, AsksAre, op_or_get}
 pub use Rattle.sc_law_groups.specs.whole.Laws.{MembersStayRosters, LawfulJournalsDecideInTurn, LawfulJournalsAreSound, LawfulJournalsHoldBeside}
 pub use Rattle.sc_law_groups.specs.whole.Orders.{OrdersAreAllowed, ToldAreAllowed, WishedAreAllowed}

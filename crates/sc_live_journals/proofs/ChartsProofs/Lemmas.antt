@@ -1,4 +1,4 @@
--- The lemmas of this crate that others cite, under one name.
+-- The lemmas of this part of the crate that others cite, under one name.
 pub use Rattle.sc_live_journals.proofs.ChartsProofs.Fronts.{upto_low, front_stays}
 pub use Rattle.sc_live_journals.proofs.ChartsProofs.Names.{led_stand_once, names_grow, more_names, led_by}
 pub use Rattle.sc_live_journals.proofs.ChartsProofs.Ends.{ends_fall}

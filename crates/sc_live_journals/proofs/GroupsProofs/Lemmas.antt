@@ -1,4 +1,4 @@
--- The lemmas of this crate that others cite, under one name.
+-- The lemmas of this part of the crate that others cite, under one name.
 pub use Rattle.sc_live_journals.proofs.GroupsProofs.Beginning.{scenarios_begin_led, children_begin_led}
 pub use Rattle.sc_live_journals.proofs.GroupsProofs.BornWell.{scenarios_well_born as scenarios_are_well_born, scenarios_well_born}
 pub use Rattle.sc_live_journals.proofs.GroupsProofs.Clearing.{quiet_leaders_rest}

@@ -1,4 +1,4 @@
--- The laws of this crate, of lawful journals of valid scenarios.
+-- The laws of this part of the crate, of lawful journals of valid scenarios.
 use Rattle.std.proofs.Common.{◌≡◌, ℕ, ◌+◌, ◌<◌, ◌≤◌, true, List, [], ◌++◌, length, take, Some, refl, sym, ◌∙◌, ap, subst, arith}
 use Rattle.sc_node_table.specs.Values.{Ballot, Command, Base, Route, Mail, MailBody, Accepted as AcceptedMail, Learn, Install, Seat}
 use Rattle.sc_base.specs.Definitions.{Each, IsRoster}

@@ -1,4 +1,4 @@
--- The lemmas of this crate that others cite, under one name.
+-- The lemmas of this part of the crate that others cite, under one name.
 pub use Rattle.sc_live_journals.proofs.LogsProofs.Along.{at, IsAlong, is_next, by_log, next_ready_is, one_past, entered_along}
 pub use Rattle.sc_live_journals.proofs.LogsProofs.Counting.{counted_learnt, each_with_slot}
 pub use Rattle.sc_live_journals.proofs.LogsProofs.Journals.{part, roster, fronts, sent_in, along, opens, flying, whole, front, found, stay}

@@ -1,4 +1,4 @@
--- The lemmas of this crate that others cite, under one name.
+-- The lemmas of this part of the crate that others cite, under one name.
 pub use Rattle.sc_live_journals.proofs.MailProofs.Clients.{IsRequestOf, clients_ask}
 pub use Rattle.sc_live_journals.proofs.MailProofs.FewJournals.{journals_few as journals_have_few, slots_left as slots_are_left, journals_idle as journals_keep_idle, journals_idle, slots_left}
 pub use Rattle.sc_live_journals.proofs.MailProofs.FewLists.{reports_more}

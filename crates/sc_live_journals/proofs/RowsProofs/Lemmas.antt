@@ -1,4 +1,4 @@
--- The lemmas of this crate that others cite, under one name.
+-- The lemmas of this part of the crate that others cite, under one name.
 pub use Rattle.sc_live_journals.proofs.RowsProofs.Asides.{asides_still as asides_stay_still, asides_still}
 pub use Rattle.sc_live_journals.proofs.RowsProofs.Beginning.{scenarios_begin as scenarios_begin_following, children_begin as children_begin_following, view_born, none_some, born_facts, born_leads, own_replica, next_born, promise_born}
 pub use Rattle.sc_live_journals.proofs.RowsProofs.Electing.{elections_keep as elections_keep_following, entered_name, elections_keep, entered_me}

@@ -1,4 +1,4 @@
--- The lemmas of this crate that others cite, under one name.
+-- The lemmas of this part of the crate that others cite, under one name.
 pub use Rattle.sc_live_journals.proofs.ScenesProofs.Asked.{asked_keep}
 pub use Rattle.sc_live_journals.proofs.ScenesProofs.Begun.{scenarios_still as scenarios_begin_still}
 pub use Rattle.sc_live_journals.proofs.ScenesProofs.Counting.{votes_keep, orders_keep}

@@ -1,4 +1,4 @@
--- The definitions of this crate that other crates cite, in one module.
+-- The definitions of this part of the crate that others cite, in one module.
 pub use Rattle.sc_live_journals.specs.groups.Begun.{BeginsSo, ScenariosBeginLed, ChildrenBeginLed}
 pub use Rattle.sc_live_journals.specs.groups.Cleared.{RestsCleared, IsCleared, QuietLeadersRest}
 pub use Rattle.sc_live_journals.specs.groups.Kept.{ScenariosAreKeptBorn, ReplicasAreKept, IsKeptPlayer, AreKeptBorn, KeptLeadersRest}

@@ -1,4 +1,4 @@
--- The definitions of this crate that other crates cite, in one module.
+-- The definitions of this part of the crate that others cite, in one module.
 pub use Rattle.sc_live_journals.specs.mail.Few.{SlotsAreLeft, most_after, IsFewReport, SaysFew, JournalsHaveFew}
 pub use Rattle.sc_live_journals.specs.mail.Idle.{IsPlainlyKept, JournalsKeepIdle, FiledIsWork}
 pub use Rattle.sc_live_journals.specs.mail.Lasting.{ReplicasLast, IsLater, HasGrown}

@@ -1,4 +1,4 @@
--- The definitions of this crate that other crates cite, in one module.
+-- The definitions of this part of the crate that others cite, in one module.
 pub use Rattle.sc_live_journals.specs.rows.Asides.{IsUnmoved, AsidesStayStill}
 pub use Rattle.sc_live_journals.specs.rows.Begun.{ScenariosBeginFollowing, ChildrenBeginFollowing}
 pub use Rattle.sc_live_journals.specs.rows.Elections.{IsNextLead, IsPast, ElectionsKeepFollowing, ToldEntriesAreTaken}

@@ -1,4 +1,4 @@
--- The definitions of this crate that other crates cite, in one module.
+-- The definitions of this part of the crate that others cite, in one module.
 pub use Rattle.sc_live_journals.specs.scenes.Asked.{AnswersReachLeaders, Expects, IsAsking, IsWaiting, AskedKeep, leader_sought}
 pub use Rattle.sc_live_journals.specs.scenes.Begun.{ScenariosBeginStill}
 pub use Rattle.sc_live_journals.specs.scenes.Counted.{IsOrdered, StaysIn, IsEntry, IsCounting, VotesKeep, OrdersKeep}

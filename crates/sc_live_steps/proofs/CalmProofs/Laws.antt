@@ -1,4 +1,4 @@
--- Laws that follow from lemmas of this crate and of those below.
+-- Laws that follow from lemmas of this part of the crate and of those that it stands on.
 use Rattle.sc_live_steps.proofs.CalmProofs.OwedPump.{pump_owes}
 use Rattle.sc_live_steps.specs.calm.Definitions.{PumpsRaiseNothing, LearntEntriesRaiseNothing, CountedEntriesRaiseNothing, ChangesRaiseNothing, OrdersRaiseLittle, LeadersMayLeave, ExecutionsRaiseNothing, CallVotesLower, LoneVotesLower}
 use Rattle.sc_live_steps.proofs.CalmProofs.OwedLearnt.{learnt_owes}

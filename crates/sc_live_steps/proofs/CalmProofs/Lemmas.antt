@@ -1,4 +1,4 @@
--- The lemmas of this crate that others cite, under one name.
+-- The lemmas of this part of the crate that others cite, under one name.
 pub use Rattle.sc_live_steps.proofs.CalmProofs.OwedCharts.{charts_may_change}
 pub use Rattle.sc_live_steps.proofs.CalmProofs.OwedClients.{clients as clients_lower}
 pub use Rattle.sc_live_steps.proofs.CalmProofs.OwedExecuting.{lone_paid as lone_entries_are_paid}

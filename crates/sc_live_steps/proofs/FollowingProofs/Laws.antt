@@ -1,4 +1,4 @@
--- Laws that follow from lemmas of this crate and of those below.
+-- Laws that follow from lemmas of this part of the crate and of those that it stands on.
 use Rattle.sc_live_steps.proofs.FollowingProofs.Keeps.{idle-keeps, takes-keeps}
 use Rattle.sc_live_steps.specs.following.Definitions.{IdleRowsKeep, TakersKeep}
 

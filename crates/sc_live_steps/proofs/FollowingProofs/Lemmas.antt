@@ -1,4 +1,4 @@
--- The lemmas of this crate that others cite, under one name.
+-- The lemmas of this part of the crate that others cite, under one name.
 pub use Rattle.sc_live_steps.proofs.FollowingProofs.Alone.{acts_stop_alone, entered_core, note_core, served_core, called_core}
 pub use Rattle.sc_live_steps.proofs.FollowingProofs.Asides.{rows_lead, aside_is, order_is}
 pub use Rattle.sc_live_steps.proofs.FollowingProofs.AsksNext.{rows_ask_next}

@@ -1,4 +1,4 @@
--- The lemmas of this crate that others cite, under one name.
+-- The lemmas of this part of the crate that others cite, under one name.
 pub use Rattle.sc_live_steps.proofs.OrdersProofs.Begun.{first, second, changed-step, opened-step, voted-step}
 pub use Rattle.sc_live_steps.proofs.OrdersProofs.Decided.{aborted-step, decided-step, heard-step, ended-step}
 pub use Rattle.sc_live_steps.proofs.OrdersProofs.Errands.{errands-none}

@@ -1,4 +1,4 @@
--- The definitions of this crate that other crates cite, in one module.
+-- The definitions of this part of the crate that others cite, in one module.
 pub use Rattle.sc_live_steps.specs.calm.Births.{BornReplicasOwe, MadeReplicasOwe}
 pub use Rattle.sc_live_steps.specs.calm.Charts.{players, Chart, run_owes, MayFollow, SeeksNoMore, player_owes, ChartsMayChange}
 pub use Rattle.sc_live_steps.specs.calm.Clients.{AsksWithin, IsInTurn, unknown, unknown_one, waiting_one, requests_owe, step_owes, ClientsLower, IsToldOne, NotMineTeaches, IsSentOn, GoneSendsOn}

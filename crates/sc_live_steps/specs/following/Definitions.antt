@@ -1,4 +1,4 @@
--- The definitions of this crate that other crates cite, in one module.
+-- The definitions of this part of the crate that others cite, in one module.
 pub use Rattle.sc_live_steps.specs.following.Counted.{IsLed, IsNext, IsOn, IsOff, LeadsPast, led_on, led_off, EntriesLead}
 pub use Rattle.sc_live_steps.specs.following.Dated.{Dated, marks_in, IsLow, AreLow, IsDatedRow, dated_for, from_slot_of, IsNoPrepare, dated_of, AsksLow, IsAskedLow, RowsAskNext, AsksFromNext, SlotsAreKept, PreparesAreKnown, ElectionsAskNext}
 pub use Rattle.sc_live_steps.specs.following.Electing.{LeadersBegin, MayLeadNext, elected_by, ElectsInto, ElectionsLead, StepsTake}

@@ -1,4 +1,4 @@
--- The definitions of this crate that other crates cite, in one module.
+-- The definitions of this part of the crate that others cite, in one module.
 pub use Rattle.sc_live_steps.specs.orders.Parts.{work_by, works_in, works_flying, works_ready, works, bond_of, errand_by, bond_in, is_cast_yes, errand_for, errands_for, turn_of, is_yes}
 pub use Rattle.sc_live_steps.specs.orders.Rows.{results, IsRow, Changed, Opened, Voted, Aborted, Decided, Heard, Ended, Kind, Rests, PassesOn, AsksOn, Files, Keeps, RestsKeep, QuestionsKeep, FilesKeep, EntriesKeep, OrdersBegin, QuietIsStill, GoesOn, work_for, IsTold, Executes}
 pub use Rattle.sc_live_steps.specs.orders.Follows.{IsTaken, OfQuestion, OfVote, OfOutcome, LastTakes, OneTakes, TwoTakes, LastFreed, OneFreed, TwoFreed, IsStepOf, ByRest, ByOrder, ByChange, ByDeal, ByPassing, ByAsking, ByTaking, ByVote, ByNo, ByHearing, ByDeciding, ByEnd, closed, BeginsDeal, TakesOutcome, IsFreed, filed_there, Hears, Votes, Comes, StepsBy, Aborts, Step, Stays, Passes, AsksAgain, RowsStep, Begins, BeginsBy}
