@@ -1,11 +1,11 @@
 -- How far positions lie from the starts of arcs, one of which begins the other, over plain numbers.
 use Rattle.std.proofs.Common.{◌≡◌, ℕ, suc, ◌+◌, ◌-◌, ◌%◌, ◌^◌, ◌<◌, ◌≤◌, arith}
 
--- beyond the first part, a position is nearer to what is left by the part's length
+-- beyond the arc that begins the other, a position is nearer to what is left by that arc's length
 pub beyond : (lo len p : ℕ) → lo < 2 ^ 32 → len ≤ 2 ^ 32 → len ≤ ((p + 2 ^ 32) - lo) % 2 ^ 32 → ((p + 2 ^ 32) - (lo + len) % 2 ^ 32) % 2 ^ 32 + len ≡ ((p + 2 ^ 32) - lo) % 2 ^ 32
 beyond lo len p fits most far = omega arith
 
--- a position of the first part lies behind what is left
+-- a position of the arc that begins the other lies behind what is left
 pub behind : (lo len more p : ℕ) → lo < 2 ^ 32 → len + more ≤ 2 ^ 32 → ((p + 2 ^ 32) - lo) % 2 ^ 32 < len → more ≤ ((p + 2 ^ 32) - (lo + len) % 2 ^ 32) % 2 ^ 32
 behind lo len more p fits most near = omega arith
 

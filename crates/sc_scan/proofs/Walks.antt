@@ -29,7 +29,7 @@ walk_step : (more : ℕ) (ring : List Cut) (arc : Arc) → 1 ≤ arc.len → wal
 unfolding walk
 walk_step more ring arc some = cond-false (arc.len == 0) _ _ (not_zero arc.len some)
 
--- a first part has positions, and no more than its arc
+-- what `first_part` gives has positions, and no more than its arc
 first_some : (arc : Arc) (cut : Cut) → 1 ≤ arc.len → IsTrue (holds cut.arc arc.lo) → 1 ≤ (first_part arc cut).arc.len
 first_some arc cut some held = (let inside : offset cut.arc arc.lo < cut.arc.len = ltb-true _ _ held in omega arith)
 
@@ -57,7 +57,7 @@ both_enough (suc more) (suc n) ring arc h k = elim (cases_lt 0 arc.len) [
   | inr none ↦ walk_done (suc more) ring arc (omega arith) ∙ sym (walk_done (suc n) ring arc (omega arith))
 ]
 
--- the parts of an arc by one step: its first part, and those of what is left
+-- the parts of an arc by one step: that of `first_part`, and those of what is left
 pub parts_none : (ring : List Cut) (arc : Arc) → arc.len ≡ 0 → parts_in ring arc ≡ []
 parts_none ring arc e = walk_done arc.len ring arc e
 
@@ -152,7 +152,7 @@ module _ (ring : List Cut) (covers : Covers ring) (arc : Arc) (fits : arc.lo < 2
             lt-ltb (offset cut.arc p) cut.arc.len (near cut.arc.lo cut.arc.len arc.lo p bounds.1 fits bounds.0.most inside (omega arith));
       }
 
-  -- a position lies beyond the first part
+  -- a position beyond what `first_part` gives is in what is left
   rest_holds : (p : ℕ) → IsTrue (holds arc p) → (first_part arc cut).arc.len ≤ offset arc p → IsTrue (holds (left_behind arc (first_part arc cut)) p)
   rest_holds p h far =
       let below : offset arc p < arc.len = ltb-true _ _ h in

@@ -1,4 +1,4 @@
--- A key that does not stand in the first part stands in the second.
+-- A place that is not in the first of two lists is in the second.
 use Rattle.std.proofs.Common.{◌≡◌, ℕ, ◌-◌, ◌<◌, ◌≤◌, ◌/◌, ◌%◌, ◌^◌, List, ◌++◌, length, filter, nat_le, nat_lt, slice_get, arith, get_or, sym, ◌∙◌}
 use Rattle.std.specs.Prelude.{unwrap_or}
 use Rattle.std.proofs.lemmas.Option.{unwrap_or-slice_get}
