@@ -5,3 +5,4 @@ pub mod PlacesStanding
 mod Saying
 pub mod Standing
 pub mod Ticked
+mod Passing

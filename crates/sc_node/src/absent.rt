@@ -1,5 +1,5 @@
 //! Which mails a node takes, and what it sends where it has no replica of the group.
-ghost use Rattle.std.specs.Prelude.{◌≡◌, [], IfOk, None};
+ghost use Rattle.std.specs.Prelude.{◌≡◌, [], IfOk, IsOk, None};
 ghost use Rattle.sc_node_table.specs.Node.{group_of_mail, absent, is_node, may_come};
 ghost use Rattle.sc_node_table.specs.Mails.{sent, answer_to};
 ghost use Rattle.sc_mail.specs.declared.bodies.AnswerBody.TheVariants.{NotLeader};
@@ -116,7 +116,8 @@ pub(crate) fn absent(
     from: u32,
     body: &MailBody,
 ) -> Result<Sequence<Mail>, OutOfMemory>
-    ensures { IfOk result (λ mails. mails ≡ absent me from body.now) }
+    ensures mails { IfOk result (λ mails. mails ≡ absent me from body.now) }
+    ensures none { absent me from body.now ≡ [] → IsOk result }
 {
     match body {
         MailBody::Request {

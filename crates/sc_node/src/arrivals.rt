@@ -1,9 +1,10 @@
 //! A mail for a group of which the node has no replica: it makes one of the state that it is sent.
-ghost use Rattle.std.specs.Prelude.{◌≡◌, ◌≤◌, ◌||◌, ◌==◌, not, nat_lt, length, true, IfOk, OnOk};
+ghost use Rattle.std.specs.Prelude.{◌≡◌, ◌≤◌, ◌||◌, ◌==◌, not, nat_lt, [], length, true, is_some, IfOk, OnOk, IsOk};
 ghost use Rattle.sc_node_table.specs.Slots.{slots_ahead};
 ghost use Rattle.sc_node_table.specs.Replica.{last_slot};
 ghost use Rattle.sc_node_table.specs.Rows.{made_by};
-ghost use Rattle.sc_node_table.specs.Node.{is_before, with_new, with_made, with_born, with_children, unknown, may_come};
+ghost use Rattle.sc_node.specs.Idle.{IsUnknownPassedBy};
+ghost use Rattle.sc_node_table.specs.Node.{is_before, replica_of, with_new, with_made, with_born, with_children, unknown, may_come};
 
 use crate::absent::absent;
 use crate::node::NodeCore;
@@ -69,7 +70,9 @@ impl NodeCore {
 
     /// The replica of a child is made as at birth, unless there is one.
     fn bear(&mut self, alloc: Global, child: &Base) -> Result<(), OutOfMemory>
-        ensures { OnOk result (self.new ≡ with_born child.now self.old) }
+        ensures born { OnOk result (self.new ≡ with_born child.now self.old) }
+        ensures known { is_some (replica_of child.now.core.id self.old.replicas) ≡ true →
+            IsOk result }
     {
         if has_replica(self, child.core.id) {
             return Ok(());
@@ -85,7 +88,8 @@ impl NodeCore {
         alloc: Global,
         made: &Sequence<Base>,
     ) -> Result<(), OutOfMemory>
-        ensures { OnOk result (self.new ≡ with_children made.now self.old) }
+        ensures born { OnOk result (self.new ≡ with_children made.now self.old) }
+        ensures none { made.now ≡ [] → IsOk result }
     {
         for child in made.as_slice() {
             self.bear(alloc, child)?;
@@ -101,7 +105,8 @@ impl NodeCore {
         body: &MailBody,
     ) -> Result<Sequence<Mail>, OutOfMemory>
         requires { may_come from body.now ≡ true }
-        ensures { IfOk result (λ sent. unknown from body.now self.old ≡ (self.new, sent)) }
+        ensures row { IfOk result (λ sent. unknown from body.now self.old ≡ (self.new, sent)) }
+        ensures none { IsUnknownPassedBy self.old.me from body.now → IsOk result }
     {
         match body {
             MailBody::Install {

@@ -1,5 +1,6 @@
 //! The children that a step makes.
-ghost use Rattle.std.specs.Prelude.{◌≡◌, ◌++◌, [], OnOk, IsOk};
+ghost use Rattle.std.specs.Prelude.{◌≡◌, ◌++◌, [], None, OnOk, IsOk};
+ghost use Rattle.sc_machine_table.specs.Children.{child_by};
 ghost use Rattle.sc_node_table.specs.Execute.{child_at, next_child};
 
 use sc_base::{OutOfMemory, Sequence};
@@ -27,7 +28,8 @@ pub(crate) fn bear(
     command: &Command,
     made: &mut Sequence<Base>,
 ) -> Result<(), OutOfMemory>
-    ensures { OnOk result (made.new ≡ made.old ++ next_child command.now replica.now) }
+    ensures made { OnOk result (made.new ≡ made.old ++ next_child command.now replica.now) }
+    ensures none { child_by replica.now.group command.now ≡ None → IsOk result }
 {
     let child = replica.machine().child_by(command)?;
     keep_child(replica.me(), child, made)

@@ -1,9 +1,10 @@
 //! The rows that execute: Accepted, where the command of the next slot became ready, and Learn.
-ghost use Rattle.std.specs.Prelude.{◌≡◌, ◌+◌, ◌<◌, ◌≤◌, ◌++◌, OnOk, Some};
+ghost use Rattle.std.specs.Prelude.{◌≡◌, ◌+◌, ◌<◌, ◌≤◌, ◌++◌, ◌&&◌, not, true, false, OnOk, IsOk, Some};
 ghost use Rattle.sc_node_table.specs.Slots.{slots_ahead};
 ghost use Rattle.sc_node_table.specs.Replica.{next, set_at, last_slot};
 ghost use Rattle.sc_node_table.specs.Voting.{leads, readied, voted, accepted_row};
 ghost use Rattle.sc_node_table.specs.Rows.{learn_row};
+ghost use Rattle.sc_node.specs.Idle.{readies_none, is_learnt};
 
 use crate::execute::execute;
 use sc_base::{Ballot, Members, OutOfMemory, Sequence};
@@ -50,6 +51,8 @@ fn count(
     ensures made { OnOk result
         (made.new
         ≡ made.old ++ (voted from ballot slot (Some set.now) (replica.old, out.old)).1) }
+    ensures short { readies_none from ballot slot (Some set.now) replica.old ≡ true →
+        IsOk result }
 {
     match replica.count_vote(from, ballot, slot, set) {
         Counted::Chosen(command) => make_ready(replica, slot, &command, out, made),
@@ -71,6 +74,9 @@ pub(crate) fn on_accepted(
         ((replica.new, out.new) ≡ (accepted_row from ballot slot (replica.old, out.old)).0) }
     ensures made { OnOk result
         (made.new ≡ made.old ++ (accepted_row from ballot slot (replica.old, out.old)).1) }
+    ensures none { (leads ballot replica.old
+        && not (readies_none from ballot slot (set_at slot replica.old) replica.old)) ≡ false →
+        IsOk result }
 {
     if !replica.leads(ballot) {
         return Ok(());
@@ -97,6 +103,7 @@ pub(crate) fn on_learn(
         ((replica.new, out.new) ≡ (learn_row from slot command.now (replica.old, out.old)).0) }
     ensures made { OnOk result
         (made.new ≡ made.old ++ (learn_row from slot command.now (replica.old, out.old)).1) }
+    ensures none { is_learnt slot replica.old ≡ true → IsOk result }
 {
     let next = replica.next();
     if LAST_SLOT < slot {

@@ -1,8 +1,8 @@
 //! Execute: the command of the next slot, counted where it was ready, else learnt.
-ghost use Rattle.std.specs.Prelude.{◌≡◌, ◌+◌, ◌<◌, ◌++◌, OnOk};
+ghost use Rattle.std.specs.Prelude.{◌≡◌, ◌+◌, ◌<◌, ◌++◌, None, OnOk, IsOk};
 ghost use Rattle.sc_node_table.specs.Slots.{slots_ahead};
 ghost use Rattle.sc_node_table.specs.Replica.{next, last_slot};
-ghost use Rattle.sc_node_table.specs.Execute.{executed_one, executed_ready, executed};
+ghost use Rattle.sc_node_table.specs.Execute.{next_ready, executed_one, executed_ready, executed};
 
 use crate::births::bear;
 use crate::speech::tell;
@@ -47,6 +47,7 @@ fn execute_ready(
     ensures made { OnOk result
         (made.new
         ≡ made.old ++ (executed_ready replica.old.ready (replica.old, out.old)).1) }
+    ensures none { next_ready replica.old ≡ None → IsOk result }
 {
     let Some(command) = replica.next_ready()? else {
         return Ok(());

@@ -1,11 +1,12 @@
 //! The node.
-ghost use Rattle.std.specs.Prelude.{◌≡◌, [], true, IfOk, OnOk};
+ghost use Rattle.std.specs.Prelude.{◌≡◌, [], true, false, None, IfOk, OnOk, IsOk};
 ghost use Rattle.std.specs.List.{list_all};
 ghost use Rattle.sc_cmd.specs.declared.cores.Base.{Base};
 ghost use Rattle.sc_node_table.specs.Slots.{slots_ahead};
 ghost use Rattle.sc_node_table.specs.Replica.{name_of};
 ghost use Rattle.sc_node_table.specs.Node.{is_before, are_in_order, born_replicas, born_node, replica_of, taken_by, routed, on_mail, with_children, on_tick, node_table, may_come};
 ghost use Rattle.sc_node.specs.Places.{StandsAt};
+ghost use Rattle.sc_node.specs.Idle.{IsPassedByOne, IsMailPassedBy, IsInputPassedBy};
 
 use crate::absent::{group_in, may_come};
 use crate::arrivals::is_before;
@@ -77,8 +78,9 @@ pub fn are_in_order(groups: &[Base]) -> bool
 
 /// The replicas at the birth of groups, of each of which the node is a member.
 fn born_replicas(alloc: Global, me: u16, groups: &[Base]) -> Result<Vec<Replica>, OutOfMemory>
-    ensures { IfOk result
+    ensures born { IfOk result
         (λ replicas. replicas.items ≡ born_replicas slots_ahead me groups.now) }
+    ensures none { born_replicas slots_ahead me groups.now ≡ [] → IsOk result }
 {
     let mut replicas = Vec::new(alloc);
     for base in groups {
@@ -100,7 +102,8 @@ impl NodeCore {
         policy: bool,
     ) -> Result<NodeCore, OutOfMemory>
         requires { are_in_order groups.now ≡ true }
-        ensures { IfOk result (λ node. node ≡ born_node slots_ahead me groups.now policy) }
+        ensures born { IfOk result (λ node. node ≡ born_node slots_ahead me groups.now policy) }
+        ensures none { born_replicas slots_ahead me groups.now ≡ [] → IsOk result }
     {
         Ok(NodeCore {
             me,
@@ -131,7 +134,8 @@ impl NodeCore {
         alloc: Global,
         input: &Input<Mail, OrderLine>,
     ) -> Result<Sequence<Mail>, OutOfMemory>
-        ensures { IfOk result (λ sent. node_table self.old input.now ≡ (self.new, sent)) }
+        ensures table { IfOk result (λ sent. node_table self.old input.now ≡ (self.new, sent)) }
+        ensures none { IsInputPassedBy input.now self.old → IsOk result }
     {
         match input {
             Input::Got(mail) => self.on_mail(alloc, mail.from, &mail.body),
@@ -147,7 +151,8 @@ impl NodeCore {
         from: u32,
         body: &MailBody,
     ) -> Result<Sequence<Mail>, OutOfMemory>
-        ensures { IfOk result (λ sent. on_mail from body.now self.old ≡ (self.new, sent)) }
+        ensures row { IfOk result (λ sent. on_mail from body.now self.old ≡ (self.new, sent)) }
+        ensures none { IsMailPassedBy from body.now self.old → IsOk result }
     {
         if !may_come(from, body) {
             return Ok(Sequence::new(alloc));
@@ -167,10 +172,12 @@ impl NodeCore {
         body: &MailBody,
     ) -> Result<Sequence<Mail>, OutOfMemory>
         requires { may_come from body.now ≡ true }
-        ensures { IfOk result
+        ensures row { IfOk result
             (λ sent.
             taken_by (replica_of group self.old.replicas) group from body.now self.old
             ≡ (self.new, sent)) }
+        ensures none { IsPassedByOne (replica_of group self.old.replicas) self.old.me from body.now →
+            IsOk result }
     {
         match replica_place(self, group) {
             None => self.take_unknown(alloc, from, body),
@@ -193,9 +200,13 @@ impl NodeCore {
         requires place { StandsAt group self.old.replicas i }
         requires unsent { sent.old ≡ [] }
         requires none { made.old ≡ [] }
-        ensures { OnOk result
+        ensures row { OnOk result
             (taken_by (replica_of group self.old.replicas) group from body.now self.old
             ≡ (with_children made.new self.new, sent.new)) }
+        ensures none { IsPassedByOne (replica_of group self.old.replicas) self.old.me from body.now →
+            IsOk result }
+        ensures childless { IsPassedByOne (replica_of group self.old.replicas) self.old.me from body.now →
+            OnOk result (made.new ≡ []) }
     {
         take_mail(&mut self.replicas[i], from, body, sent, made)?;
         Ok(())
@@ -211,10 +222,12 @@ impl NodeCore {
     ) -> Result<Sequence<Mail>, OutOfMemory>
         requires may_come { may_come from body.now ≡ true }
         requires place { StandsAt group self.old.replicas i }
-        ensures { IfOk result
+        ensures row { IfOk result
             (λ sent.
             taken_by (replica_of group self.old.replicas) group from body.now self.old
             ≡ (self.new, sent)) }
+        ensures none { IsPassedByOne (replica_of group self.old.replicas) self.old.me from body.now →
+            IsOk result }
     {
         let mut sent = Sequence::new(alloc);
         let mut made = Sequence::new(alloc);
@@ -224,7 +237,8 @@ impl NodeCore {
     }
 
     fn on_tick(&mut self, alloc: Global) -> Result<Sequence<Mail>, OutOfMemory>
-        ensures { IfOk result (λ sent. on_tick self.old ≡ (self.new, sent)) }
+        ensures row { IfOk result (λ sent. on_tick self.old ≡ (self.new, sent)) }
+        ensures none { self.old.replicas ≡ [] → IsOk result }
     {
         let mut sent = Sequence::new(alloc);
         tick_each(self, &mut sent)?;

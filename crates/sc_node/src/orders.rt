@@ -1,5 +1,5 @@
 //! Orders: which are taken, and the names that they take of the node.
-ghost use Rattle.std.specs.Prelude.{◌≡◌, ◌≤◌, ◌-◌, ◌^◌, ◌||◌, ◌&&◌, not, true, false, OnOk, Some, None, is_some, if◌then◌else◌};
+ghost use Rattle.std.specs.Prelude.{◌≡◌, ◌≤◌, ◌-◌, ◌^◌, ◌||◌, ◌&&◌, not, true, false, OnOk, IsOk, Some, None, is_some, if◌then◌else◌};
 ghost use Rattle.sc_base.specs.Drawing.{next_name, drawn_on};
 ghost use Rattle.sc_txn.specs.Checked.{is_checked};
 ghost use Rattle.sc_machine_table.specs.Orders.{refusal_of};
@@ -180,6 +180,7 @@ pub(crate) fn put_untold(
     line: &OrderLine,
 ) -> Result<(), OutOfMemory>
     ensures row { OnOk result (replica.new ≡ with_line draws.old (Some line.now) replica.old) }
+    ensures refused { is_some (untaken draws.old line.now replica.old) ≡ true → IsOk result }
     ensures names { OnOk result (draws.new ≡ names_after draws.old line.now replica.old) }
 {
     match untaken(replica, draws, line) {

@@ -1,8 +1,9 @@
 //! The rows of a replica's table, by the input.
-ghost use Rattle.std.specs.Prelude.{◌≡◌, ◌++◌, true, IfOk, OnOk};
+ghost use Rattle.std.specs.Prelude.{◌≡◌, ◌++◌, true, IfOk, OnOk, IsOk};
 ghost use Rattle.sc_node_table.specs.Node.{may_come};
 ghost use Rattle.sc_node_table.specs.Rows.{mailed, stepped, names_left};
 ghost use Rattle.sc_node.specs.Given.{is_of_transaction, may_take};
+ghost use Rattle.sc_node.specs.Idle.{IsPassedBy};
 
 use crate::counts::{on_accepted, on_learn};
 use crate::orders::on_order;
@@ -25,8 +26,9 @@ fn on_transaction(
     out: &mut Sequence<Mail>,
 ) -> Result<(), OutOfMemory>
     requires { is_of_transaction body.now ≡ true }
-    ensures { OnOk result
+    ensures row { OnOk result
         ((replica.new, out.new) ≡ (mailed from body.now (replica.old, out.old)).0) }
+    ensures none { IsPassedBy from body.now replica.old → IsOk result }
 {
     match body {
         MailBody::TxPrepare { tx, offer } => on_offer(replica, from, *tx, offer.get(), out),
@@ -57,6 +59,7 @@ fn on_mail(
         ((replica.new, out.new) ≡ (mailed from body.now (replica.old, out.old)).0) }
     ensures made { OnOk result
         (made.new ≡ made.old ++ (mailed from body.now (replica.old, out.old)).1) }
+    ensures none { IsPassedBy from body.now replica.old → IsOk result }
 {
     match body {
         MailBody::Request {
@@ -102,6 +105,7 @@ pub fn take_mail(
         ((replica.new, out.new) ≡ (mailed from body.now (replica.old, out.old)).0) }
     ensures made { OnOk result
         (made.new ≡ made.old ++ (mailed from body.now (replica.old, out.old)).1) }
+    ensures none { IsPassedBy from body.now replica.old → IsOk result }
 {
     if from <= MOST_NODES {
         return on_mail(replica, from as u16, body, out, made);

@@ -1,6 +1,6 @@
 //! What is said of an executed command: a call is answered, of an order the desk is told, and a
 //! transaction goes on.
-ghost use Rattle.std.specs.Prelude.{◌≡◌, true, false, OnOk};
+ghost use Rattle.std.specs.Prelude.{◌≡◌, [], true, false, OnOk, IsOk};
 ghost use Rattle.sc_node_table.specs.Execute.{order_result, told_effect, announced};
 ghost use Rattle.sc_node_table.specs.Spoken.{spoken};
 ghost use Rattle.sc_replica_parts.specs.Calls.{is_call};
@@ -51,10 +51,11 @@ fn tell_call(
     out: &mut Sequence<Mail>,
 ) -> Result<(), OutOfMemory>
     requires { is_call command.now ≡ true }
-    ensures { OnOk result
+    ensures row { OnOk result
         ((replica.new, out.new)
         ≡ spoken counted before.now effect command.now
         (announced counted effect command.now (replica.old, out.old))) }
+    ensures uncounted { counted ≡ false → IsOk result }
 {
     replica.tell_counted(counted, effect, command, out)
 }
@@ -69,9 +70,11 @@ fn speak(
     command: &Command,
     out: &mut Sequence<Mail>,
 ) -> Result<(), OutOfMemory>
-    ensures { OnOk result
+    ensures row { OnOk result
         ((replica.now, out.new)
         ≡ spoken counted before.now effect.now command.now (replica.now, out.old)) }
+    ensures none { (spoken counted before.now effect.now command.now (replica.now, [])).1 ≡ [] →
+        IsOk result }
 {
     transactions::speak(
         replica.alloc(),
@@ -96,10 +99,12 @@ fn tell_others(
     out: &mut Sequence<Mail>,
 ) -> Result<(), OutOfMemory>
     requires { is_call command.now ≡ false }
-    ensures { OnOk result
+    ensures row { OnOk result
         ((replica.now, out.new)
         ≡ spoken counted before.now effect.now command.now
         (announced counted effect.now command.now (replica.now, out.old))) }
+    ensures none { (spoken counted before.now effect.now command.now
+        (announced counted effect.now command.now (replica.now, []))).1 ≡ [] → IsOk result }
 {
     replica.tell_effect(order_result(command, effect), command, out)?;
     speak(replica, counted, before, effect, command, out)
@@ -114,10 +119,14 @@ pub(crate) fn tell(
     command: &Command,
     out: &mut Sequence<Mail>,
 ) -> Result<(), OutOfMemory>
-    ensures { OnOk result
+    ensures row { OnOk result
         ((replica.new, out.new)
         ≡ spoken counted before.now effect command.now
         (announced counted effect command.now (replica.old, out.old))) }
+    ensures uncounted { is_call command.now ≡ true → counted ≡ false → IsOk result }
+    ensures none { is_call command.now ≡ false →
+        (spoken counted before.now effect command.now
+        (announced counted effect command.now (replica.old, []))).1 ≡ [] → IsOk result }
 {
     if is_call(command) {
         return tell_call(replica, counted, before, effect, command, out);

@@ -1,5 +1,5 @@
 //! A tick of a node.
-ghost use Rattle.std.specs.Prelude.{◌≡◌, [], OnOk};
+ghost use Rattle.std.specs.Prelude.{◌≡◌, [], OnOk, IsOk};
 ghost use Rattle.sc_node_table.specs.Node.{on_tick};
 
 use crate::holders::Holder;
@@ -13,7 +13,8 @@ pub(crate) fn tick_each<H: Holder>(
     sent: &mut Sequence<Mail>,
 ) -> Result<(), OutOfMemory>
     requires { sent.old ≡ [] }
-    ensures { OnOk result (on_tick (H.node holder.old) ≡ (H.node holder.new, sent.new)) }
+    ensures row { OnOk result (on_tick (H.node holder.old) ≡ (H.node holder.new, sent.new)) }
+    ensures none { (H.node holder.old).replicas ≡ [] → IsOk result }
 {
     for i in 0..holder.count() {
         holder.tick_at(i, sent)?;

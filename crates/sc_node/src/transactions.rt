@@ -1,7 +1,8 @@
 //! The rows of TxPrepare, TxVote, TxOutcome, TxElsewhere, TxWatch and TxWatched.
-ghost use Rattle.std.specs.Prelude.{◌≡◌, OnOk, None};
-ghost use Rattle.sc_cmd.specs.declared.votes.Past.TheVariants.{Yes};
-ghost use Rattle.sc_node_table.specs.Transactions.{offered_by, offer_row, watched_by, watch_row, vote_queued, vote_row, watch_queued, watch_met, watched_row, elsewhere_row, outcome_row, noted_outcome};
+ghost use Rattle.std.specs.Prelude.{◌≡◌, [], ◌&&◌, ◌||◌, false, OnOk, IsOk, Some, None};
+ghost use Rattle.sc_cmd.specs.declared.votes.Past.TheVariants.{Yes, Ended};
+ghost use Rattle.sc_node_table.specs.Transactions.{offered_by, offer_row, watched_by, watch_row, vote_queued, vote_row, watch_queued, watch_met, watched_row, elsewhere_row, outcome_row, standing_vote, awaits_vote, awaits_watch, is_bound, noted_outcome};
+ghost use Rattle.sc_node.specs.Idle.{asks_outcome, watcher_asks};
 
 use sc_base::{Boxed, Draw, Dup, OutOfMemory, Sequence};
 use sc_cmd::{Command, Offer, Outcome, Past, Vote, Watch};
@@ -40,8 +41,9 @@ pub(crate) fn on_offer(
     offer: &Offer,
     out: &mut Sequence<Mail>,
 ) -> Result<(), OutOfMemory>
-    ensures { OnOk result
+    ensures row { OnOk result
         ((replica.new, out.new) ≡ offer_row from tx offer.now (replica.old, out.old)) }
+    ensures ended { standing_vote replica.old.group.core tx ≡ Some Ended → IsOk result }
 {
     match standing_vote(replica.machine().core(), tx) {
         Some(vote) => tell_vote(
@@ -85,8 +87,9 @@ pub(crate) fn on_watch(
     watch: &Watch,
     out: &mut Sequence<Mail>,
 ) -> Result<(), OutOfMemory>
-    ensures { OnOk result
+    ensures row { OnOk result
         ((replica.new, out.new) ≡ watch_row from tx watch.now (replica.old, out.old)) }
+    ensures ended { standing_vote replica.old.group.core tx ≡ Some Ended → IsOk result }
 {
     match standing_vote(replica.machine().core(), tx) {
         Some(vote) => tell_watch(replica.me(), from, tx, watch, vote, out),
@@ -102,8 +105,10 @@ fn take_vote(
     vote: &Vote,
     out: &mut Sequence<Mail>,
 ) -> Result<(), OutOfMemory>
-    ensures { OnOk result
+    ensures row { OnOk result
         ((replica.new, out.new) ≡ vote_queued from tx vote.now (replica.old, out.old)) }
+    ensures none { (replica.old.running && awaits_vote replica.old.group.core.lock tx) ≡ false →
+        IsOk result }
 {
     if !replica.is_running() || !awaits_vote(&replica.machine().core().lock, tx) {
         return Ok(());
@@ -122,8 +127,11 @@ pub(crate) fn on_party_vote(
     vote: &Vote,
     out: &mut Sequence<Mail>,
 ) -> Result<(), OutOfMemory>
-    ensures { OnOk result
+    ensures row { OnOk result
         ((replica.new, out.new) ≡ vote_row from tx part vote.now (replica.old, out.old)) }
+    ensures none { (asks_outcome vote.now (noted_outcome replica.old.group.core tx)
+        || (replica.old.running && awaits_vote replica.old.group.core.lock tx)) ≡ false →
+        IsOk result }
 {
     match vote {
         Vote::Yes(_) => match noted_outcome(replica.machine().core(), tx) {
@@ -144,8 +152,10 @@ fn take_watched(
     vote: Past,
     out: &mut Sequence<Mail>,
 ) -> Result<(), OutOfMemory>
-    ensures { OnOk result
+    ensures row { OnOk result
         ((replica.new, out.new) ≡ watch_queued from tx vote (replica.old, out.old)) }
+    ensures none { (replica.old.running && awaits_watch replica.old.group.core.lock tx) ≡ false →
+        IsOk result }
 {
     if !replica.is_running() || !awaits_watch(&replica.machine().core().lock, tx) {
         return Ok(());
@@ -163,8 +173,11 @@ pub(crate) fn on_watched(
     vote: Past,
     out: &mut Sequence<Mail>,
 ) -> Result<(), OutOfMemory>
-    ensures { OnOk result
+    ensures row { OnOk result
         ((replica.new, out.new) ≡ watched_row from tx part vote (replica.old, out.old)) }
+    ensures none { (watcher_asks vote (noted_outcome replica.old.group.core tx)
+        || (replica.old.running && awaits_watch replica.old.group.core.lock tx)) ≡ false →
+        IsOk result }
 {
     match vote {
         Past::Yes => match noted_outcome(replica.machine().core(), tx) {
@@ -187,8 +200,9 @@ pub(crate) fn on_elsewhere(
     hint: Option<u16>,
     out: &mut Sequence<Mail>,
 ) -> Result<(), OutOfMemory>
-    ensures { OnOk result
+    ensures row { OnOk result
         ((replica.new, out.new) ≡ elsewhere_row from tx hint (replica.old, out.old)) }
+    ensures none { (elsewhere_row from tx hint (replica.old, [])).1 ≡ [] → IsOk result }
 {
     if !replica.is_settled() {
         return Ok(());
@@ -212,8 +226,10 @@ pub(crate) fn on_outcome(
     outcome: &Outcome,
     out: &mut Sequence<Mail>,
 ) -> Result<(), OutOfMemory>
-    ensures { OnOk result
+    ensures row { OnOk result
         ((replica.new, out.new) ≡ outcome_row tx outcome.now (replica.old, out.old)) }
+    ensures none { (replica.old.running && is_bound replica.old.group.core.lock tx) ≡ false →
+        IsOk result }
 {
     if !replica.is_running() || !is_bound(&replica.machine().core().lock, tx) {
         return Ok(());

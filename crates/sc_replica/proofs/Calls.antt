@@ -24,7 +24,7 @@ next_call-found me idle core [] mails c e is down = absurd (cc)
 next_call-found me idle core (d ∷ calls) mails c e is down = let same : d ≡ c = cc in rw (e, same, down, same)
 
 -- the head is answered
-next_call-answered : (me : ℕ) (idle : Bool) (core : Core) (calls : List Command) (mails : List Mail) (c : Command) (answer : AnswerBody) → head_waits idle core.lock calls ≡ false → Some c ≡ head_of calls → turned_down core c ≡ Some answer
+pub next_call-answered : (me : ℕ) (idle : Bool) (core : Core) (calls : List Command) (mails : List Mail) (c : Command) (answer : AnswerBody) → head_waits idle core.lock calls ≡ false → Some c ≡ head_of calls → turned_down core c ≡ Some answer
     → next_call me idle core (rest_of calls) (answered me core.id answer c mails) ≡ next_call me idle core calls mails
 unfolding next_call
 next_call-answered me idle core [] mails c answer e is down = absurd (cc)

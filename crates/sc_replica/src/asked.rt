@@ -1,5 +1,5 @@
 //! The row of Ask: entries that are held, or the executed state.
-ghost use Rattle.std.specs.Prelude.{◌≡◌, ◌+◌, ◌<◌, ◌≤◌, OnOk, IfSome};
+ghost use Rattle.std.specs.Prelude.{◌≡◌, ◌+◌, ◌<◌, ◌≤◌, [], OnOk, IsOk, IfSome};
 ghost use Rattle.std.specs.Option.{option_copied};
 ghost use Rattle.sc_paxos_words.specs.Logs.{entry_at};
 ghost use Rattle.sc_mail.specs.declared.bodies.MailBody.TheVariants.{Learn};
@@ -57,7 +57,8 @@ impl Replica {
         slot: u32,
         out: &mut Sequence<Mail>,
     ) -> Result<(), OutOfMemory>
-        ensures { OnOk result (out.new ≡ taught most self.now from slot out.old) }
+        ensures mails { OnOk result (out.new ≡ taught most self.now from slot out.old) }
+        ensures none { taught most self.now from slot [] ≡ [] → IsOk result }
     {
         let mut at = slot;
         for _sent in 0..most {
@@ -91,7 +92,8 @@ impl Replica {
         slot: u32,
         out: &mut Sequence<Mail>,
     ) -> Result<(), OutOfMemory>
-        ensures { OnOk result ((self.now, out.new) ≡ ask_row from slot (self.now, out.old)) }
+        ensures row { OnOk result ((self.now, out.new) ≡ ask_row from slot (self.now, out.old)) }
+        ensures later { next self.now ≤ slot → IsOk result }
     {
         if self.next() <= slot {
             return Ok(());

@@ -1,5 +1,5 @@
 //! A replica begins to run, or runs no longer.
-ghost use Rattle.std.specs.Prelude.{◌≡◌, ◌+◌, ◌≤◌, IfOk, OnOk, Some, is_some, length, nat_eq};
+ghost use Rattle.std.specs.Prelude.{◌≡◌, ◌+◌, ◌≤◌, [], IfOk, OnOk, IsOk, Some, is_some, length, nat_eq};
 ghost use Rattle.std.specs.List.{list_any};
 ghost use Rattle.std.specs.Option.{option_copied};
 ghost use Rattle.sc_node_table.specs.Replica.{taken_at, listed, under_way, is_idle, next, name_of, last_slot};
@@ -19,7 +19,8 @@ impl Replica {
     /// It runs with the next ballot of its own, and asks for promises.
     #[tactic(auto, unfolding(sc_node_table::specs::Election::elected))]
     pub fn elect(&mut self, out: &mut Sequence<Mail>) -> Result<(), OutOfMemory>
-        ensures { OnOk result ((self.new, out.new) ≡ elected (self.old, out.old)) }
+        ensures row { OnOk result ((self.new, out.new) ≡ elected (self.old, out.old)) }
+        ensures none { (elected (self.old, [])).1 ≡ [] → IsOk result }
     {
         if self.top.round == u32::MAX {
             return Ok(());
@@ -57,10 +58,12 @@ impl Replica {
         body: &AnswerBody,
         out: &mut Sequence<Mail>,
     ) -> Result<(), OutOfMemory>
-        ensures { OnOk result
+        ensures mails { OnOk result
             (out.new
             ≡ answered_all self.now.me (name_of self.now) body.now (listed (taken_at self.now slot))
             out.old) }
+        ensures none { answered_all self.now.me (name_of self.now) body.now (listed (taken_at self.now slot)) []
+            ≡ [] → IsOk result }
     {
         match self.taken(slot) {
             Some(command) => {
@@ -76,9 +79,11 @@ impl Replica {
         body: &AnswerBody,
         out: &mut Sequence<Mail>,
     ) -> Result<(), OutOfMemory>
-        ensures { OnOk result
+        ensures mails { OnOk result
             (out.new
             ≡ answered_all self.now.me (name_of self.now) body.now (under_way self.now) out.old) }
+        ensures none { answered_all self.now.me (name_of self.now) body.now (under_way self.now) [] ≡ [] →
+            IsOk result }
     {
         let next = self.next();
         for i in 0..self.open_slots() {
@@ -96,7 +101,8 @@ impl Replica {
         body: &AnswerBody,
         out: &mut Sequence<Mail>,
     ) -> Result<(), OutOfMemory>
-        ensures { OnOk result ((self.new, out.new) ≡ ended hint body.now (self.old, out.old)) }
+        ensures row { OnOk result ((self.new, out.new) ≡ ended hint body.now (self.old, out.old)) }
+        ensures none { (ended hint body.now (self.old, [])).1 ≡ [] → IsOk result }
     {
         self.answer_under_way(body, out)?;
         dismiss_all(
@@ -123,7 +129,8 @@ impl Replica {
         hint: Option<u16>,
         out: &mut Sequence<Mail>,
     ) -> Result<(), OutOfMemory>
-        ensures { OnOk result ((self.new, out.new) ≡ stopped hint (self.old, out.old)) }
+        ensures row { OnOk result ((self.new, out.new) ≡ stopped hint (self.old, out.old)) }
+        ensures none { (stopped hint (self.old, [])).1 ≡ [] → IsOk result }
     {
         self.end(hint, &AnswerBody::NotLeader { hint }, out)
     }
@@ -135,7 +142,8 @@ impl Replica {
         ballot: Ballot,
         out: &mut Sequence<Mail>,
     ) -> Result<(), OutOfMemory>
-        ensures { OnOk result ((self.new, out.new) ≡ saw ballot (self.old, out.old)) }
+        ensures row { OnOk result ((self.new, out.new) ≡ saw ballot (self.old, out.old)) }
+        ensures none { (saw ballot (self.old, [])).1 ≡ [] → IsOk result }
     {
         if self.top < ballot {
             self.top = ballot;

@@ -1,11 +1,13 @@
 //! The parts of Execute: the command of the next slot is entered, told and taught, and what was in
 //! flight or ready there is over.
-ghost use Rattle.std.specs.Prelude.{◌≡◌, ◌+◌, ◌<◌, ◌||◌, not, filter, IfOk, OnOk, IfSome, Option, Some, None, true, false, is_some, if◌then◌else◌};
+ghost use Rattle.std.specs.Prelude.{◌≡◌, ◌+◌, ◌<◌, ◌||◌, not, [], filter, IfOk, OnOk, IsOk, IfSome, Option, Some, None, true, false, is_some, if◌then◌else◌};
 ghost use Rattle.sc_base.specs.Roster.{is_member};
 ghost use Rattle.sc_cmd.specs.declared.commands.Command.TheVariants.{Call};
 ghost use Rattle.sc_machine_table.specs.Machine.{applied};
 ghost use Rattle.sc_node_table.specs.Slots.{slots_ahead};
 ghost use Rattle.sc_node_table.specs.Replica.{next, members, last_slot};
+ghost use Rattle.sc_replica_parts.specs.Calls.{is_call};
+ghost use Rattle.sc_replica.specs.Idle.{KeepsQueues};
 ghost use Rattle.sc_node_table.specs.Execute.{entered, answer_of, told_call, told_effect, learnt_to, welcomed, slot_lost, landed, left_gone, left, is_among, looked, has_room, next_ready};
 
 use crate::replica::{LAST_SLOT, Replica};
@@ -60,8 +62,9 @@ impl Replica {
         command: &Command,
         out: &mut Sequence<Mail>,
     ) -> Result<(), OutOfMemory>
-        ensures { OnOk result
+        ensures row { OnOk result
             ((self.now, out.new) ≡ told_call (Some body) command.now (self.now, out.old)) }
+        ensures others { is_call command.now ≡ false → IsOk result }
     {
         match command {
             Command::Call { client, seq, .. } => {
@@ -74,8 +77,9 @@ impl Replica {
     /// A call goes back.
     #[tactic(auto, unfolding(sc_node_table::specs::Execute::told_call))]
     fn call_again(&mut self, command: &Command, out: &Sequence<Mail>) -> Result<(), OutOfMemory>
-        ensures { OnOk result
+        ensures row { OnOk result
             ((self.new, out.now) ≡ told_call None command.now (self.old, out.now)) }
+        ensures others { is_call command.now ≡ false → IsOk result }
     {
         match command {
             Command::Call { .. } => self.put_back(command.dup(self.alloc)?),
@@ -90,8 +94,9 @@ impl Replica {
         command: &Command,
         out: &mut Sequence<Mail>,
     ) -> Result<(), OutOfMemory>
-        ensures { OnOk result
+        ensures row { OnOk result
             ((self.new, out.new) ≡ told_call (answer_of effect) command.now (self.old, out.old)) }
+        ensures others { is_call command.now ≡ false → IsOk result }
     {
         match answer_of(effect) {
             Some(body) => self.answer_call(body, command, out),
@@ -107,10 +112,12 @@ impl Replica {
         command: &Command,
         out: &mut Sequence<Mail>,
     ) -> Result<(), OutOfMemory>
-        ensures { OnOk result
+        ensures row { OnOk result
             ((self.new, out.new)
             ≡ (if counted then told_call (answer_of effect) command.now (self.old, out.old) else
             (self.old, out.old))) }
+        ensures uncounted { counted ≡ false → IsOk result }
+        ensures others { is_call command.now ≡ false → IsOk result }
     {
         if !counted {
             return Ok(());
@@ -126,8 +133,9 @@ impl Replica {
         command: &Command,
         out: &mut Sequence<Mail>,
     ) -> Result<(), OutOfMemory>
-        ensures { OnOk result
+        ensures row { OnOk result
             ((self.now, out.new) ≡ told_effect told command.now (self.now, out.old)) }
+        ensures none { (told_effect told command.now (self.now, [])).1 ≡ [] → IsOk result }
     {
         match told {
             Some(result) => tell_order(self.me, order_number(command), result, out),
@@ -145,9 +153,11 @@ impl Replica {
         command: &Command,
         out: &mut Sequence<Mail>,
     ) -> Result<(), OutOfMemory>
-        ensures { OnOk result
+        ensures row { OnOk result
             ((self.now, out.new)
             ≡ learnt_to counted before.now slot command.now (self.now, out.old)) }
+        ensures none { (learnt_to counted before.now slot command.now (self.now, [])).1 ≡ [] →
+            IsOk result }
     {
         if !counted {
             return Ok(());
@@ -157,9 +167,11 @@ impl Replica {
 
     /// The members that were not there before.
     fn added_to(&self, before: &Members) -> Result<Vec<u16>, OutOfMemory>
-        ensures { IfOk result
+        ensures nodes { IfOk result
             (λ nodes.
             nodes.items ≡ filter (λ node. not (is_member before.now node)) (members self.now)) }
+        ensures none { filter (λ node. not (is_member before.now node)) (members self.now) ≡ [] →
+            IsOk result }
     {
         let members = self.machine.core().members;
         not_among(self.alloc, members.as_slice(), before)
@@ -174,8 +186,9 @@ impl Replica {
         before: &Members,
         out: &mut Sequence<Mail>,
     ) -> Result<(), OutOfMemory>
-        ensures { OnOk result
+        ensures row { OnOk result
             ((self.now, out.new) ≡ welcomed counted before.now (self.now, out.old)) }
+        ensures none { (welcomed counted before.now (self.now, [])).1 ≡ [] → IsOk result }
     {
         if !counted {
             return Ok(());
@@ -191,7 +204,9 @@ impl Replica {
         command: &Command,
         other: Option<Command>,
     ) -> Result<(), OutOfMemory>
-        ensures { OnOk result (self.new ≡ slot_lost counted command.now other self.old) }
+        ensures row { OnOk result (self.new ≡ slot_lost counted command.now other self.old) }
+        ensures none { KeepsQueues self.old (slot_lost counted command.now other self.old) →
+            IsOk result }
     {
         let Some(other) = other else {
             return Ok(());
@@ -211,8 +226,10 @@ impl Replica {
         command: &Command,
         out: &Sequence<Mail>,
     ) -> Result<(), OutOfMemory>
-        ensures { OnOk result
+        ensures row { OnOk result
             ((self.new, out.now) ≡ landed counted slot command.now (self.old, out.now)) }
+        ensures none { KeepsQueues self.old (landed counted slot command.now (self.old, [])).0 →
+            IsOk result }
     {
         drop_ready(&mut self.ready, slot);
         let other = self.leader.land(slot);
@@ -222,7 +239,8 @@ impl Replica {
     /// One that runs ends where the group is gone, and stops where its node is no member.
     #[tactic(auto, unfolding(sc_node_table::specs::Execute::left))]
     pub fn leave(&mut self, out: &mut Sequence<Mail>) -> Result<(), OutOfMemory>
-        ensures { OnOk result ((self.new, out.new) ≡ left (self.old, out.old)) }
+        ensures row { OnOk result ((self.new, out.new) ≡ left (self.old, out.old)) }
+        ensures none { (left (self.old, [])).1 ≡ [] → IsOk result }
     {
         if !self.running {
             return Ok(());
@@ -256,7 +274,8 @@ impl Replica {
     /// One that does not run looks for a leader where its hint is no member.
     #[tactic(auto, unfolding(sc_node_table::specs::Execute::looked))]
     pub fn look(&mut self, out: &mut Sequence<Mail>) -> Result<(), OutOfMemory>
-        ensures { OnOk result ((self.new, out.new) ≡ looked (self.old, out.old)) }
+        ensures row { OnOk result ((self.new, out.new) ≡ looked (self.old, out.old)) }
+        ensures none { (looked (self.old, [])).1 ≡ [] → IsOk result }
     {
         if self.is_led() {
             return Ok(());
@@ -280,6 +299,7 @@ impl Replica {
     /// The ready command of the next slot, where it runs.
     pub fn next_ready(&self) -> Result<Option<Command>, OutOfMemory>
         ensures ready { IfOk result (λ command. command ≡ next_ready self.now) }
+        ensures none { next_ready self.now ≡ None → IsOk result }
         ensures room { IfOk result
             (λ command. IfSome command (λ _. next self.now < last_slot + slots_ahead)) }
     {

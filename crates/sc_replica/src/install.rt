@@ -1,9 +1,10 @@
 //! Install: the executed state is sent, and is taken over by a replica that has executed less.
-ghost use Rattle.std.specs.Prelude.{◌≡◌, ◌≤◌, ◌||◌, not, nat_lt, ◌==◌, IfOk, OnOk, length, Some, if◌then◌else◌};
+ghost use Rattle.std.specs.Prelude.{◌≡◌, ◌≤◌, [], false, true, IfOk, OnOk, IsOk, length, Some, if◌then◌else◌};
 ghost use Rattle.sc_node_table.specs.Slots.{slots_ahead};
 ghost use Rattle.sc_node_table.specs.Replica.{last_slot, next};
 ghost use Rattle.sc_node_table.specs.Election.{stopped};
 ghost use Rattle.sc_node_table.specs.Install.{install_to, asked_to_promise, welcomed_all, named, jumped};
+ghost use Rattle.sc_replica.specs.Idle.{ignores};
 ghost use Rattle.sc_node_table.specs.Rows.{looked_up, took_over, install_row, made_by};
 
 use crate::replica::{LAST_SLOT, Replica};
@@ -52,7 +53,9 @@ impl Replica {
 
     /// A member that was added is asked to promise a ballot that is not the group's first.
     fn ask_to_promise(&self, node: u16, out: &mut Sequence<Mail>) -> Result<(), OutOfMemory>
-        ensures { OnOk result ((self.now, out.new) ≡ asked_to_promise node (self.now, out.old)) }
+        ensures row { OnOk result
+            ((self.now, out.new) ≡ asked_to_promise node (self.now, out.old)) }
+        ensures first { self.now.leader.is_first ≡ true → IsOk result }
     {
         if self.leader.is_first() {
             return Ok(());
@@ -72,7 +75,9 @@ impl Replica {
         nodes: &[u16],
         out: &mut Sequence<Mail>,
     ) -> Result<(), OutOfMemory>
-        ensures { OnOk result ((self.now, out.new) ≡ welcomed_all nodes.now (self.now, out.old)) }
+        ensures row { OnOk result
+            ((self.now, out.new) ≡ welcomed_all nodes.now (self.now, out.old)) }
+        ensures none { nodes.now ≡ [] → IsOk result }
     {
         for node in nodes {
             self.send_install(*node, out)?;
@@ -102,7 +107,8 @@ impl Replica {
     /// for.
     #[tactic(auto, unfolding(sc_node_table::specs::Rows::looked_up))]
     fn look_up(&mut self, from: u16, out: &mut Sequence<Mail>) -> Result<(), OutOfMemory>
-        ensures { OnOk result ((self.new, out.new) ≡ looked_up from (self.old, out.old)) }
+        ensures row { OnOk result ((self.new, out.new) ≡ looked_up from (self.old, out.old)) }
+        ensures none { (looked_up from (self.old, [])).1 ≡ [] → IsOk result }
     {
         if self.has_member(from) {
             self.take_hint(from);
@@ -119,6 +125,7 @@ impl Replica {
             ≡ (if self.old.running then stopped (Some from) (self.old, out.old) else
             (self.old, out.old))) }
         ensures log { OnOk result (self.new.log ≡ self.old.log) }
+        ensures none { self.old.running ≡ false → IsOk result }
     {
         if !self.running {
             return Ok(());
@@ -150,9 +157,7 @@ impl Replica {
     /// Whether an Install is not taken: it is of no later slot than those that are executed, or it
     /// has not the members of the open slots.
     fn ignores(&self, slot: u32, sets: &MemberSets) -> bool
-        ensures same { result
-            ≡ (not (length sets.now == length self.now.sets)
-            || (nat_lt last_slot slot || nat_lt slot (next self.now))) }
+        ensures same { result ≡ ignores slot sets.now self.now }
         ensures four { length self.now.sets ≡ slots_ahead }
     {
         sets.len() != self.open_slots() || LAST_SLOT < slot || slot < self.next()
@@ -168,8 +173,9 @@ impl Replica {
         sets: &MemberSets,
         out: &mut Sequence<Mail>,
     ) -> Result<(), OutOfMemory>
-        ensures { OnOk result
+        ensures row { OnOk result
             ((self.new, out.new) ≡ install_row from slot base.now sets.now (self.old, out.old)) }
+        ensures ignored { ignores slot sets.now self.old ≡ true → IsOk result }
     {
         if self.ignores(slot, sets) {
             return Ok(());

@@ -1,5 +1,5 @@
 //! Mails of a replica to several nodes, put behind those that are there.
-ghost use Rattle.std.specs.Prelude.{◌≡◌, OnOk};
+ghost use Rattle.std.specs.Prelude.{◌≡◌, [], All, OnOk, IsOk};
 ghost use Rattle.sc_mail.specs.declared.bodies.MailBody.TheVariants.{Prepare, Accept, Learn};
 ghost use Rattle.sc_node_table.specs.Replica.{name_of};
 ghost use Rattle.sc_node_table.specs.Mails.{sent_all, sent_others};
@@ -19,10 +19,11 @@ impl Replica {
         from_slot: u32,
         out: &mut Sequence<Mail>,
     ) -> Result<(), OutOfMemory>
-        ensures { OnOk result
+        ensures mails { OnOk result
             (out.new
             ≡ sent_all self.now.me nodes.now (Prepare (name_of self.now) ballot from_slot)
             out.old) }
+        ensures none { nodes.now ≡ [] → IsOk result }
     {
         parts::send_prepares(self.me, self.name(), nodes, ballot, from_slot, out)
     }
@@ -35,10 +36,11 @@ impl Replica {
         command: &Command,
         out: &mut Sequence<Mail>,
     ) -> Result<(), OutOfMemory>
-        ensures { OnOk result
+        ensures mails { OnOk result
             (out.new
             ≡ sent_all self.now.me nodes.now
             (Accept (name_of self.now) self.now.leader.ballot slot command.now) out.old) }
+        ensures none { nodes.now ≡ [] → IsOk result }
     {
         let ballot = self.leader.ballot();
         parts::send_accepts(
@@ -61,10 +63,11 @@ impl Replica {
         command: &Command,
         out: &mut Sequence<Mail>,
     ) -> Result<(), OutOfMemory>
-        ensures { OnOk result
+        ensures mails { OnOk result
             (out.new
             ≡ sent_others self.now.me nodes.now (Learn (name_of self.now) slot command.now)
             out.old) }
+        ensures alone { All (λ node. node ≡ self.now.me) nodes.now → IsOk result }
     {
         parts::send_learns(self.alloc, self.me, self.name(), nodes, slot, command, out)
     }

@@ -1,7 +1,8 @@
 //! Pump: what a settled replica offers at its open slots.
-ghost use Rattle.std.specs.Prelude.{◌≡◌, ◌+◌, ◌<◌, ◌≤◌, ◌==◌, IfOk, OnOk, IfSome, [], length, is_some, None, true, false, slice_index_or};
+ghost use Rattle.std.specs.Prelude.{◌≡◌, ◌+◌, ◌<◌, ◌≤◌, ◌==◌, IfOk, OnOk, IsOk, IfSome, [], length, is_some, None, true, false, slice_index_or};
 ghost use Rattle.std.specs.List.{list_any};
 ghost use Rattle.sc_paxos_words.specs.Leaders.{Obeys, flight_at, must};
+ghost use Rattle.sc_paxos_words.specs.Choice.{chosen_value};
 ghost use Rattle.sc_node_table.specs.Slots.{slots_ahead};
 ghost use Rattle.sc_node_table.specs.Replica.{next, settled, may_offer, taken_at, listed, under_way, is_idle, last_slot};
 ghost use Rattle.sc_replica_parts.specs.Heads.{head_waits};
@@ -37,9 +38,10 @@ fn next_call(
     calls: &mut VecDeque<Command>,
     out: &mut Sequence<Mail>,
 ) -> Result<Option<Command>, OutOfMemory>
-    ensures { IfOk result
+    ensures found { IfOk result
         (λ command.
         (command, calls.new.items, out.new) ≡ next_call me idle core.now calls.old.items out.old) }
+    ensures none { (next_call me idle core.now calls.old.items []).2 ≡ [] → IsOk result }
 {
     while !head_waits(idle, &core.lock, calls) {
         let Some(command) = take_head(calls) else {
@@ -123,6 +125,7 @@ impl Replica {
     fn find_in_calls(&mut self, out: &mut Sequence<Mail>) -> Result<Option<Command>, OutOfMemory>
         ensures found { IfOk result
             (λ command. (command, (self.new, out.new)) ≡ from_calls (self.old, out.old)) }
+        ensures none { (from_calls (self.old, [])).1.1 ≡ [] → IsOk result }
         ensures leader { OnOk result (self.new.leader ≡ self.old.leader) }
         ensures sets { OnOk result (self.new.sets ≡ self.old.sets) }
     {
@@ -142,6 +145,7 @@ impl Replica {
         ensures found { IfOk result
             (λ command.
             (command, (self.new, out.new)) ≡ from_acts self.old.acts (self.old, out.old)) }
+        ensures none { (from_acts self.old.acts (self.old, [])).1.1 ≡ [] → IsOk result }
         ensures leader { OnOk result (self.new.leader ≡ self.old.leader) }
         ensures sets { OnOk result (self.new.sets ≡ self.old.sets) }
     {
@@ -159,6 +163,7 @@ impl Replica {
     fn find_in_queues(&mut self, out: &mut Sequence<Mail>) -> Result<Option<Command>, OutOfMemory>
         ensures found { IfOk result
             (λ command. (command, (self.new, out.new)) ≡ from_queues (self.old, out.old)) }
+        ensures none { (from_queues (self.old, [])).1.1 ≡ [] → IsOk result }
         ensures leader { OnOk result (self.new.leader ≡ self.old.leader) }
         ensures sets { OnOk result (self.new.sets ≡ self.old.sets) }
     {
@@ -177,6 +182,8 @@ impl Replica {
     ) -> Result<Option<Command>, OutOfMemory>
         ensures found { IfOk result
             (λ command. (command, (self.new, out.new)) ≡ found_for slot (self.old, out.old)) }
+        ensures none { chosen_value slot self.old.leader.reports ≡ None →
+            (found_for slot (self.old, [])).1.1 ≡ [] → IsOk result }
         ensures leader { OnOk result (self.new.leader ≡ self.old.leader) }
         ensures sets { OnOk result (self.new.sets ≡ self.old.sets) }
         ensures obeys { IfOk result
@@ -214,8 +221,10 @@ impl Replica {
     #[tactic(auto, unfolding(sc_node_table::specs::Pump::pumped_from))]
     fn pump_from(&mut self, first: u32, out: &mut Sequence<Mail>) -> Result<(), OutOfMemory>
         requires { first ≤ last_slot }
-        ensures { OnOk result
+        ensures row { OnOk result
             ((self.new, out.new) ≡ pumped_from first self.old.sets (self.old, out.old)) }
+        ensures none { pumped_from first self.old.sets (self.old, []) ≡ (self.old, []) →
+            IsOk result }
     {
         for i in 0..self.open_slots() {
             let slot = first + i as u32;
@@ -236,7 +245,8 @@ impl Replica {
     /// A settled replica offers what it has at its open slots.
     #[tactic(auto, unfolding(sc_node_table::specs::Pump::pumped))]
     pub fn pump(&mut self, out: &mut Sequence<Mail>) -> Result<(), OutOfMemory>
-        ensures { OnOk result ((self.new, out.new) ≡ pumped (self.old, out.old)) }
+        ensures row { OnOk result ((self.new, out.new) ≡ pumped (self.old, out.old)) }
+        ensures none { pumped (self.old, []) ≡ (self.old, []) → IsOk result }
     {
         if !self.is_settled() {
             return Ok(());

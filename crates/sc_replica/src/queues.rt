@@ -1,6 +1,7 @@
 //! A command that lost its slot waits again.
-ghost use Rattle.std.specs.Prelude.{◌≡◌, OnOk};
+ghost use Rattle.std.specs.Prelude.{◌≡◌, OnOk, IsOk};
 ghost use Rattle.sc_node_table.specs.Queues.{put_back};
+ghost use Rattle.sc_replica.specs.Idle.{KeepsQueues};
 
 use crate::replica::Replica;
 use sc_base::OutOfMemory;
@@ -11,7 +12,8 @@ impl Replica {
     /// A command goes back to the front of its queue; a Noop is dropped.
     #[tactic(auto, unfolding(sc_node_table::specs::Queues::put_back))]
     pub(crate) fn put_back(&mut self, command: Command) -> Result<(), OutOfMemory>
-        ensures { OnOk result (self.new ≡ put_back command self.old) }
+        ensures row { OnOk result (self.new ≡ put_back command self.old) }
+        ensures none { KeepsQueues self.old (put_back command self.old) → IsOk result }
     {
         match &command {
             Command::Noop => Ok(()),

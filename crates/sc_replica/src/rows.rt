@@ -1,5 +1,5 @@
 //! The row of Request, what is asked again at a tick, and the mails of a round of votes.
-ghost use Rattle.std.specs.Prelude.{◌≡◌, ◌+◌, ◌-◌, ◌<◌, ◌≤◌, ◌||◌, not, nat_le, nat_lt, true, false, IfOk, OnOk, IfSome, Some, None, is_some};
+ghost use Rattle.std.specs.Prelude.{◌≡◌, ◌+◌, ◌-◌, ◌<◌, ◌≤◌, ◌||◌, not, nat_le, nat_lt, [], ℕ, true, false, IfOk, OnOk, IsOk, IfSome, Some, None, is_some};
 ghost use Rattle.std.specs.Option.{option_copied};
 ghost use Rattle.sc_base.specs.Roster.{is_member};
 ghost use Rattle.sc_paxos_words.specs.Logs.{entry_at, next_of};
@@ -9,8 +9,9 @@ ghost use Rattle.sc_mail.specs.declared.bodies.MailBody.TheVariants.{Ask, Learn}
 ghost use Rattle.sc_node_table.specs.Mails.{sent};
 ghost use Rattle.sc_replica.specs.Again.{asked_at, repeated};
 ghost use Rattle.sc_node_table.specs.Replica.{name_of, next, members, flying, is_idle};
-ghost use Rattle.sc_node_table.specs.Rows.{queued, requested, request_row, asked_again, told_last, mailed};
+ghost use Rattle.sc_node_table.specs.Rows.{refused_at, queued, requested, request_row, asked_again, told_last, mailed};
 ghost use Rattle.sc_replica.specs.Given.{is_of_round};
+ghost use Rattle.sc_replica.specs.Idle.{IsRoundPassedBy};
 
 use crate::replica::Replica;
 use sc_base::{Members, Op, OutOfMemory, Sequence};
@@ -29,9 +30,11 @@ impl Replica {
         op: &Op,
         out: &mut Sequence<Mail>,
     ) -> Result<(), OutOfMemory>
-        ensures { OnOk result
+        ensures row { OnOk result
             ((self.new, out.new)
             ≡ queued (call_of self.old.calls client) client seq op.now (self.old, out.old)) }
+        ensures waiting { (other : ℕ) → call_of self.old.calls client ≡ Some other →
+            seq ≤ other → IsOk result }
     {
         if let Some(other) = call_of(&self.calls, client) {
             if seq <= other {
@@ -52,8 +55,10 @@ impl Replica {
         op: &Op,
         out: &mut Sequence<Mail>,
     ) -> Result<(), OutOfMemory>
-        ensures { OnOk result
+        ensures row { OnOk result
             ((self.new, out.new) ≡ request_row client seq op.now (self.old, out.old)) }
+        ensures waiting { (other : ℕ) → refused_at self.old.group.core.gone op.now self.old ≡ None
+            → call_of self.old.calls client ≡ Some other → seq ≤ other → IsOk result }
     {
         match call_refusal(self.machine.core(), self.running, self.hint, op) {
             Some(body) => answer(self.me, self.name(), client, seq, body, out),
@@ -87,7 +92,8 @@ impl Replica {
         set: &Members,
         out: &mut Sequence<Mail>,
     ) -> Result<(), OutOfMemory>
-        ensures { OnOk result (out.new ≡ asked_at self.now slot set.now out.old) }
+        ensures mails { OnOk result (out.new ≡ asked_at self.now slot set.now out.old) }
+        ensures none { asked_at self.now slot set.now [] ≡ [] → IsOk result }
     {
         let Some(command) = self.leader.flight(slot) else {
             return Ok(());
@@ -98,8 +104,9 @@ impl Replica {
 
     /// Accept again for each slot in flight, to each of its members that was not counted.
     fn ask_again(&self, out: &mut Sequence<Mail>) -> Result<(), OutOfMemory>
-        ensures { OnOk result
+        ensures mails { OnOk result
             (out.new ≡ asked_again self.now (next self.now) self.now.sets out.old) }
+        ensures none { asked_again self.now (next self.now) self.now.sets [] ≡ [] → IsOk result }
     {
         let next = self.next();
         for i in 0..self.open_slots() {
@@ -111,8 +118,10 @@ impl Replica {
     /// The last entry to each other member.
     #[tactic(auto, unfolding(sc_node_table::specs::Rows::told_last))]
     fn tell_last(&self, out: &mut Sequence<Mail>) -> Result<(), OutOfMemory>
-        ensures { OnOk result
+        ensures mails { OnOk result
             (out.new ≡ told_last (entry_at (next self.now - 1) self.now.log) self.now out.old) }
+        ensures none { told_last (entry_at (next self.now - 1) self.now.log) self.now [] ≡ [] →
+            IsOk result }
     {
         let slot = self.next() - 1;
         match self.entry(slot) {
@@ -140,7 +149,8 @@ impl Replica {
     /// One that is settled asks again at a tick: for the votes that it lacks, or with nothing under
     /// way it tells the last entry.
     pub fn repeat(&self, out: &mut Sequence<Mail>) -> Result<(), OutOfMemory>
-        ensures { OnOk result (out.new ≡ repeated self.now out.old) }
+        ensures mails { OnOk result (out.new ≡ repeated self.now out.old) }
+        ensures none { repeated self.now [] ≡ [] → IsOk result }
     {
         if self.is_idle() {
             return self.tell_last(out);
@@ -157,8 +167,9 @@ impl Replica {
         out: &mut Sequence<Mail>,
     ) -> Result<(), OutOfMemory>
         requires { is_of_round body.now ≡ true }
-        ensures { OnOk result
+        ensures row { OnOk result
             ((self.new, out.new) ≡ (mailed from body.now (self.old, out.old)).0) }
+        ensures none { IsRoundPassedBy body.now self.old → IsOk result }
     {
         match body {
             MailBody::Prepare {

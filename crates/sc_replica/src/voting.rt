@@ -1,5 +1,5 @@
 //! Promises and votes: the rows of Prepare, Promise and Accept, and the count of a vote.
-ghost use Rattle.std.specs.Prelude.{◌≡◌, ◌+◌, ◌<◌, ◌≤◌, ◌&&◌, nat_le, true, false, IfOk, OnOk, Some};
+ghost use Rattle.std.specs.Prelude.{◌≡◌, ◌+◌, ◌<◌, ◌≤◌, ◌&&◌, nat_le, true, false, IfOk, OnOk, IsOk, Some};
 ghost use Rattle.std.specs.Option.{option_copied};
 ghost use Rattle.sc_paxos_words.specs.Preparing.{prepared};
 ghost use Rattle.sc_paxos_words.specs.Accepting.{accepted as accepted_by};
@@ -159,8 +159,9 @@ impl Replica {
         reports: &Reports,
         out: &mut Sequence<Mail>,
     ) -> Result<(), OutOfMemory>
-        ensures { OnOk result
+        ensures row { OnOk result
             ((self.new, out.new) ≡ promise_row from ballot reports.now (self.old, out.old)) }
+        ensures others { leads ballot self.old ≡ false → IsOk result }
     {
         if !self.leads(ballot) {
             return Ok(());

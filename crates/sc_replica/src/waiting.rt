@@ -1,10 +1,11 @@
 //! Commands of transactions and of orders come to wait; of one kind and one transaction one is
 //! enough.
-ghost use Rattle.std.specs.Prelude.{◌≡◌, OnOk};
+ghost use Rattle.std.specs.Prelude.{◌≡◌, [], true, OnOk, IsOk};
 ghost use Rattle.std.specs.List.{list_any};
 ghost use Rattle.sc_node_table.specs.Replica.{taken_at, listed, under_way};
 ghost use Rattle.sc_node_table.specs.Queues.{with_call};
 ghost use Rattle.sc_node_table.specs.Policy.{is_at_rest};
+ghost use Rattle.sc_node_table.specs.Pump.{pumped};
 ghost use Rattle.sc_node_table.specs.Acts.{is_of_kind, has_act, with_act, act_queued};
 
 use crate::replica::Replica;
@@ -46,7 +47,8 @@ impl Replica {
 
     /// A command of a transaction waits last, unless there is one of its kind.
     pub fn put_act(&mut self, act: Command) -> Result<(), OutOfMemory>
-        ensures { OnOk result (self.new ≡ with_act act self.old) }
+        ensures row { OnOk result (self.new ≡ with_act act self.old) }
+        ensures known { has_act act self.old ≡ true → IsOk result }
     {
         if self.has_one_of_kind(&act) {
             return Ok(());
@@ -57,7 +59,9 @@ impl Replica {
     /// .. and the pump is tried.
     #[tactic(auto, unfolding(sc_node_table::specs::Acts::act_queued))]
     pub fn queue_act(&mut self, act: Command, out: &mut Sequence<Mail>) -> Result<(), OutOfMemory>
-        ensures { OnOk result ((self.new, out.new) ≡ act_queued act (self.old, out.old)) }
+        ensures row { OnOk result ((self.new, out.new) ≡ act_queued act (self.old, out.old)) }
+        ensures known { has_act act self.old ≡ true → pumped (self.old, []) ≡ (self.old, []) →
+            IsOk result }
     {
         self.put_act(act)?;
         self.pump(out)

@@ -1,0 +1,12 @@
+use Rattle.sc_replica.proofs.Unsent.{ended-none}
+use Rattle.sc_replica.proofs.replica.Replica.end.Goals as goal
+
+pub returns-in_err-answer_under_way-clause-none : goal.returns-in_err-answer_under_way-clause-none
+returns-in_err-answer_under_way-clause-none c = λ e.
+    let ok = c.in_err-answer_under_way.ensures.none (ended-none c.args.hint c.args.body.now c.args.self.now e).0 in
+    absurd (cc)
+
+pub returns-in_err-dismiss_all-clause-none : goal.returns-in_err-dismiss_all-clause-none
+returns-in_err-dismiss_all-clause-none c = λ e.
+    let ok = c.in_err-dismiss_all.ensures.none (ended-none c.args.hint c.args.body.now c.args.self.now e).1 in
+    absurd (cc)
