@@ -1,5 +1,5 @@
 //! One of the pending copies is picked, without a list of them all.
-ghost use Rattle.std.specs.Prelude.{◌≡◌, ◌==◌, ◌-◌, ◌+◌, ◌≤◌, length, filter, take, slice_get, slice_index, if◌then◌else◌, IfOk};
+ghost use Rattle.std.specs.Prelude.{◌≡◌, ◌==◌, ◌-◌, ◌+◌, ◌<◌, ◌≤◌, ◌^◌, length, filter, take, slice_get, slice_index, if◌then◌else◌, IfOk, IsOk};
 ghost use Rattle.sc_ledger.specs.Queues.{copies_in};
 ghost use Rattle.sc_ledger.specs.Spots.{is_one_of, copies_for, picked_spot, spot_behind, spots_from};
 
@@ -28,9 +28,10 @@ fn is_one_of(whos: &[u32], who: u32) -> bool
     whos.iter().any(|one| *one == who)
 }
 
-// A sum, if it is not too large for the memory: of copies there are fewer than 2^32.
+// Returns a sum of two counts of copies. Out of memory only where it is 2^32 or more.
 fn added(many: u32, more: u32) -> Result<u32, OutOfMemory>
-    ensures { IfOk result (λ sum. sum ≡ many + more) }
+    ensures sum { IfOk result (λ sum. sum ≡ many + more) }
+    ensures fits { many + more < 2 ^ 32 → IsOk result }
 {
     match many.checked_add(more) {
         Some(sum) => Ok(sum),
@@ -47,8 +48,10 @@ fn share(asked: bool, count: u32) -> u32
 
 // How many of the copies are for one of these actors.
 fn count_for(copies: &[(u32, u32)], receivers: &[u32], whos: &[u32]) -> Result<u32, OutOfMemory>
-    ensures { IfOk result (λ many.
+    ensures many { IfOk result (λ many.
         many ≡ length (copies_for whos.now (spots_from receivers.now (copies_in copies.now)))) }
+    ensures fits { length (copies_for whos.now (spots_from receivers.now (copies_in copies.now)))
+        < 2 ^ 32 → IsOk result }
 {
     let mut many = 0u32;
     for entry in copies {
@@ -67,10 +70,13 @@ fn count_to(
     entries: usize,
 ) -> Result<u32, OutOfMemory>
     requires { entries ≤ length copies.now }
-    ensures { IfOk result (λ many.
+    ensures many { IfOk result (λ many.
         many ≡ length
         (filter (λ s. s.who == who)
         (spots_from receivers.now (copies_in (take entries copies.now))))) }
+    ensures fits { length
+        (filter (λ s. s.who == who)
+        (spots_from receivers.now (copies_in (take entries copies.now)))) < 2 ^ 32 → IsOk result }
 {
     let mut many = 0u32;
     for i in 0..entries {
@@ -91,8 +97,11 @@ fn spot_behind(
     own: u32,
 ) -> Result<Spot, OutOfMemory>
     requires { entries ≤ length copies.now }
-    ensures { IfOk result (λ spot. spot ≡ spot_behind receivers.now
+    ensures spot { IfOk result (λ spot. spot ≡ spot_behind receivers.now
         (spots_from receivers.now (copies_in (take entries copies.now))) number own) }
+    ensures fits { (spot_behind receivers.now
+        (spots_from receivers.now (copies_in (take entries copies.now))) number own).k
+        < 2 ^ 32 → IsOk result }
 {
     let who = receiver_of(receivers, number);
     let before = count_to(copies, receivers, who, entries)?;
@@ -108,8 +117,9 @@ fn nth_for(
     whos: &[u32],
     n: u32,
 ) -> Result<Option<Spot>, OutOfMemory>
-    ensures { IfOk result (λ spot. spot ≡ slice_get
+    ensures spot { IfOk result (λ spot. spot ≡ slice_get
         (copies_for whos.now (spots_from receivers.now (copies_in copies.now))) n) }
+    ensures fits { length (copies_in copies.now) < 2 ^ 32 → IsOk result }
 {
     let mut left = n;
     for i in 0..copies.len() {
@@ -132,8 +142,9 @@ pub(crate) fn picked(
     whos: &[u32],
     word: u32,
 ) -> Result<Option<Spot>, OutOfMemory>
-    ensures { IfOk result (λ spot. spot ≡ picked_spot
+    ensures spot { IfOk result (λ spot. spot ≡ picked_spot
         (copies_for whos.now (spots_from receivers.now (copies_in copies.now))) word) }
+    ensures fits { length (copies_in copies.now) < 2 ^ 32 → IsOk result }
 {
     let many = count_for(copies, receivers, whos)?;
     if many == 0 {
