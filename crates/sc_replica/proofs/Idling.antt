@@ -243,6 +243,10 @@ idle_at first i self r within eq t m e =
     let inside : i < length self.sets = subst (λ (s : ReplicaState). i < length s.sets) (sym eq) within in
     pumped_from-idle (first + i) (get_or self.sets i []) (drop (suc i) self.sets) (self, []) t m (ap (λ xs. pumped_from (first + i) xs (self, [])) (sym (drop-cons self.sets i [] inside)) ∙ whole)
 
+-- what is found, under the name that a match gives it
+pub found-some : (o : Option Command) (command : Command) (place : Place) (got : Found) → o ≡ Some command → (let found : Found = (o, place) in found) ≡ got → (let found : Found = (Some command, place) in found) ≡ got
+found-some o command place got some is = ap (λ (x : Option Command). (let found : Found = (x, place) in found)) (sym some) ∙ is
+
 pub found-clash : (slot : ℕ) (r : ReplicaState) (mails : List Mail) (command : Command) (place : Place) → (Some command, place) ≡ found_for slot (r, mails) → (found_for slot (r, [])).0 ≡ None → ⊥
 found-clash slot r mails command place is none =
     let some : Some command ≡ (found_for slot (r, [])).0 = ap (λ found. found.0) is ∙ found_for-unread slot r mails [] in

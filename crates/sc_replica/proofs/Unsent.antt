@@ -1,5 +1,6 @@
 -- Rounds that make no mail.
 use Rattle.std.proofs.Common.{◌≡◌, ℕ, zero, suc, ◌+◌, ◌-◌, ◌<◌, Bool, true, false, not, List, [], ◌∷◌, ◌++◌, length, drop, filter, Option, Some, None, refl, sym, ◌∙◌, ap, if◌then◌else◌, get_or, All, ◌==◌, ◌^◌}
+use Rattle.std.proofs.lemmas.Bool.{ne_eqb}
 use Rattle.sc_base.specs.declared.names.Draw.{Draw}
 use Rattle.sc_cmd.specs.declared.commands.Command.{Command}
 use Rattle.sc_base.specs.Roster.{is_member}
@@ -51,12 +52,12 @@ ended-none hint answer r e =
 
 -- of an election
 elected_by : (spent : Bool) (r after : ReplicaState) (mails : List Mail) → spent ≡ false → (let e : Place = if spent then (r, []) else (after, mails) in e).1 ≡ [] → mails ≡ []
-elected_by true r after mails no e = absurd (cc)
-elected_by false r after mails no e = e
+elected_by true r after mails unspent e = absurd (cc)
+elected_by false r after mails unspent e = e
 
-pub elected-none : (r : ReplicaState) → (r.top.round == 2 ^ 32 - 1) ≡ false → (elected (r, [])).1 ≡ [] → open_nodes r.sets ≡ []
+pub elected-none : (r : ReplicaState) → (r.top.round ≡ 2 ^ 32 - 1 → ⊥) → (elected (r, [])).1 ≡ [] → open_nodes r.sets ≡ []
 unfolding elected
-elected-none r no e = sent_all-none r.me (open_nodes r.sets) _ [] (elected_by (r.top.round == 2 ^ 32 - 1) r _ _ no e)
+elected-none r unspent e = sent_all-none r.me (open_nodes r.sets) _ [] (elected_by (r.top.round == 2 ^ 32 - 1) r _ _ (ne_eqb r.top.round (2 ^ 32 - 1) unspent) e)
 
 -- of members that learn
 pub learnt-alone : (counted : Bool) (before : List ℕ) (slot : ℕ) (command : Command) (r : ReplicaState) → counted ≡ true → (learnt_to counted before slot command (r, [])).1 ≡ [] → All (λ node. node ≡ r.me) before
@@ -111,7 +112,7 @@ asked-none r first i slot sets set less at of_slot e =
 
 -- of entries
 by_entry-before : (o : Option Command) (mails : List Mail) (on : Command → List Mail) → ((command : Command) → on command ≡ [] → mails ≡ [])
-    → (elim o [ None ↦ mails | Some command ↦ on command ]) ≡ [] → mails ≡ []
+    → (let more : List Mail = elim o [ None ↦ mails | Some command ↦ on command ] in more) ≡ [] → mails ≡ []
 by_entry-before None mails on rest e = e
 by_entry-before (Some command) mails on rest e = rest command e
 

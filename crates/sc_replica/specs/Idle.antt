@@ -1,4 +1,4 @@
--- Where an input leaves a replica's queues, or all of it, as they are: there no memory is taken.
+-- Inputs that leave a replica's queues as they are, or that it ignores: they take no memory.
 use Rattle.std.specs.Prelude.{◌≡◌, ℕ, ◌≤◌, ◌==◌, ◌||◌, nat_lt, not, Bool, true, false, List, [], length}
 use Rattle.sc_mail.specs.declared.bodies.MailBody.{MailBody}
 use Rattle.sc_mail.specs.declared.bodies.MailBody.TheVariants.{Request, Prepare, Promise, Accept, Accepted, Nack, Learn, Ask, Install, Answer, TxPrepare, TxVote, TxOutcome, TxElsewhere, TxWatch, TxWatched, Told}
@@ -6,15 +6,15 @@ use Rattle.sc_node_table.specs.Replica.{ReplicaState, next, last_slot}
 use Rattle.sc_node_table.specs.Election.{saw}
 use Rattle.sc_node_table.specs.Voting.{leads}
 
--- no command comes to wait, and none waits no more
+-- the queues of a replica after a step are those before it
 abbrev pub KeepsQueues : ReplicaState → ReplicaState → Type 0
 KeepsQueues before after = (after.calls ≡ before.calls) × (after.acts ≡ before.acts)
 
--- whether an Install is not taken: it is of no later slot than those that are executed, or it has not the members of the open slots
+-- whether an Install is ignored: its slot is executed already or is above the last slot, or it does not have the members of as many slots as are open
 abbrev pub ignores : ℕ → List (List ℕ) → ReplicaState → Bool
 ignores slot sets r = not (length sets == length r.sets) || (nat_lt last_slot slot || nat_lt slot (next r))
 
--- a mail of a round of votes of which nothing is kept, and which nobody is answered: a promise of another ballot than the one with which it runs, a Nack by which it does not stop, an Ask from a slot that is not executed, an Install that is not taken
+-- a mail of a round of votes that changes nothing and is not answered: a promise of another ballot than the one with which the replica runs, a Nack that sends nothing, an Ask from a slot that is not executed, an Install that is ignored
 abbrev pub IsRoundPassedBy : MailBody → ReplicaState → Type 0
 IsRoundPassedBy (Promise group ballot reports) r = leads ballot r ≡ false
 IsRoundPassedBy (Nack group promised) r = (saw promised (r, [])).1 ≡ []

@@ -16,7 +16,8 @@ use sc_replica_parts::{answer_command, dismiss_all, ready_at};
 use std::collections::BTreeMap;
 
 impl Replica {
-    /// It runs with the next ballot of its own, and asks for promises.
+    /// Runs with the next ballot of its own, and asks the members of the open slots to promise it
+    /// (Paxos Made Simple, section 2.2, phase 1a). Does nothing after the last round, 2^32 - 1.
     #[tactic(auto, unfolding(sc_node_table::specs::Election::elected))]
     pub fn elect(&mut self, out: &mut Sequence<Mail>) -> Result<(), OutOfMemory>
         ensures row { OnOk result ((self.new, out.new) ≡ elected (self.old, out.old)) }
@@ -40,7 +41,7 @@ impl Replica {
         self.send_prepares(nodes.as_slice(), ballot, from_slot, out)
     }
 
-    /// The command in flight or ready at a slot.
+    /// Returns the command in flight or ready at a slot.
     pub(crate) fn taken(&self, slot: u32) -> Option<&Command>
         ensures { option_copied result ≡ taken_at self.now slot }
     {
@@ -50,7 +51,7 @@ impl Replica {
         }
     }
 
-    /// The call in flight or ready at a slot is answered so.
+    /// Sends this answer to the client of a call that is in flight or ready at a slot.
     #[tactic(auto, unfolding(sc_node_table::specs::Mails::answered_all))]
     fn answer_taken(
         &self,
@@ -73,7 +74,7 @@ impl Replica {
         }
     }
 
-    /// The calls in flight or ready are answered so.
+    /// Sends this answer to the client of each call that is in flight or ready.
     fn answer_under_way(
         &self,
         body: &AnswerBody,
@@ -92,8 +93,8 @@ impl Replica {
         Ok(())
     }
 
-    /// It runs no longer: each call in flight, ready or waiting is answered so, and the desk is
-    /// told of each waiting order.
+    /// Ends the run: sends this answer to the client of each call in flight, ready or queued, and
+    /// reports to the desk of each queued order that this node does not lead.
     #[tactic(auto, unfolding(sc_node_table::specs::Election::ended))]
     pub(crate) fn end(
         &mut self,
@@ -123,7 +124,7 @@ impl Replica {
         Ok(())
     }
 
-    /// Stops with a hint.
+    /// Ends the run with this hint, and answers clients that this node does not lead.
     pub(crate) fn stop(
         &mut self,
         hint: Option<u16>,
@@ -135,7 +136,8 @@ impl Replica {
         self.end(hint, &AnswerBody::NotLeader { hint }, out)
     }
 
-    /// The rule on a ballot of a Prepare, Accept or Nack.
+    /// Notes the ballot of a Prepare, Accept or Nack: raises the greatest ballot seen, and stops a
+    /// leader of a lower one.
     #[tactic(auto, unfolding(sc_node_table::specs::Election::saw))]
     pub(crate) fn see(
         &mut self,

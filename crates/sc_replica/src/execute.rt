@@ -1,5 +1,5 @@
-//! The parts of Execute: the command of the next slot is entered, told and taught, and what was in
-//! flight or ready there is over.
+//! Parts of Execute: a command is applied and kept, its client or the desk is answered, the other
+//! members learn it, and what is in flight or ready at its slot is dropped.
 ghost use Rattle.std.specs.Prelude.{◌≡◌, ◌+◌, ◌<◌, ◌||◌, not, [], filter, IfOk, OnOk, IsOk, IfSome, Option, Some, None, true, false, is_some, if◌then◌else◌};
 ghost use Rattle.sc_base.specs.Roster.{is_member};
 ghost use Rattle.sc_cmd.specs.declared.commands.Command.TheVariants.{Call};
@@ -17,7 +17,7 @@ use sc_mail::{AnswerBody, Mail};
 use sc_replica_choices::{not_among, same_command, waits_in};
 use sc_replica_parts::{answer, drop_ready, order_number, ready_at, tell_order};
 
-/// What the effect of a call tells its client; no answer where the call has to wait.
+/// Returns the answer to the client of a call with this effect. None where the call has to wait.
 fn answer_of(effect: Effect) -> Option<AnswerBody>
     ensures { result ≡ answer_of effect }
 {
@@ -36,8 +36,8 @@ fn answer_of(effect: Effect) -> Option<AnswerBody>
 }
 
 impl Replica {
-    /// The command is applied and kept, one more slot is open, and what is not above the floor is
-    /// forgotten.
+    /// Applies the command of the next slot and keeps it in the log, opens one more slot, and
+    /// forgets what is not above the floor. Returns the effect.
     #[tactic(auto, unfolding(sc_node_table::specs::Execute::entered))]
     pub fn enter(&mut self, command: &Command) -> Result<Effect, OutOfMemory>
         requires { next self.old < last_slot + slots_ahead }
@@ -54,7 +54,7 @@ impl Replica {
         Ok(effect)
     }
 
-    /// A call is answered so.
+    /// Sends this answer to the client of a call. Does nothing for another command.
     #[tactic(auto, unfolding(sc_node_table::specs::Execute::told_call))]
     fn answer_call(
         &self,
@@ -74,7 +74,7 @@ impl Replica {
         }
     }
 
-    /// A call goes back.
+    /// Puts a copy of a call back into its queue. Does nothing for another command.
     #[tactic(auto, unfolding(sc_node_table::specs::Execute::told_call))]
     fn call_again(&mut self, command: &Command, out: &Sequence<Mail>) -> Result<(), OutOfMemory>
         ensures row { OnOk result
@@ -87,7 +87,8 @@ impl Replica {
         }
     }
 
-    /// A counted call is answered by its effect, or goes back.
+    /// Answers the client of a call by the call's effect, or puts the call back where the effect
+    /// gives no answer.
     fn tell_call(
         &mut self,
         effect: Effect,
@@ -104,7 +105,8 @@ impl Replica {
         }
     }
 
-    /// A call is answered where it was counted.
+    /// Answers the client of a call, or puts the call back, where the call was counted. Does
+    /// nothing for one that was learnt.
     pub fn tell_counted(
         &mut self,
         counted: bool,
@@ -125,7 +127,8 @@ impl Replica {
         self.tell_call(effect, command, out)
     }
 
-    /// The desk is told what an executed order came to.
+    /// Reports to the desk the result of an executed order, if there is one and the order has a
+    /// number.
     #[tactic(auto, unfolding(sc_node_table::specs::Execute::told_effect))]
     pub fn tell_effect(
         &self,
@@ -143,7 +146,8 @@ impl Replica {
         }
     }
 
-    /// The members before a counted command learn it.
+    /// Sends a counted command to the other members of the state before it, so that they learn it.
+    /// Does nothing for one that was learnt.
     #[tactic(auto, unfolding(sc_node_table::specs::Execute::learnt_to))]
     pub fn teach_members(
         &self,
@@ -165,7 +169,7 @@ impl Replica {
         self.send_learns(before.as_slice(), slot, command, out)
     }
 
-    /// The members that were not there before.
+    /// Returns the members that are not among these.
     fn added_to(&self, before: &Members) -> Result<Vec<u16>, OutOfMemory>
         ensures nodes { IfOk result
             (λ nodes.
@@ -177,8 +181,8 @@ impl Replica {
         not_among(self.alloc, members.as_slice(), before)
     }
 
-    /// Each member that a counted command added is sent the state, and asked to promise this
-    /// leader's ballot.
+    /// Sends the executed state to each member that a counted command added, and asks it to promise
+    /// the leader's ballot. Does nothing for a command that was learnt.
     #[tactic(auto, unfolding(sc_node_table::specs::Execute::welcomed))]
     pub fn welcome(
         &self,
@@ -197,7 +201,8 @@ impl Replica {
         self.welcome_all(added.as_slice(), out)
     }
 
-    /// A command that lost its slot to a learnt one goes back.
+    /// Puts back the command that was in flight at a slot, where the slot went to another command,
+    /// which was learnt.
     fn lose(
         &mut self,
         counted: bool,
@@ -217,7 +222,8 @@ impl Replica {
         self.put_back(other)
     }
 
-    /// What is in flight or ready at the slot is over.
+    /// Drops what is in flight or ready at a slot that is executed. A command in flight that lost
+    /// the slot to a learnt one goes back to its queue.
     #[tactic(auto, unfolding(sc_node_table::specs::Execute::landed))]
     pub fn land(
         &mut self,
@@ -236,7 +242,8 @@ impl Replica {
         self.lose(counted, command, other)
     }
 
-    /// One that runs ends where the group is gone, and stops where its node is no member.
+    /// Ends the run where the group is gone, and stops where the node is no longer a member. Does
+    /// nothing for a replica that does not run.
     #[tactic(auto, unfolding(sc_node_table::specs::Execute::left))]
     pub fn leave(&mut self, out: &mut Sequence<Mail>) -> Result<(), OutOfMemory>
         ensures row { OnOk result ((self.new, out.new) ≡ left (self.old, out.old)) }
@@ -256,7 +263,8 @@ impl Replica {
         self.stop(Some(least), out)
     }
 
-    /// Whether it need not look for a leader: it runs, the group is gone, or its hint is a member.
+    /// Returns whether the replica need not look for a leader: it runs, the group is gone, or its
+    /// hint is a member.
     fn is_led(&self) -> bool
         ensures { result
             ≡ (self.now.running
@@ -271,7 +279,8 @@ impl Replica {
         }
     }
 
-    /// One that does not run looks for a leader where its hint is no member.
+    /// Takes the least member for the leader where the replica does not run and its hint is no
+    /// member. Where that member is its own node, it is elected.
     #[tactic(auto, unfolding(sc_node_table::specs::Execute::looked))]
     pub fn look(&mut self, out: &mut Sequence<Mail>) -> Result<(), OutOfMemory>
         ensures row { OnOk result ((self.new, out.new) ≡ looked (self.old, out.old)) }
@@ -288,7 +297,7 @@ impl Replica {
         Ok(())
     }
 
-    /// Whether a counted command may be executed at the next slot.
+    /// Returns whether a counted command may be executed at the next slot.
     pub fn has_room(&self) -> bool
         ensures same { result ≡ has_room self.now }
         ensures room { result ≡ true → next self.now < last_slot + slots_ahead }
@@ -296,7 +305,7 @@ impl Replica {
         self.next() < LAST_SLOT + self.open_slots() as u32
     }
 
-    /// The ready command of the next slot, where it runs.
+    /// Returns a copy of the command that is ready at the next slot, where the replica runs.
     pub fn next_ready(&self) -> Result<Option<Command>, OutOfMemory>
         ensures ready { IfOk result (λ command. command ≡ next_ready self.now) }
         ensures none { next_ready self.now ≡ None → IsOk result }

@@ -1,4 +1,4 @@
-//! Mails of a replica to several nodes, put behind those that are there.
+//! Mails of a replica to several nodes, appended to those that are there.
 ghost use Rattle.std.specs.Prelude.{◌≡◌, [], All, OnOk, IsOk};
 ghost use Rattle.sc_mail.specs.declared.bodies.MailBody.TheVariants.{Prepare, Accept, Learn};
 ghost use Rattle.sc_node_table.specs.Replica.{name_of};
@@ -11,7 +11,8 @@ use sc_mail::Mail;
 use sc_replica_parts as parts;
 
 impl Replica {
-    /// A prepare to each of several nodes.
+    /// Appends a prepare of a ballot, from a slot on, to each of these nodes (Paxos Made Simple,
+    /// section 2.2, phase 1a).
     pub(crate) fn send_prepares(
         &self,
         nodes: &[u16],
@@ -28,7 +29,8 @@ impl Replica {
         parts::send_prepares(self.me, self.name(), nodes, ballot, from_slot, out)
     }
 
-    /// An accept in the leader's ballot to each of several nodes.
+    /// Appends an accept of a command at a slot, in the leader's ballot, to each of these nodes
+    /// (Paxos Made Simple, section 2.2, phase 2a).
     pub(crate) fn send_accepts(
         &self,
         nodes: &[u16],
@@ -55,7 +57,8 @@ impl Replica {
         )
     }
 
-    /// The chosen command of a slot to each of several nodes but the sender.
+    /// Appends a learn of the chosen command of a slot to each of these nodes but the sender (Paxos
+    /// Made Simple, section 2.3).
     pub(crate) fn send_learns(
         &self,
         nodes: &[u16],

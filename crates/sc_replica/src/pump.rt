@@ -1,4 +1,4 @@
-//! Pump: what a settled replica offers at its open slots.
+//! Pump: a settled replica offers queued commands at its open slots.
 ghost use Rattle.std.specs.Prelude.{◌≡◌, ◌+◌, ◌<◌, ◌≤◌, ◌==◌, IfOk, OnOk, IsOk, IfSome, [], length, is_some, None, true, false, slice_index_or};
 ghost use Rattle.std.specs.List.{list_any};
 ghost use Rattle.sc_paxos_words.specs.Leaders.{Obeys, flight_at, must};
@@ -18,7 +18,7 @@ use sc_replica_parts::{answer_command, head, is_empty, take_head};
 use std::alloc::Global;
 use std::collections::VecDeque;
 
-// Whether the head of the calls waits, or there is none.
+// Returns whether the head of the queue of calls and orders has to wait, or there is none.
 fn head_waits(idle: bool, lock: &Lock, calls: &VecDeque<Command>) -> bool
     ensures { result ≡ head_waits idle lock.now calls.now.items }
 {
@@ -28,8 +28,8 @@ fn head_waits(idle: bool, lock: &Lock, calls: &VecDeque<Command>) -> bool
     }
 }
 
-/// The command at the head of the calls that a slot may have; the calls before it that the group
-/// does not serve are answered.
+/// Returns the command at the head of the queue of calls and orders, if it may have a slot. Calls
+/// before it that the group does not serve are answered and leave the queue.
 fn next_call(
     alloc: Global,
     me: u16,
@@ -56,7 +56,9 @@ fn next_call(
 }
 
 impl Replica {
-    /// Whether its leader may offer at an open slot, counted from the next one.
+    /// Returns whether the leader may offer at an open slot, counted from the next one: no higher
+    /// ballot was promised here, and its ballot is the first or a majority of the slot's members
+    /// has promised it.
     fn may_offer(&self, i: usize) -> bool
         requires { i < slots_ahead }
         ensures { result ≡ may_offer self.now (slice_index_or self.now.sets i []) }
@@ -65,7 +67,7 @@ impl Replica {
             .settled(self.acceptor.promised(), self.sets.at(i))
     }
 
-    /// Whether it runs and its leader may offer at the next slot.
+    /// Returns whether the replica runs and its leader may offer at the next slot.
     pub fn is_settled(&self) -> bool
         ensures { result ≡ settled self.now }
     {
@@ -76,6 +78,7 @@ impl Replica {
             .settled(self.acceptor.promised(), self.sets.first())
     }
 
+    /// Returns whether a command is in flight or ready at a slot.
     fn is_taken(&self, slot: u32) -> bool
         ensures { result ≡ is_some (taken_at self.now slot) }
     {
@@ -85,7 +88,7 @@ impl Replica {
         }
     }
 
-    /// Whether nothing is in flight or ready.
+    /// Returns whether nothing is in flight or ready.
     pub(crate) fn is_idle(&self) -> bool
         ensures { result ≡ is_idle self.now }
     {
@@ -98,6 +101,7 @@ impl Replica {
         true
     }
 
+    /// Returns whether a command other than Call and Noop is in flight or ready at a slot.
     fn is_act_at(&self, slot: u32) -> bool
         ensures { result ≡ list_any is_act (listed (taken_at self.now slot)) }
     {
@@ -107,7 +111,7 @@ impl Replica {
         }
     }
 
-    /// Whether a command other than Call and Noop is in flight or ready.
+    /// Returns whether a command other than Call and Noop is in flight or ready.
     fn has_act(&self) -> bool
         ensures { result ≡ list_any is_act (under_way self.now) }
     {
@@ -120,7 +124,7 @@ impl Replica {
         false
     }
 
-    /// What the calls have for a slot.
+    /// Takes a command for a slot from the queue of calls and orders, if one may have it.
     #[tactic(auto, unfolding(sc_node_table::specs::Pump::from_calls))]
     fn find_in_calls(&mut self, out: &mut Sequence<Mail>) -> Result<Option<Command>, OutOfMemory>
         ensures found { IfOk result
@@ -140,7 +144,8 @@ impl Replica {
         )
     }
 
-    /// What the commands of transactions have for a slot, else the calls.
+    /// Takes a command for a slot from the queue of transactions' commands, where nothing is in
+    /// flight or ready, and from the queue of calls and orders where that one is empty.
     fn find_in_acts(&mut self, out: &mut Sequence<Mail>) -> Result<Option<Command>, OutOfMemory>
         ensures found { IfOk result
             (λ command.
@@ -158,7 +163,8 @@ impl Replica {
         Ok(take_head(&mut self.acts))
     }
 
-    /// What waits for a slot.
+    /// Takes a command for a slot from the queues. None while a command other than Call and Noop is
+    /// in flight or ready.
     #[tactic(auto, unfolding(sc_node_table::specs::Pump::from_queues))]
     fn find_in_queues(&mut self, out: &mut Sequence<Mail>) -> Result<Option<Command>, OutOfMemory>
         ensures found { IfOk result
@@ -173,7 +179,8 @@ impl Replica {
         self.find_in_acts(out)
     }
 
-    /// What is found for a slot.
+    /// Returns the command for a slot: what the leader must propose there, a Noop in a gap, and
+    /// else a queued command (Paxos Made Simple, section 3).
     #[tactic(auto, unfolding(sc_node_table::specs::Pump::found_for))]
     fn find_for(
         &mut self,
@@ -196,7 +203,8 @@ impl Replica {
         }
     }
 
-    /// What is found goes into flight, and the members of its slot are asked to accept it.
+    /// Puts a command into flight at a slot, and asks the slot's members to accept it (Paxos Made
+    /// Simple, section 2.2, phase 2a).
     #[tactic(auto, unfolding(sc_node_table::specs::Pump::offered))]
     fn offer(
         &mut self,
@@ -217,7 +225,8 @@ impl Replica {
         self.send_accepts(self.sets.at(i).as_slice(), slot, command, out)
     }
 
-    /// The open slots from the least one on; a slot that is taken is passed by.
+    /// Offers at the open slots in their order. A slot at which a command is in flight or ready is
+    /// passed by; the first slot at which it may not offer, or has nothing to offer, ends it.
     #[tactic(auto, unfolding(sc_node_table::specs::Pump::pumped_from))]
     fn pump_from(&mut self, first: u32, out: &mut Sequence<Mail>) -> Result<(), OutOfMemory>
         requires { first ≤ last_slot }
@@ -242,7 +251,7 @@ impl Replica {
         Ok(())
     }
 
-    /// A settled replica offers what it has at its open slots.
+    /// Offers what the replica has at its open slots. Does nothing where it is not settled.
     #[tactic(auto, unfolding(sc_node_table::specs::Pump::pumped))]
     pub fn pump(&mut self, out: &mut Sequence<Mail>) -> Result<(), OutOfMemory>
         ensures row { OnOk result ((self.new, out.new) ≡ pumped (self.old, out.old)) }

@@ -1,4 +1,4 @@
-//! The row of Request, what is asked again at a tick, and the mails of a round of votes.
+//! Requests, what is sent again at a tick, and the mails of a round of votes.
 ghost use Rattle.std.specs.Prelude.{◌≡◌, ◌+◌, ◌-◌, ◌<◌, ◌≤◌, ◌||◌, not, nat_le, nat_lt, [], ℕ, true, false, IfOk, OnOk, IsOk, IfSome, Some, None, is_some};
 ghost use Rattle.std.specs.Option.{option_copied};
 ghost use Rattle.sc_base.specs.Roster.{is_member};
@@ -20,8 +20,8 @@ use sc_replica_choices::{call_refusal, uncounted};
 use sc_replica_parts::{add_call, answer, call_of, drop_call, send};
 
 impl Replica {
-    /// A call waits last, unless the same or a later one of its client waits; an earlier one waits
-    /// no more.
+    /// Appends a call to the queue in place of an earlier one of its client, and pumps. Does
+    /// nothing where the same or a later one is queued.
     #[tactic(auto, unfolding(sc_node_table::specs::Rows::queued))]
     fn queue(
         &mut self,
@@ -46,7 +46,7 @@ impl Replica {
         self.pump(out)
     }
 
-    /// Request.
+    /// Handles a Request: answers why it is not taken, or queues it.
     #[tactic(auto, unfolding(sc_node_table::specs::Rows::request_row, sc_node_table::specs::Rows::requested))]
     pub fn on_request(
         &mut self,
@@ -66,7 +66,7 @@ impl Replica {
         }
     }
 
-    /// The slots from one on are asked for.
+    /// Asks a node for the entries from a slot on.
     pub fn ask(
         &self,
         from: u16,
@@ -85,7 +85,8 @@ impl Replica {
         )
     }
 
-    /// Accept again at one slot, if a command is in flight there.
+    /// Sends the command in flight at a slot, if there is one, again to the members of the slot
+    /// whose votes were not counted.
     fn ask_again_at(
         &self,
         slot: u32,
@@ -102,7 +103,7 @@ impl Replica {
         self.send_accepts(nodes.as_slice(), slot, command, out)
     }
 
-    /// Accept again for each slot in flight, to each of its members that was not counted.
+    /// Sends each command in flight again to the members of its slot whose votes were not counted.
     fn ask_again(&self, out: &mut Sequence<Mail>) -> Result<(), OutOfMemory>
         ensures mails { OnOk result
             (out.new ≡ asked_again self.now (next self.now) self.now.sets out.old) }
@@ -115,7 +116,7 @@ impl Replica {
         Ok(())
     }
 
-    /// The last entry to each other member.
+    /// Sends the last executed entry, if it is held, to each other member.
     #[tactic(auto, unfolding(sc_node_table::specs::Rows::told_last))]
     fn tell_last(&self, out: &mut Sequence<Mail>) -> Result<(), OutOfMemory>
         ensures mails { OnOk result
@@ -133,7 +134,7 @@ impl Replica {
         }
     }
 
-    /// Whether its group is not gone and its node is a member.
+    /// Returns whether the group is not gone and the node is a member.
     pub fn takes_part(&self) -> bool
         ensures { result
             ≡ not
@@ -146,8 +147,8 @@ impl Replica {
         core.members.has(self.me)
     }
 
-    /// One that is settled asks again at a tick: for the votes that it lacks, or with nothing under
-    /// way it tells the last entry.
+    /// Sends the accepts again whose votes are lacking. Where nothing is in flight or ready, sends
+    /// the last executed entry to the other members.
     pub fn repeat(&self, out: &mut Sequence<Mail>) -> Result<(), OutOfMemory>
         ensures mails { OnOk result (out.new ≡ repeated self.now out.old) }
         ensures none { repeated self.now [] ≡ [] → IsOk result }
@@ -158,7 +159,7 @@ impl Replica {
         self.ask_again(out)
     }
 
-    /// A mail of a round of votes, but for the votes themselves.
+    /// Handles a mail of a round of votes, but for the votes themselves.
     #[tactic(auto, unfolding(sc_node_table::specs::Rows::mailed, sc_node_table::specs::Voting::nack_row))]
     pub fn on_round(
         &mut self,

@@ -1,6 +1,7 @@
-use Rattle.std.proofs.Common.{List, Option, Some, sym, ap, ◌∙◌}
+use Rattle.std.proofs.Common.{List, [], Option, Some, sym, ap, ◌∙◌}
 use Rattle.sc_cmd.specs.declared.commands.Command.{Command}
 use Rattle.sc_mail.specs.declared.bodies.Mail.{Mail}
+use Rattle.sc_replica_parts.proofs.Silence.{answered-others}
 use Rattle.sc_replica.proofs.Calls.{next_call-ends, next_call-found, next_call-goes}
 use Rattle.sc_replica.proofs.Unsent.{next_call-silent, next_call-unanswered}
 use Rattle.sc_replica.proofs.pump.next_call.Goals as goal
@@ -75,3 +76,10 @@ loop-alloc-preserved-in_ok-answer_command-in-Some-turned_down-5 c = record {
       next_call-silent c.args.me c.args.idle c.args.core.now c.loop-alloc.calls.items c.take_head.new.queue.items c.in-Some.command c.in-Some-turned_down.body c.take_head.ensures.rest
       (sym c.head_waits.ensures ∙ c.loop-alloc-test.true) (sym c.in-Some.is ∙ c.take_head.ensures.head) (sym c.turned_down.ensures ∙ c.in-Some-turned_down.is) (c.loop-alloc.invariant.none e);
 }
+
+pub returns-in_err-answer_command-in-Some-turned_down-clause-none : goal.returns-in_err-answer_command-in-Some-turned_down-clause-none
+returns-in_err-answer_command-in-Some-turned_down-clause-none c = λ e.
+    let unanswered = next_call-unanswered c.args.me c.args.idle c.args.core.now c.loop-alloc.calls.items c.in-Some.command c.in-Some-turned_down.body
+    (sym c.head_waits.ensures ∙ c.loop-alloc-test.true) (sym c.in-Some.is ∙ c.take_head.ensures.head) (sym c.turned_down.ensures ∙ c.in-Some-turned_down.is) (c.loop-alloc.invariant.none e) in
+    let ok = c.in_err-answer_command-in-Some-turned_down.ensures.others (answered-others c.args.me c.args.core.now.id c.in-Some-turned_down.body c.in-Some.command [] unanswered) in
+    absurd (cc)

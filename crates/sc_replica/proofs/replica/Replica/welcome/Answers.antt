@@ -1,3 +1,4 @@
+use Rattle.std.proofs.Common.{◌∙◌}
 use Rattle.sc_replica.proofs.Unsent.{welcomed-none}
 use Rattle.sc_replica.proofs.replica.Replica.welcome.Goals as goal
 
@@ -7,4 +8,5 @@ returns-in_err-added-clause-none c = λ e.
     absurd (cc)
 
 pub returns-clause-none : goal.returns-clause-none
-returns-clause-none c = λ e. let h = c.welcome_all.ensures in let k = c.as_slice.ensures in let n = c.in_ok-added.ensures in ?
+returns-clause-none c = λ e.
+    c.welcome_all.ensures.none (c.as_slice.ensures.value ∙ c.in_ok-added.ensures.nodes ∙ welcomed-none c.args.counted c.args.before.now c.args.self.now c.if-not-counted.false e)
