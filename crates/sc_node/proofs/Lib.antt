@@ -6,3 +6,5 @@ mod Saying
 pub mod Standing
 pub mod Ticked
 mod Passing
+mod IdleTicks
+mod Born

@@ -1,5 +1,5 @@
--- Where a node, or a replica of it, passes an input by: nothing is sent and nothing comes to wait, and no memory is taken.
-use Rattle.std.specs.Prelude.{◌≡◌, ℕ, ◌≤◌, ◌==◌, ◌||◌, ◌&&◌, nat_lt, not, Bool, true, false, List, [], length, Option, Some, None, Unit}
+-- Inputs that a node or one of its replicas ignores: nothing is sent and nothing is queued, and no memory is taken.
+use Rattle.std.specs.Prelude.{◌≡◌, ℕ, ◌≤◌, ◌==◌, ◌||◌, ◌&&◌, nat_lt, not, Bool, true, false, List, [], length, Option, Some, None}
 use Rattle.sc_actor.specs.declared.rows.Input.{Input}
 use Rattle.sc_actor.specs.declared.rows.Input.TheVariants.{Got, Tick, Go, Told}
 use Rattle.sc_base.specs.declared.names.Ballot.{Ballot}
@@ -30,39 +30,39 @@ use Rattle.sc_replica.specs.Again.{repeated}
 use Rattle.sc_replica_transactions.specs.Quiet.{coordinates}
 use Rattle.sc_replica.specs.Idle.{IsRoundPassedBy}
 
--- a request for which that of this number waits already: the same one, or a later one of its client
+-- a request whose client has the same or a later one in the queue
 abbrev pub IsWaiting : Option ℕ → ℕ → Type 0
 IsWaiting None seq = ⊥
 IsWaiting (Some other) seq = seq ≤ other
 
--- whether a count has no majority yet
+-- whether a count of votes has no majority yet
 abbrev pub is_short : Counted Command → Bool
 is_short (Chosen command) = false
 is_short (NotYet count) = true
 
--- whether a vote at a slot with these members, if it is open, makes no command ready
+-- whether a vote makes no command ready, at a slot with these members or at one that is not open
 abbrev pub readies_none : ℕ → Ballot → ℕ → Option (List ℕ) → ReplicaState → Bool
 readies_none from ballot slot None r = true
 readies_none from ballot slot (Some set) r = is_short (counted from ballot slot set r.leader).0
 
--- whether a learnt command is neither executed nor asked for: its slot is executed, or comes after the last one
+-- whether a learnt command is ignored: its slot is executed already, or is above the last slot
 abbrev pub is_learnt : ℕ → ReplicaState → Bool
 is_learnt slot r = nat_lt last_slot slot || nat_lt slot (next r)
 
--- whether a vote asks for what was decided: only a Yes does
+-- whether a vote is answered with the outcome: a Yes is, where the outcome is noted
 abbrev pub asks_outcome : Vote → Option Outcome → Bool
 asks_outcome (Says.Yes frozen) (Some outcome) = true
 asks_outcome (Says.Yes frozen) None = false
 asks_outcome (Says.No why) outcome = false
 
--- .. and a watcher's
+-- whether a watcher's vote is answered with the outcome: a Yes is, where the outcome is noted
 abbrev pub watcher_asks : Past → Option Outcome → Bool
 watcher_asks Cast.Yes (Some outcome) = true
 watcher_asks Cast.Yes None = false
 watcher_asks (Cast.No why) outcome = false
 watcher_asks Cast.Ended outcome = false
 
--- a mail of which a replica keeps nothing, and which nobody is answered
+-- a mail that a replica ignores: it changes nothing and is not answered
 abbrev pub IsPassedBy : ℕ → MailBody → ReplicaState → Type 0
 IsPassedBy from (Request group client seq op) r = (refused_at r.group.core.gone op r ≡ None) × IsWaiting (call_of r.calls client) seq
 IsPassedBy from (Prepare group ballot from_slot) r = ⊥
@@ -82,33 +82,33 @@ IsPassedBy from (TxWatch tx watch) r = standing_vote r.group.core tx ≡ Some Ca
 IsPassedBy from (TxWatched tx coord part vote) r = (watcher_asks vote (noted_outcome r.group.core tx) || (r.running && awaits_watch r.group.core.lock tx)) ≡ false
 IsPassedBy from (ToldMail order result) r = Unit {0}
 
--- .. and a node, where it has no replica of the group
+-- a mail that a node ignores where it has no replica of the mail's group
 abbrev pub IsUnknownPassedBy : ℕ → ℕ → MailBody → Type 0
 IsUnknownPassedBy me from (Install group slot base sets) = (not (length sets == slots_ahead) || nat_lt last_slot slot) ≡ true
 IsUnknownPassedBy me from body = absent me from body ≡ []
 
--- .. where it has that replica, or none
+-- a mail that a node ignores where this is its replica of the mail's group, if it has one
 abbrev pub IsPassedByOne : Option ReplicaState → ℕ → ℕ → MailBody → Type 0
 IsPassedByOne None me from body = IsUnknownPassedBy me from body
 IsPassedByOne (Some r) me from body = IsPassedBy from body r
 
--- a mail for the replica of a group, or for none
+-- a mail that a node ignores where the mail is for this group, or for none
 abbrev pub IsRoutedBy : Option Draw → ℕ → MailBody → NodeState → Type 0
 IsRoutedBy None from body node = Unit {0}
 IsRoutedBy (Some group) from body node = IsPassedByOne (replica_of group node.replicas) node.me from body
 
--- .. which comes from whom it may come, or is passed by whatever it is
+-- a mail that a node ignores: any mail that may not come from its sender, and of others one that the group's replica, or the lack of one, leaves without effect
 abbrev pub IsMailPassedBy : ℕ → MailBody → NodeState → Type 0
 IsMailPassedBy from body node = may_come from body ≡ true → IsRoutedBy (group_of_mail body) from body node
 
--- an input that a node passes by: the start, a tick where it has no replica, and such a mail. An order is always answered, or waits
+-- an input that a node ignores: the start, a tick of a node without replicas, and a mail that it ignores. An order is always answered or queued
 abbrev pub IsInputPassedBy : Input Mail OrderLine → NodeState → Type 0
 IsInputPassedBy (Got mail) node = IsMailPassedBy mail.from mail.body node
 IsInputPassedBy Tick node = node.replicas ≡ []
 IsInputPassedBy (Told line) node = ⊥
 IsInputPassedBy Go node = Unit {0}
 
--- a tick of a settled replica that has nothing to say and nothing to offer, on a node without a policy
+-- a tick at which a settled replica on a node without a policy has nothing to send and nothing to offer
 pub record IsIdleTick (on : Bool) (r : ReplicaState) : Type 0 where
   pub is_settled : settled r ≡ true
   pub without_policy : on ≡ false

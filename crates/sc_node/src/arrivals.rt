@@ -1,4 +1,5 @@
-//! A mail for a group of which the node has no replica: it makes one of the state that it is sent.
+//! A mail for a group of which the node has no replica: an Install makes one of the state that it
+//! carries.
 ghost use Rattle.std.specs.Prelude.{◌≡◌, ◌≤◌, ◌||◌, ◌==◌, not, nat_lt, [], length, true, is_some, IfOk, OnOk, IsOk};
 ghost use Rattle.sc_node_table.specs.Slots.{slots_ahead};
 ghost use Rattle.sc_node_table.specs.Replica.{last_slot};
@@ -16,14 +17,14 @@ use sc_node_table::OPEN_SLOTS;
 use sc_replica::{LAST_SLOT, Replica};
 use std::alloc::Global;
 
-/// Whether a name stands before another.
+/// Returns whether a name is ordered before another.
 pub(crate) fn is_before(a: Draw, b: Draw) -> bool
     ensures { result ≡ is_before a b }
 {
     a.node < b.node || (a.node == b.node && a.count < b.count)
 }
 
-/// Puts a replica in, in the order of the groups' names.
+/// Inserts a replica in the order of the groups' names.
 fn put_new(replicas: &mut Vec<Replica>, made: Replica) -> Result<(), OutOfMemory>
     ensures { OnOk result (replicas.new.items ≡ with_new made replicas.old.items) }
 {
@@ -37,8 +38,8 @@ fn put_new(replicas: &mut Vec<Replica>, made: Replica) -> Result<(), OutOfMemory
     Ok(())
 }
 
-/// Whether an Install makes no replica: it is of too late a slot, or it has not the members of the
-/// open slots.
+/// Returns whether an Install makes no replica: its slot is too late, or it does not have the
+/// members of the open slots.
 fn ignores(slot: u32, sets: &MemberSets) -> bool
     ensures { result ≡ (not (length sets.now == slots_ahead) || nat_lt last_slot slot) }
 {
@@ -46,7 +47,8 @@ fn ignores(slot: u32, sets: &MemberSets) -> bool
 }
 
 impl NodeCore {
-    /// The replica that an Install for a group makes.
+    /// Makes and inserts the replica of an Install, and returns the mails of an election that it
+    /// may begin.
     fn make(
         &mut self,
         alloc: Global,
@@ -68,7 +70,7 @@ impl NodeCore {
         Ok(sent)
     }
 
-    /// The replica of a child is made as at birth, unless there is one.
+    /// Makes the replica of a child group, unless there is one.
     fn bear(&mut self, alloc: Global, child: &Base) -> Result<(), OutOfMemory>
         ensures born { OnOk result (self.new ≡ with_born child.now self.old) }
         ensures known { is_some (replica_of child.now.core.id self.old.replicas) ≡ true →
@@ -81,7 +83,7 @@ impl NodeCore {
         put_new(&mut self.replicas, replica)
     }
 
-    /// .. of each of these children.
+    /// Makes the replica of each of these child groups, unless there is one.
     #[tactic(auto, unfolding(sc_node_table::specs::Node::with_children))]
     pub(crate) fn bear_all(
         &mut self,
@@ -97,7 +99,7 @@ impl NodeCore {
         Ok(())
     }
 
-    /// A mail for a group of which there is no replica.
+    /// Handles a mail for a group of which the node has no replica, and returns what is sent.
     pub(crate) fn take_unknown(
         &mut self,
         alloc: Global,

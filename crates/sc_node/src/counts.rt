@@ -1,4 +1,5 @@
-//! The rows that execute: Accepted, where the command of the next slot became ready, and Learn.
+//! The rows of the replica's table that execute: Accepted, where the command of the next slot
+//! becomes ready, and Learn.
 ghost use Rattle.std.specs.Prelude.{◌≡◌, ◌+◌, ◌<◌, ◌≤◌, ◌++◌, ◌&&◌, not, true, false, OnOk, IsOk, Some};
 ghost use Rattle.sc_node_table.specs.Slots.{slots_ahead};
 ghost use Rattle.sc_node_table.specs.Replica.{next, set_at, last_slot};
@@ -13,7 +14,7 @@ use sc_mail::Mail;
 use sc_paxos::Counted;
 use sc_replica::{LAST_SLOT, Replica};
 
-/// A command that became ready is executed where its slot is the next one.
+/// Makes a command ready, and executes it where its slot is the next one.
 #[tactic(auto, unfolding(sc_node_table::specs::Voting::readied), using(crate::proofs::Making::making))]
 fn make_ready(
     replica: &mut Replica,
@@ -34,7 +35,7 @@ fn make_ready(
     Ok(())
 }
 
-/// The count of a vote at an open slot.
+/// Counts a vote at an open slot, and makes the command ready of which a majority was counted.
 #[tactic(auto, using(crate::proofs::Counting::counted))]
 fn count(
     replica: &mut Replica,
@@ -60,7 +61,8 @@ fn count(
     }
 }
 
-/// Accepted: a vote at an open slot is counted among that slot's members.
+/// Handles an Accepted: counts a vote at an open slot among that slot's members (Paxos Made Simple,
+/// section 2.3).
 #[tactic(auto, unfolding(sc_node_table::specs::Voting::accepted_row), using(crate::proofs::Making::making))]
 pub(crate) fn on_accepted(
     replica: &mut Replica,
@@ -88,8 +90,8 @@ pub(crate) fn on_accepted(
     count(replica, from, ballot, slot, &set, out, made)
 }
 
-/// Learn: the next slot's command is executed; for a later one the slots from the next on are asked
-/// for.
+/// Handles a Learn: executes the next slot's command; for a later slot, asks for the slots from the
+/// next one on.
 #[tactic(auto, unfolding(sc_node_table::specs::Rows::learn_row), using(crate::proofs::Making::making))]
 pub(crate) fn on_learn(
     replica: &mut Replica,

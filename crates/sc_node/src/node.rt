@@ -22,7 +22,7 @@ use std::alloc::Global;
 use std::marker::Model;
 
 /// A node, the names that it draws, and its replicas, one a group. Contracts see it as the record
-/// of the node's table.
+/// `NodeState` of the node's table.
 #[derive(Drop)]
 pub struct NodeCore {
     pub(crate) me: u16,
@@ -59,14 +59,14 @@ impl Model for NodeCore {
         } };
 }
 
-/// Whether a group's name stands before those of all these groups.
+/// Returns whether a group's name is ordered before those of all these groups.
 fn is_first(group: Draw, others: &[Base]) -> bool
     ensures { result ≡ list_all (λ (other : Base). is_before group other.core.id) others.now }
 {
     others.iter().all(|other| is_before(group, other.core.id))
 }
 
-/// Whether groups stand in the order of their names, none twice.
+/// Returns whether groups are in the order of their names, none twice.
 pub fn are_in_order(groups: &[Base]) -> bool
     ensures { result ≡ are_in_order groups.now }
 {
@@ -76,7 +76,7 @@ pub fn are_in_order(groups: &[Base]) -> bool
     }
 }
 
-/// The replicas at the birth of groups, of each of which the node is a member.
+/// Returns the replicas of these new groups, of those of which the node is a member.
 fn born_replicas(alloc: Global, me: u16, groups: &[Base]) -> Result<Vec<Replica>, OutOfMemory>
     ensures born { IfOk result
         (λ replicas. replicas.items ≡ born_replicas slots_ahead me groups.now) }
@@ -92,9 +92,10 @@ fn born_replicas(alloc: Global, me: u16, groups: &[Base]) -> Result<Vec<Replica>
 }
 
 impl NodeCore {
-    /// A node at the birth of groups, in the order of their names: it has a replica of each of
-    /// which it is a member. `OPEN_SLOTS` slots of a log are open at a time. With a policy it
-    /// orders what is wished of the groups that it leads. `are_in_order` tests the order.
+    /// Returns a node with a replica of each of these new groups of which it is a member. The
+    /// groups are in the order of their names, which `are_in_order` tests. `OPEN_SLOTS` slots of a
+    /// log are open at a time. With a policy the node orders what is wished of the groups that it
+    /// leads.
     pub fn born(
         alloc: Global,
         me: u16,
@@ -113,22 +114,22 @@ impl NodeCore {
         })
     }
 
-    /// The node's number.
+    /// Returns the node's number.
     pub fn me(&self) -> u16
         ensures { result ≡ self.now.me }
     {
         self.me
     }
 
-    /// The replicas, in the order of their groups' names.
+    /// Returns the replicas, in the order of their groups' names.
     pub fn replicas(&self) -> &[Replica]
         ensures { result.now ≡ self.now.replicas }
     {
         self.replicas.as_slice()
     }
 
-    /// One step by the node's table: the new value, and what is sent. After want of memory the node
-    /// may only be dropped.
+    /// Makes one step by the node's table, and returns what is sent. After `Err(OutOfMemory)` the
+    /// node may only be dropped.
     pub fn step(
         &mut self,
         alloc: Global,
@@ -145,6 +146,7 @@ impl NodeCore {
         }
     }
 
+    /// Handles a mail: gives it to the replica of its group, if it may come from its sender.
     fn on_mail(
         &mut self,
         alloc: Global,
@@ -163,7 +165,7 @@ impl NodeCore {
         }
     }
 
-    /// A mail for the replica of a group.
+    /// Handles a mail for a group, of which the node may have no replica.
     fn take(
         &mut self,
         alloc: Global,
@@ -185,8 +187,8 @@ impl NodeCore {
         }
     }
 
-    /// The replica at a place takes a mail; the children whose replicas must be made come into
-    /// `made`, which was empty.
+    /// Gives a mail to the replica at a place. The child groups whose replicas must be made are
+    /// appended to `made`, which was empty.
     fn hand_over(
         &mut self,
         i: usize,
@@ -212,6 +214,7 @@ impl NodeCore {
         Ok(())
     }
 
+    /// Gives a mail to the replica at a place, and makes the replicas of child groups.
     fn take_at(
         &mut self,
         alloc: Global,
@@ -236,6 +239,7 @@ impl NodeCore {
         Ok(sent)
     }
 
+    /// Lets each replica tick, in the order of their groups' names.
     fn on_tick(&mut self, alloc: Global) -> Result<Sequence<Mail>, OutOfMemory>
         ensures row { IfOk result (λ sent. on_tick self.old ≡ (self.new, sent)) }
         ensures none { self.old.replicas ≡ [] → IsOk result }

@@ -1,5 +1,5 @@
-//! What is said of an executed command: a call is answered, of an order the desk is told, and a
-//! transaction goes on.
+//! What is sent for an executed command: the answer to a call, the report of an order to the desk,
+//! and the mails of a transaction.
 ghost use Rattle.std.specs.Prelude.{◌≡◌, [], true, false, OnOk, IsOk};
 ghost use Rattle.sc_node_table.specs.Execute.{order_result, told_effect, announced};
 ghost use Rattle.sc_node_table.specs.Spoken.{spoken};
@@ -12,6 +12,7 @@ use sc_node_table::Before;
 use sc_replica::Replica;
 use sc_replica_transactions as transactions;
 
+/// Returns whether a command is a call.
 fn is_call(command: &Command) -> bool
     ensures { result ≡ is_call command.now }
 {
@@ -21,7 +22,8 @@ fn is_call(command: &Command) -> bool
     }
 }
 
-/// What it says of a join or a leave; splits and transactions are spoken of apart.
+/// Returns the result of a join or a leave that the desk is told. None for other commands: splits
+/// and transactions are reported apart.
 fn order_result(command: &Command, effect: &Effect) -> Option<ToldResult>
     ensures { result ≡ order_result command.now effect.now }
 {
@@ -40,7 +42,7 @@ fn order_result(command: &Command, effect: &Effect) -> Option<ToldResult>
     }
 }
 
-/// A call is answered where it was counted; nothing else is said of it.
+/// Answers a call where it was counted. Nothing else is sent for it.
 #[tactic(auto, using(crate::proofs::Saying::nothing_of_calls))]
 fn tell_call(
     replica: &mut Replica,
@@ -60,7 +62,7 @@ fn tell_call(
     replica.tell_counted(counted, effect, command, out)
 }
 
-/// What is said of a split or a transaction.
+/// Sends what a split or a transaction has to say of the command.
 #[tactic(auto, unfolding(sc_node_table::specs::Spoken::spoken))]
 fn speak(
     replica: &Replica,
@@ -88,7 +90,7 @@ fn speak(
     )
 }
 
-/// Of any other command the desk is told, and a transaction goes on.
+/// Reports a command other than a call to the desk, and sends what its transaction has to say.
 #[tactic(auto, using(crate::proofs::Saying::no_answer_of_others))]
 fn tell_others(
     replica: &Replica,
@@ -110,7 +112,7 @@ fn tell_others(
     speak(replica, counted, before, effect, command, out)
 }
 
-/// What is said of a command, counted or learnt, by its effect and the group before it.
+/// Sends what is to be said of a command, counted or learnt, by its effect and the group before it.
 pub(crate) fn tell(
     replica: &mut Replica,
     counted: bool,

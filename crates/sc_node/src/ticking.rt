@@ -6,8 +6,8 @@ use crate::holders::Holder;
 use sc_base::{OutOfMemory, Sequence};
 use sc_mail::Mail;
 
-/// Each replica ticks, in their order, with the names that those before it left; what is sent comes
-/// into `sent`, which was empty. After want of memory the holder may only be dropped.
+/// Lets each replica tick, in their order, with the names that those before it left. What is sent
+/// is appended to `sent`, which was empty. After `Err(OutOfMemory)` the holder may only be dropped.
 pub(crate) fn tick_each<H: Holder>(
     holder: &mut H,
     sent: &mut Sequence<Mail>,

@@ -19,7 +19,7 @@ use sc_replica::Replica;
 use sc_replica_transactions as transactions;
 use sc_replica_transactions::{has_waited, one_tick_more};
 
-/// A coordinator that has waited long enough gives up.
+/// Queues the give-up of a transaction whose coordinator has waited long enough.
 fn lose_patience(replica: &mut Replica, tx: Draw) -> Result<(), OutOfMemory>
     ensures row { OnOk result (replica.new ≡ impatient tx replica.old) }
     ensures patient { nat_le patience replica.old.waits ≡ false → IsOk result }
@@ -31,7 +31,8 @@ fn lose_patience(replica: &mut Replica, tx: Draw) -> Result<(), OutOfMemory>
     replica.put_act(Command::GiveUp { tx })
 }
 
-/// A coordinator waits one tick longer.
+/// Lets a coordinator wait one tick longer. Does nothing where the group coordinates no
+/// transaction.
 fn wait(replica: &mut Replica) -> Result<(), OutOfMemory>
     ensures row { OnOk result (replica.new ≡ waited_in replica.old.group.core.lock replica.old) }
     ensures free { coordinates replica.old.group.core.lock ≡ false → IsOk result }
@@ -48,7 +49,8 @@ fn wait(replica: &mut Replica) -> Result<(), OutOfMemory>
     }
 }
 
-/// Who is bound in a transaction asks again, or says its vote again.
+/// Sends a bound group's question or vote of its transaction again, and lets a coordinator wait one
+/// tick longer.
 #[tactic(auto, unfolding(sc_node_table::specs::Reminders::reminded))]
 fn remind(replica: &mut Replica, out: &mut Sequence<Mail>) -> Result<(), OutOfMemory>
     ensures row { OnOk result ((replica.new, out.new) ≡ reminded (replica.old, out.old)) }
@@ -61,7 +63,7 @@ fn remind(replica: &mut Replica, out: &mut Sequence<Mail>) -> Result<(), OutOfMe
     wait(replica)
 }
 
-/// .. and then what a policy wishes is ordered, if one is on.
+/// Sends a bound group's question or vote again, and queues what a policy wishes, if one is on.
 #[tactic(auto, unfolding(sc_node_table::specs::Policy::wishing))]
 fn remind_and_wish(
     replica: &mut Replica,
@@ -84,9 +86,9 @@ fn remind_and_wish(
     wish(replica, policy, draws)
 }
 
-/// A tick of the clock of a node with a policy or without, by the row of Tick. What the policy
-/// orders takes a name of the node. The mails come behind those that are there. After want of
-/// memory the replica may only be dropped.
+/// Handles a tick by the row of Tick, on a node with a policy or without. What the policy orders
+/// takes a name of the node. Mails are appended to those that are there. After `Err(OutOfMemory)`
+/// the replica may only be dropped.
 #[tactic(auto, unfolding(sc_node_table::specs::Rows::tick_row))]
 pub fn on_tick(
     replica: &mut Replica,

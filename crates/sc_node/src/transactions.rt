@@ -1,4 +1,5 @@
-//! The rows of TxPrepare, TxVote, TxOutcome, TxElsewhere, TxWatch and TxWatched.
+//! The rows of TxPrepare, TxVote, TxOutcome, TxElsewhere, TxWatch and TxWatched (Scatter, SOSP
+//! 2011, multi-group operations).
 ghost use Rattle.std.specs.Prelude.{◌≡◌, [], ◌&&◌, ◌||◌, false, OnOk, IsOk, Some, None};
 ghost use Rattle.sc_cmd.specs.declared.votes.Past.TheVariants.{Yes, Ended};
 ghost use Rattle.sc_node_table.specs.Transactions.{offered_by, offer_row, watched_by, watch_row, vote_queued, vote_row, watch_queued, watch_met, watched_row, elsewhere_row, outcome_row, standing_vote, awaits_vote, awaits_watch, is_bound, noted_outcome};
@@ -14,7 +15,8 @@ use sc_replica_transactions::{
     tell_outcome, tell_vote, tell_watch,
 };
 
-/// An offer on which no vote stands is to be voted on in the log, by the leader.
+/// Queues the vote on an offer where the replica runs, and names the leader that it knows
+/// otherwise. No vote on it stands yet.
 fn take_offer(
     replica: &mut Replica,
     from: u16,
@@ -32,7 +34,7 @@ fn take_offer(
     pass_on(replica.me(), from, tx, offer.coord, replica.hint(), out)
 }
 
-/// TxPrepare.
+/// Handles a TxPrepare: answers with the vote that stands, or has the offer voted on.
 #[tactic(auto, unfolding(sc_node_table::specs::Transactions::offer_row))]
 pub(crate) fn on_offer(
     replica: &mut Replica,
@@ -60,7 +62,8 @@ pub(crate) fn on_offer(
     }
 }
 
-/// A watch on which no vote stands is to be voted on in the log, by the leader.
+/// Queues the vote on a watch where the replica runs, and names the leader that it knows otherwise.
+/// No vote on it stands yet.
 fn take_watch(
     replica: &mut Replica,
     from: u16,
@@ -78,7 +81,7 @@ fn take_watch(
     pass_on(replica.me(), from, tx, watch.coord, replica.hint(), out)
 }
 
-/// TxWatch.
+/// Handles a TxWatch: answers with the vote that stands, or has the watch voted on.
 #[tactic(auto, unfolding(sc_node_table::specs::Transactions::watch_row))]
 pub(crate) fn on_watch(
     replica: &mut Replica,
@@ -97,7 +100,7 @@ pub(crate) fn on_watch(
     }
 }
 
-/// A vote for which the leader waits is recorded.
+/// Queues the record of a vote for which the leader waits. Ignores another vote.
 fn take_vote(
     replica: &mut Replica,
     from: u16,
@@ -117,7 +120,8 @@ fn take_vote(
     replica.queue_act(record_of(tx, vote, from), out)
 }
 
-/// TxVote: only a Yes asks for what was decided.
+/// Handles a TxVote: a Yes is answered with the outcome, if it is noted; a vote for which the
+/// leader waits is recorded.
 #[tactic(auto, unfolding(sc_node_table::specs::Transactions::vote_row))]
 pub(crate) fn on_party_vote(
     replica: &mut Replica,
@@ -144,7 +148,7 @@ pub(crate) fn on_party_vote(
     }
 }
 
-/// A watcher's vote for which the leader waits is recorded.
+/// Queues the record of a watcher's vote for which the leader waits. Ignores another vote.
 fn take_watched(
     replica: &mut Replica,
     from: u16,
@@ -163,7 +167,8 @@ fn take_watched(
     replica.queue_act(Command::RecordWatch { tx, vote, by: from }, out)
 }
 
-/// TxWatched: only a Yes asks for what was decided.
+/// Handles a TxWatched: a Yes is answered with the outcome, if it is noted; a vote for which the
+/// leader waits is recorded.
 #[tactic(auto, unfolding(sc_node_table::specs::Transactions::watched_row))]
 pub(crate) fn on_watched(
     replica: &mut Replica,
@@ -191,7 +196,7 @@ pub(crate) fn on_watched(
     }
 }
 
-/// TxElsewhere: the coordinator asks again.
+/// Handles a TxElsewhere: a settled coordinator asks another node of the party.
 #[tactic(auto, unfolding(sc_node_table::specs::Transactions::elsewhere_row))]
 pub(crate) fn on_elsewhere(
     replica: &mut Replica,
@@ -218,7 +223,7 @@ pub(crate) fn on_elsewhere(
     )
 }
 
-/// TxOutcome: the leader of a group that is bound puts the outcome into its log.
+/// Handles a TxOutcome: the leader of a group that is bound queues the outcome for its log.
 #[tactic(auto, unfolding(sc_node_table::specs::Transactions::outcome_row))]
 pub(crate) fn on_outcome(
     replica: &mut Replica,

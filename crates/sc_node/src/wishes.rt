@@ -8,7 +8,8 @@ use sc_cmd::OrderLine;
 use sc_policy::wished_order;
 use sc_replica::Replica;
 
-/// What a policy, if it is on, orders of a group that is at rest. Its orders have the number 0.
+/// Returns what a policy, if it is on, orders of a group that is at rest. Its orders have the
+/// number 0.
 fn wished_line(replica: &Replica, policy: bool) -> Result<Option<OrderLine>, OutOfMemory>
     ensures line { IfOk result (λ line. line ≡ wished_line policy replica.now) }
     ensures off { policy ≡ false → IsOk result }
@@ -24,8 +25,8 @@ fn wished_line(replica: &Replica, policy: bool) -> Result<Option<OrderLine>, Out
     }
 }
 
-/// What is wished waits last, if it is taken; of what is not taken nothing is told. It takes a name
-/// of the node.
+/// Queues what a policy wishes, if it is not refused; a refusal is not reported. A split or a
+/// transaction takes a name of the node.
 pub(crate) fn wish(
     replica: &mut Replica,
     policy: bool,
