@@ -1,9 +1,9 @@
 -- The copies entry by entry, and the one at a place.
-use Rattle.std.proofs.Common.{◌≡◌, ℕ, zero, suc, ◌+◌, ◌-◌, ◌*◌, ◌<◌, ◌≤◌, ◌%◌, eqb, eq-eqb, List, [], ◌∷◌, ◌++◌, length, filter, fold, Bool, true, false, cond, replicate, get_or, take, drop, refl, sym, ap, ◌∙◌, arith, append_assoc, append-nil, length-append, Option, Some, None, Result, Ok, Err, IfOk}
+use Rattle.std.proofs.Common.{◌≡◌, ℕ, zero, suc, ◌+◌, ◌-◌, ◌<◌, ◌≤◌, ◌%◌, ◌^◌, eqb, eq-eqb, List, [], ◌∷◌, ◌++◌, length, filter, fold, Bool, true, false, cond, replicate, get_or, take, drop, refl, sym, ap, ◌∙◌, arith, append_assoc, append-nil, length-append, Option, Some, None, Result, Ok, Err, IfOk}
 use Rattle.std.specs.Prelude.{slice_get}
-use Rattle.std.proofs.lemmas.List.{take_more, take_all, drop_more}
+use Rattle.std.proofs.lemmas.List.{take_more, take_all, drop_more, length-replicate}
 use Rattle.std.proofs.lemmas.List.Elements.{filter-append}
-use Rattle.std.proofs.lemmas.List.Sums.{fold-append}
+use Rattle.std.proofs.lemmas.List.Sums.{fold-append, length-filter, count_by-le-length}
 use Rattle.std.proofs.lemmas.Option.{none-some, slice_get_past}
 use Rattle.sc_base.specs.declared.dups.OutOfMemory.{OutOfMemory}
 use Rattle.sc_ledger.specs.declared.spots.Spot.{Spot}
@@ -30,6 +30,16 @@ get_behind : (xs ys : List Spot) (j n : ℕ) → n ≡ length xs + j → slice_g
 get_behind [] ys j n e = ap (slice_get ys) (omega (arith, e))
 get_behind (x ∷ xs) ys j zero e = absurd (omega (arith, e))
 get_behind (x ∷ xs) ys j (suc n) e = get_behind xs ys j n (omega (arith, e))
+
+take_within : (xs : List (ℕ × ℕ)) (i m : ℕ) → i ≤ m → take i (take m xs) ≡ take i xs
+take_within [] zero zero le = refl
+take_within [] zero (suc m) le = refl
+take_within [] (suc i) zero le = refl
+take_within [] (suc i) (suc m) le = refl
+take_within (x ∷ xs) zero zero le = refl
+take_within (x ∷ xs) zero (suc m) le = refl
+take_within (x ∷ xs) (suc i) zero le = absurd (omega (arith, le))
+take_within (x ∷ xs) (suc i) (suc m) le = ap (λ l. x ∷ l) (take_within xs i m (omega (arith, le)))
 
 -- ---- the copies of one number
 
@@ -102,6 +112,32 @@ module _ (receivers : List ℕ) where
       let r = spots_begin (copies_in ys) (spots xs) in
       (r.0, ap (spots_from receivers) (copies_append xs ys) ∙ (fold-append step [] (copies_in xs) (copies_in ys) ∙ r.1))
 
+  -- there are as many copies as numbers
+  length_from : (ns : List ℕ) (done : List Spot) → length (fold step done ns) ≡ length done + length ns
+  length_from [] done = omega arith
+  length_from (n ∷ ns) done =
+      let more = length_from ns (done ++ spot_after receivers done n ∷ []) in
+      let one = length-append done (spot_after receivers done n ∷ []) in
+      omega (arith, more, one)
+
+  length_spots : (es : List (ℕ × ℕ)) → length (spots es) ≡ length (copies_in es)
+  length_spots es = let all = length_from (copies_in es) [] in omega (arith, all)
+
+  -- those of the first entries are not more than all
+  length_first : (es : List (ℕ × ℕ)) (i : ℕ) → i < length es → length (copies_in (take i es)) + (get_or es i (0, 0)).1 ≤ length (copies_in es)
+  length_first es i lt =
+      let e = get_or es i (0, 0) in
+      let more = ap (λ l. length (copies_in l)) (take_and_drop es i ∙ ap (λ l. take i es ++ l) (drop_more es i (0, 0) lt)) ∙ ap length (copies_append (take i es) (e ∷ drop (i + 1) es)) in
+      let parts = length-append (copies_in (take i es)) (copies_in (e ∷ drop (i + 1) es)) in
+      let own_ones = length-append (replicate e.1 e.0) (copies_in (drop (i + 1) es)) in
+      omega (arith, more, parts, own_ones, length-replicate e.1 e.0)
+
+  -- the place of a copy of an entry is not above the number of all copies
+  pub behind_within : (es : List (ℕ × ℕ)) (i left number : ℕ) → i < length es → left < (get_or es i (0, 0)).1 → own (spots (take i es)) (to number) + left + 1 ≤ length (copies_in es)
+  behind_within es i left number lt less =
+      let p : Spot → Bool = λ s. eqb s.who (to number) in
+      omega (arith, length-filter p (spots (take i es)), count_by-le-length p (spots (take i es)), length_spots (take i es), length_first es i lt, less)
+
   -- those whose receivers pass a test
   module _ (p : ℕ → Bool) where
     abbrev pub kept : List Spot → List Spot
@@ -135,6 +171,32 @@ module _ (receivers : List ℕ) where
         → many ≡ length (kept (spots (take i es))) → next ≡ many + share → next ≡ length (kept (spots (take (i + 1) es)))
     counted_on es i many share next asked lt passes is so_far sum =
         sum ∙ ((λ j. so_far j + is j) ∙ sym (counted_next es i lt asked (sym passes)))
+
+    -- of the first entries there are not more than of all
+    kept_within : (es : List (ℕ × ℕ)) (i : ℕ) → length (kept (spots (take i es))) ≤ length (kept (spots es))
+    kept_within es i =
+        let behind = spots_behind (take i es) (drop i es) in
+        let whole = ap (λ l. length (kept (spots l))) (take_and_drop es i) ∙ (ap (λ l. length (kept l)) behind.1 ∙ ap length (filter-append (λ (s : Spot). p s.who) (spots (take i es)) behind.0)) in
+        omega (arith, whole, length-append (kept (spots (take i es))) (kept behind.0))
+
+    -- and not more than there are copies
+    pub kept_few : (es : List (ℕ × ℕ)) → length (kept (spots es)) ≤ length (copies_in es)
+    kept_few es = let q : Spot → Bool = λ s. p s.who in omega (arith, length-filter q (spots es), count_by-le-length q (spots es), length_spots es)
+
+    -- so a sum on the way fits where that of more entries does
+    pub fits_to : (es : List (ℕ × ℕ)) (i m many share : ℕ) (asked : Bool) → i < length es → i < m → asked ≡ p (to (get_or es i (0, 0)).0) → share ≡ cond asked (get_or es i (0, 0)).1 0
+        → many ≡ length (kept (spots (take i es))) → length (kept (spots (take m es))) < 2 ^ 32 → many + share < 2 ^ 32
+    fits_to es i m many share asked lt before passes is so_far few =
+        let next = counted_on es i many share (many + share) asked lt passes is so_far refl in
+        let same = ap (λ l. length (kept (spots l))) (take_within es (i + 1) m (omega (arith, before))) in
+        omega (arith, next, same, kept_within (take m es) (i + 1), few)
+
+    -- and where the whole does
+    pub fits_on : (es : List (ℕ × ℕ)) (i many share : ℕ) (asked : Bool) → i < length es → asked ≡ p (to (get_or es i (0, 0)).0) → share ≡ cond asked (get_or es i (0, 0)).1 0
+        → many ≡ length (kept (spots (take i es))) → length (kept (spots es)) < 2 ^ 32 → many + share < 2 ^ 32
+    fits_on es i many share asked lt passes is so_far few =
+        let next = counted_on es i many share (many + share) asked lt passes is so_far refl in
+        omega (arith, next, kept_within es (i + 1), few)
 
     -- and the place is as far from them as it was
     pub left_on : (es : List (ℕ × ℕ)) (i left share n : ℕ) (asked : Bool) → i < length es → asked ≡ p (to (get_or es i (0, 0)).0) → share ≡ cond asked (get_or es i (0, 0)).1 0
@@ -176,6 +238,12 @@ module _ (receivers : List ℕ) where
         → left < share → left + length (kept (spots (take i es))) ≡ n → slice_get (kept (spots es)) n ≡ Some (spot_behind receivers (spots (take i es)) (get_or es i (0, 0)).0 left)
     found_now es i left share n asked lt passes is less at =
         (let w = within_share asked left (get_or es i (0, 0)).1 share is less in found_here es i lt (sym passes ∙ w.0) left n w.1 at)
+
+    -- and its place fits
+    pub found_fits : (es : List (ℕ × ℕ)) (i left share : ℕ) (asked : Bool) → i < length es → share ≡ cond asked (get_or es i (0, 0)).1 0
+        → left < share → length (copies_in es) < 2 ^ 32 → (spot_behind receivers (spots (take i es)) (get_or es i (0, 0)).0 left).k < 2 ^ 32
+    found_fits es i left share asked lt is less few =
+        (let w = within_share asked left (get_or es i (0, 0)).1 share is less in let at = behind_within es i left (get_or es i (0, 0)).0 lt w.1 in omega (arith, at, few))
 
     -- no copy is behind the last
     pub found_none : (es : List (ℕ × ℕ)) (i left n : ℕ) → length es ≤ i → left + length (kept (spots (take i es))) ≡ n → slice_get (kept (spots es)) n ≡ None

@@ -1,5 +1,5 @@
 //! The ledger: the rows, and what is counted of them.
-ghost use Rattle.std.specs.Prelude.{◌≡◌, ◌<◌, ◌≤◌, ◌+◌, ◌^◌, ◌++◌, ◌∷◌, [], map, length, Some, All, IfOk, OnOk, IfErr, IfSome, IsSome, slice_get, vec_len, vec_capacity};
+ghost use Rattle.std.specs.Prelude.{◌≡◌, ◌<◌, ◌≤◌, ◌+◌, ◌^◌, ◌++◌, ◌∷◌, [], map, length, Some, All, IfOk, OnOk, IsOk, IfErr, IfSome, IsSome, slice_get, vec_len, vec_capacity};
 ghost use Rattle.std.specs.Option.{option_map};
 ghost use Rattle.std.proofs.Props.{props};
 ghost use Rattle.sc_actor.specs.Mail.{mails, copies, numbered, numbers};
@@ -246,7 +246,7 @@ impl<M: Parcel + Drop, O: Drop> Ledger<M, O> {
         whos: &[u32],
         word: u32,
     ) -> Result<Option<Spot>, OutOfMemory>
-        ensures { IfOk result
+        ensures spot { IfOk result
             (λ spot.
             spot
             ≡ picked_spot
@@ -255,6 +255,10 @@ impl<M: Parcel + Drop, O: Drop> Ledger<M, O> {
             (numbers (counts_for actors self.now.crashed.items 0) 1 self.now.receivers.items
             self.now.counts.items)))
             word) }
+        ensures queued { IsSome self.now.queues → actors ≡ self.now.actors →
+            length
+            (numbers (counts_for actors self.now.crashed.items 0) 1 self.now.receivers.items
+            self.now.counts.items) < 2 ^ 32 → IsOk result }
     {
         let receivers = self.receivers.as_slice();
         if let Some(queues) = &self.queues {
@@ -288,6 +292,10 @@ impl<M: Parcel + Drop, O: Drop> Ledger<M, O> {
             (λ spot.
             kth_pending M.receiver actors self.now.rows.items spot.who spot.k ≡ Some spot.number)
             (spots_of M.receiver actors self.now.rows.items)) }
+        ensures queued { IsSome self.now.queues → actors ≡ self.now.actors →
+            length
+            (numbers (counts_for actors self.now.crashed.items 0) 1 self.now.receivers.items
+            self.now.counts.items) < 2 ^ 32 → IsOk result }
     {
         let spot = self.pick(alloc, actors, whos, word)?;
         let sent = self.receivers.len() as u32;

@@ -1,5 +1,5 @@
 //! Picks one of the pending copies without a list of them all.
-ghost use Rattle.std.specs.Prelude.{◌≡◌, ◌==◌, ◌-◌, ◌+◌, ◌≤◌, length, filter, take, slice_get, slice_index, if◌then◌else◌, IfOk};
+ghost use Rattle.std.specs.Prelude.{◌≡◌, ◌==◌, ◌-◌, ◌+◌, ◌<◌, ◌≤◌, ◌^◌, length, filter, take, slice_get, slice_index, if◌then◌else◌, IfOk, IsOk};
 ghost use Rattle.sc_ledger.specs.Queues.{copies_in};
 ghost use Rattle.sc_ledger.specs.Spots.{is_one_of, copies_for, picked_spot, spot_behind, spots_from};
 
@@ -31,7 +31,8 @@ fn is_one_of(whos: &[u32], who: u32) -> bool
 // Returns the sum, or `Err(OutOfMemory)` where it is 2^32 or more: no memory holds that many
 // copies.
 fn added(many: u32, more: u32) -> Result<u32, OutOfMemory>
-    ensures { IfOk result (λ sum. sum ≡ many + more) }
+    ensures sum { IfOk result (λ sum. sum ≡ many + more) }
+    ensures fits { many + more < 2 ^ 32 → IsOk result }
 {
     match many.checked_add(more) {
         Some(sum) => Ok(sum),
@@ -48,8 +49,10 @@ fn share(asked: bool, count: u32) -> u32
 
 // Returns how many of the copies are for one of the actors `whos`.
 fn count_for(copies: &[(u32, u32)], receivers: &[u32], whos: &[u32]) -> Result<u32, OutOfMemory>
-    ensures { IfOk result (λ many.
+    ensures many { IfOk result (λ many.
         many ≡ length (copies_for whos.now (spots_from receivers.now (copies_in copies.now)))) }
+    ensures fits { length (copies_for whos.now (spots_from receivers.now (copies_in copies.now)))
+        < 2 ^ 32 → IsOk result }
 {
     let mut many = 0u32;
     for entry in copies {
@@ -68,10 +71,13 @@ fn count_to(
     entries: usize,
 ) -> Result<u32, OutOfMemory>
     requires { entries ≤ length copies.now }
-    ensures { IfOk result (λ many.
+    ensures many { IfOk result (λ many.
         many ≡ length
         (filter (λ s. s.who == who)
         (spots_from receivers.now (copies_in (take entries copies.now))))) }
+    ensures fits { length
+        (filter (λ s. s.who == who)
+        (spots_from receivers.now (copies_in (take entries copies.now)))) < 2 ^ 32 → IsOk result }
 {
     let mut many = 0u32;
     for i in 0..entries {
@@ -93,8 +99,11 @@ fn spot_behind(
     own: u32,
 ) -> Result<Spot, OutOfMemory>
     requires { entries ≤ length copies.now }
-    ensures { IfOk result (λ spot. spot ≡ spot_behind receivers.now
+    ensures spot { IfOk result (λ spot. spot ≡ spot_behind receivers.now
         (spots_from receivers.now (copies_in (take entries copies.now))) number own) }
+    ensures fits { (spot_behind receivers.now
+        (spots_from receivers.now (copies_in (take entries copies.now))) number own).k
+        < 2 ^ 32 → IsOk result }
 {
     let who = receiver_of(receivers, number);
     let before = count_to(copies, receivers, who, entries)?;
@@ -110,8 +119,9 @@ fn nth_for(
     whos: &[u32],
     n: u32,
 ) -> Result<Option<Spot>, OutOfMemory>
-    ensures { IfOk result (λ spot. spot ≡ slice_get
+    ensures spot { IfOk result (λ spot. spot ≡ slice_get
         (copies_for whos.now (spots_from receivers.now (copies_in copies.now))) n) }
+    ensures fits { length (copies_in copies.now) < 2 ^ 32 → IsOk result }
 {
     let mut left = n;
     for i in 0..copies.len() {
@@ -135,8 +145,9 @@ pub(crate) fn picked(
     whos: &[u32],
     word: u32,
 ) -> Result<Option<Spot>, OutOfMemory>
-    ensures { IfOk result (λ spot. spot ≡ picked_spot
+    ensures spot { IfOk result (λ spot. spot ≡ picked_spot
         (copies_for whos.now (spots_from receivers.now (copies_in copies.now))) word) }
+    ensures fits { length (copies_in copies.now) < 2 ^ 32 → IsOk result }
 {
     let many = count_for(copies, receivers, whos)?;
     if many == 0 {

@@ -1,5 +1,5 @@
 //! Pending mail per actor, so that the first of it is found at once.
-ghost use Rattle.std.specs.Prelude.{◌≡◌, ◌<◌, ◌≤◌, ◌+◌, ◌-◌, ◌^◌, ◌++◌, ◌∷◌, [], ℕ, None, IfOk, OnOk, IfSome, List, true, nat_eq, nat_lt, ◌&&◌, length, map, replicate, slice_index, slice_index_or, slice_set, vec_len, vec_capacity, if◌then◌else◌};
+ghost use Rattle.std.specs.Prelude.{◌≡◌, ◌<◌, ◌≤◌, ◌+◌, ◌-◌, ◌^◌, ◌++◌, ◌∷◌, [], ℕ, None, IfOk, OnOk, IsOk, IfSome, List, true, nat_eq, nat_lt, ◌&&◌, length, map, replicate, slice_index, slice_index_or, slice_set, vec_len, vec_capacity, if◌then◌else◌};
 ghost use Rattle.sc_actor.specs.Mail.{one_less, one_more, counts_at, is_crash};
 ghost use Rattle.sc_ledger.specs.Kept.{counts_for};
 ghost use Rattle.sc_actor.specs.System.{kth};
@@ -66,8 +66,9 @@ impl Queues {
         whos: &[u32],
         word: u32,
     ) -> Result<Option<Spot>, OutOfMemory>
-        ensures { IfOk result (λ spot. spot ≡ picked_spot
+        ensures spot { IfOk result (λ spot. spot ≡ picked_spot
             (copies_for whos.now (spots_from receivers.now (copies_in self.now.all.items))) word) }
+        ensures fits { length (copies_in self.now.all.items) < 2 ^ 32 → IsOk result }
     {
         picked(self.all.as_slice(), receivers, whos, word)
     }

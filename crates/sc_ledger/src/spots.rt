@@ -1,5 +1,5 @@
 //! Where each pending copy stands among its receiver's pending mail.
-ghost use Rattle.std.specs.Prelude.{◌≡◌, ◌+◌, ◌==◌, ◌++◌, ◌∷◌, [], List, IfOk, length, filter};
+ghost use Rattle.std.specs.Prelude.{◌≡◌, ◌+◌, ◌<◌, ◌^◌, ◌==◌, ◌++◌, ◌∷◌, [], List, IfOk, IsOk, length, filter};
 ghost use Rattle.sc_ledger.specs.declared.spots.Spot.{Spot};
 ghost use Rattle.sc_ledger.specs.Spots.{AreCounted, IsNext, spot_after, spots_from};
 
@@ -57,7 +57,8 @@ fn spot_after(
     number: u32,
 ) -> Result<Spot, OutOfMemory>
     requires { AreCounted counts.now before.now }
-    ensures { IfOk result (λ spot. spot ≡ spot_after receivers.now before.now number) }
+    ensures spot { IfOk result (λ spot. spot ≡ spot_after receivers.now before.now number) }
+    ensures fits { (spot_after receivers.now before.now number).k < 2 ^ 32 → IsOk result }
 {
     let place = (number as usize).saturating_sub(1);
     let who = receivers.get(place).copied().unwrap_or(0);

@@ -15,7 +15,7 @@ pub chosen_row : (slot : ℕ) (p : Counted Command × LeaderState Command) (c : 
     → (readied slot c (with_leader p.1 r, mails)).0 ≡ (vote_tallied slot p (r, mails)).0
 chosen_row slot p c r mails e = rw (← e)
 
--- .. and the children of what is executed then
+-- a majority: the children of what is executed then
 pub chosen_children : (slot : ℕ) (p : Counted Command × LeaderState Command) (c : Command) (r : ReplicaState) (mails : List Mail) (made : List Base) → Chosen c ≡ p.0
     → made ++ (readied slot c (with_leader p.1 r, mails)).1 ≡ made ++ (vote_tallied slot p (r, mails)).1
 chosen_children slot p c r mails made e = rw (← e)
@@ -25,7 +25,7 @@ pub waiting_row : (slot : ℕ) (p : Counted Command × LeaderState Command) (n :
     → (with_leader p.1 r, mails) ≡ (vote_tallied slot p (r, mails)).0
 waiting_row slot p n r mails e = rw (← e)
 
--- .. and nothing is executed
+-- no majority: nothing is executed
 pub waiting_children : (slot : ℕ) (p : Counted Command × LeaderState Command) (n : ℕ) (r : ReplicaState) (mails : List Mail) (made : List Base) → NotYet n ≡ p.0
     → made ≡ made ++ (vote_tallied slot p (r, mails)).1
 waiting_children slot p n r mails made e = rw (← e) (sym (append-nil made))

@@ -5,3 +5,6 @@ pub mod PlacesStanding
 mod Saying
 pub mod Standing
 pub mod Ticked
+mod Passing
+mod IdleTicks
+mod Born

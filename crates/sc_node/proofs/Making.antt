@@ -1,4 +1,4 @@
--- Children put behind those that are there.
+-- Children appended to those that are there.
 use Rattle.std.proofs.Common.{◌≡◌, ◌++◌, List, [], sym, append-nil, append_assoc}
 use Rattle.sc_cmd.specs.declared.cores.Base.{Base}
 

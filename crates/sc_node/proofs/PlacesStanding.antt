@@ -76,7 +76,7 @@ passed-suc at i group [] less is = absurd (omega arith)
 passed-suc at zero group (r ∷ rs) less is = ap (λ b. if b then Some at else place_from (at + 1) group rs) (sym (is r))
 passed-suc at (suc i) group (r ∷ rs) less is = passed-suc at i group rs (omega arith) is
 
--- .. or it is another's
+-- the first replica is another group's
 pub passed-by : (i : ℕ) (group : Draw) (rs : List ReplicaState) → i < length rs → ((d : ReplicaState) → false ≡ same_draw (name_of (get_or rs i d)) group)
     → place_from i group (drop i rs) ≡ place_from (i + 1) group (drop (i + 1) rs)
 passed-by i group rs less is =

@@ -1,11 +1,13 @@
 -- What is said of calls, and of all other commands.
-use Rattle.std.proofs.Common.{◌≡◌, Bool, true, false, Option, Some, None, refl, ap, if◌then◌else◌}
+use Rattle.std.proofs.Common.{◌≡◌, ℕ, Bool, true, false, [], Option, Some, None, refl, sym, ap, ◌∙◌, if◌then◌else◌}
 use Rattle.sc_cmd.specs.declared.commands.Command.{Command}
 use Rattle.sc_cmd.specs.declared.commands.Command.TheVariants.{Noop, Call, Join, Leave, Split, Begin, Prepared, RecordVote, GiveUp, Finish, Watched, RecordWatch}
+use Rattle.sc_cmd.specs.Definitions.{result_of}
 use Rattle.sc_cmd.specs.declared.effects.Effect.{Effect}
+use Rattle.sc_cmd.specs.declared.orders.ToldResult.{ToldResult}
 use Rattle.sc_mail.specs.declared.bodies.AnswerBody.{AnswerBody}
 use Rattle.sc_node_table.specs.declared.Before.{Before}
-use Rattle.sc_node_table.specs.Replica.{Place}
+use Rattle.sc_node_table.specs.Replica.{ReplicaState, Place}
 use Rattle.sc_node_table.specs.Spoken.{told_begun, went_on, spoken_mails, spoken}
 use Rattle.sc_node_table.specs.Execute.{answer_of, told_call, told_effect, order_result, announced}
 use Rattle.sc_replica_parts.specs.Calls.{is_call}
@@ -59,3 +61,47 @@ answered true (Some answer) (RecordWatch tx vote by) place e = refl
 pub no_answer_of_others : (counted : Bool) (effect : Effect) (c : Command) (place : Place) → is_call c ≡ false → announced counted effect c place ≡ told_effect (order_result c effect) c place
 unfolding announced
 no_answer_of_others counted effect c place e = ap (told_effect (order_result c effect) c) (answered counted (answer_of effect) c place e)
+
+-- what an executed join or leave comes to is all that is said of it
+joined_none : (counted : Bool) (told : Option ToldResult) (before : Before) (effect : Effect) (node order : ℕ) (r : ReplicaState)
+    → (spoken counted before effect (Join node order) (told_effect told (Join node order) (r, []))).1 ≡ []
+    → ((told_effect told (Join node order) (r, [])).1 ≡ []) × ((spoken counted before effect (Join node order) (r, [])).1 ≡ [])
+unfolding spoken spoken_mails told_begun went_on told_effect
+joined_none true None before effect node order r e = (refl, refl)
+joined_none true (Some result) before effect node order r e = (e, refl)
+joined_none false None before effect node order r e = (refl, refl)
+joined_none false (Some result) before effect node order r e = (e, refl)
+
+left_none : (counted : Bool) (told : Option ToldResult) (before : Before) (effect : Effect) (node order : ℕ) (r : ReplicaState)
+    → (spoken counted before effect (Leave node order) (told_effect told (Leave node order) (r, []))).1 ≡ []
+    → ((told_effect told (Leave node order) (r, [])).1 ≡ []) × ((spoken counted before effect (Leave node order) (r, [])).1 ≡ [])
+unfolding spoken spoken_mails told_begun went_on told_effect
+left_none true None before effect node order r e = (refl, refl)
+left_none true (Some result) before effect node order r e = (e, refl)
+left_none false None before effect node order r e = (refl, refl)
+left_none false (Some result) before effect node order r e = (e, refl)
+
+-- of other commands nothing is told beside what their transaction says
+told_none : (counted : Bool) (before : Before) (effect : Effect) (c : Command) (r : ReplicaState)
+    → (spoken counted before effect c (told_effect (order_result c effect) c (r, []))).1 ≡ []
+    → ((told_effect (order_result c effect) c (r, [])).1 ≡ []) × ((spoken counted before effect c (r, [])).1 ≡ [])
+unfolding told_effect
+told_none counted before effect (Join node order) r e = joined_none counted (result_of effect) before effect node order r e
+told_none counted before effect (Leave node order) r e = left_none counted (result_of effect) before effect node order r e
+told_none counted before effect Noop r e = (refl, e)
+told_none counted before effect (Call client seq op) r e = (refl, e)
+told_none counted before effect (Split at child order) r e = (refl, e)
+told_none counted before effect (Begin tx body order) r e = (refl, e)
+told_none counted before effect (Prepared tx offer) r e = (refl, e)
+told_none counted before effect (RecordVote tx vote by) r e = (refl, e)
+told_none counted before effect (GiveUp tx) r e = (refl, e)
+told_none counted before effect (Finish tx outcome) r e = (refl, e)
+told_none counted before effect (Watched tx watch) r e = (refl, e)
+told_none counted before effect (RecordWatch tx vote by) r e = (refl, e)
+
+-- where nothing is said of a command that is no call, the desk is told nothing, and its transaction says nothing
+pub others_none : (counted : Bool) (before : Before) (effect : Effect) (c : Command) (r : ReplicaState) → is_call c ≡ false
+    → (spoken counted before effect c (announced counted effect c (r, []))).1 ≡ []
+    → ((told_effect (order_result c effect) c (r, [])).1 ≡ []) × ((spoken counted before effect c (r, [])).1 ≡ [])
+others_none counted before effect c r other e =
+    told_none counted before effect c r (ap (λ (p : Place). (spoken counted before effect c p).1) (sym (no_answer_of_others counted effect c (r, []) other)) ∙ e)

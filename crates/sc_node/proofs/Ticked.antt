@@ -47,14 +47,14 @@ names-suc on names left [] i d new less same = absurd (omega arith)
 names-suc on names left (r ∷ rs) zero d new less same = ap (λ (l : Drawer). names_after_ticks on l rs) same
 names-suc on names left (r ∷ rs) (suc i) d new less same = names-suc on names left rs i d new (omega arith) same
 
--- .. and the names that one more leaves
+-- the names that one more tick leaves
 names-step : (on : Bool) (names left : Drawer) (rs : List ReplicaState) (i : ℕ) (d new : ReplicaState) → i < length rs → left ≡ names_after_tick on names (get_or rs i d)
     → names_after_ticks on left (drop (i + 1) (set rs i new)) ≡ names_after_ticks on names (drop i rs)
 names-step on names left rs i d new less same =
     let n : i + 1 ≡ suc i = omega arith in
     ap (λ m. names_after_ticks on left (drop m (set rs i new))) n ∙ names-suc on names left rs i d new less same
 
--- .. and those that all leave
+-- the names that all ticks leave
 names-all : (on : Bool) (names : Drawer) (rs : List ReplicaState) (i : ℕ) → length rs ≤ i → names ≡ names_after_ticks on names (drop i rs)
 unfolding names_after_ticks
 names-all on names rs i le = ap (λ ys. names_after_ticks on names ys) (sym (drop_all i rs le))
@@ -89,7 +89,7 @@ ticked-more i node new mails more less e =
     let d = one-of node.replicas i less in
     ap (λ (p : NodeState × List Mail). ticked_from (i + 1) p.0 p.1) (e d) ∙ ticked-next i d node mails less
 
--- .. and there are as many as before
+-- a tick keeps the number of replicas
 pub as-many : (i : ℕ) (node new : NodeState) (mails more : List Mail) → i < length node.replicas → ((d : ReplicaState) → (new, more) ≡ ticked_at i d (node, mails))
     → length new.replicas ≡ length node.replicas
 as-many i node new mails more less e =

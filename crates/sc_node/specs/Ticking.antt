@@ -6,7 +6,7 @@ use Rattle.sc_node_table.specs.Rows.{tick_row}
 use Rattle.sc_node_table.specs.Policy.{names_after_tick}
 use Rattle.sc_node_table.specs.Node.{NodeState}
 
--- the replica at a place ticks, and leaves the names that its row leaves; where none stands there, this one is read
+-- the replica at a place ticks, and leaves the names that its row leaves; where there is none at that place, the given one is read
 abbrev pub ticked_at : ℕ → ReplicaState → NodeState × List Mail → NodeState × List Mail
 ticked_at i d (node, mails) =
     let after = tick_row node.policy node.draws (get_or node.replicas i d, mails) in

@@ -1,5 +1,5 @@
 //! Which mails a node takes, and what it sends where it has no replica of the group.
-ghost use Rattle.std.specs.Prelude.{◌≡◌, [], IfOk, None};
+ghost use Rattle.std.specs.Prelude.{◌≡◌, [], IfOk, IsOk, None};
 ghost use Rattle.sc_node_table.specs.Node.{group_of_mail, absent, is_node, may_come};
 ghost use Rattle.sc_node_table.specs.Mails.{sent, answer_to};
 ghost use Rattle.sc_mail.specs.declared.bodies.AnswerBody.TheVariants.{NotLeader};
@@ -9,14 +9,14 @@ use sc_base::{Draw, MOST_NODES, OutOfMemory, Sequence};
 use sc_mail::{AnswerBody, Mail, MailBody, client_number};
 use std::alloc::Global;
 
-/// Whether an actor is one of the nodes.
+/// Returns whether an actor is one of the nodes.
 fn is_node(from: u32) -> bool
     ensures { result ≡ is_node from }
 {
     1 <= from && from <= MOST_NODES
 }
 
-/// Whether a mail may come from an actor: only a request comes from others than nodes.
+/// Returns whether a mail may come from an actor: only a request comes from others than nodes.
 pub(crate) fn may_come(from: u32, body: &MailBody) -> bool
     ensures { result ≡ may_come from body.now }
 {
@@ -26,7 +26,7 @@ pub(crate) fn may_come(from: u32, body: &MailBody) -> bool
     }
 }
 
-/// The group that a mail is for, if a row of the table takes it.
+/// Returns the group that a mail is for. None for a mail that is for no group.
 pub(crate) fn group_in(body: &MailBody) -> Option<Draw>
     ensures { result ≡ group_of_mail body.now }
 {
@@ -50,7 +50,7 @@ pub(crate) fn group_in(body: &MailBody) -> Option<Draw>
     }
 }
 
-/// One mail alone.
+/// Returns a list with one mail to an actor.
 pub(crate) fn alone(
     alloc: Global,
     me: u16,
@@ -68,7 +68,7 @@ pub(crate) fn alone(
     Ok(mails)
 }
 
-/// A client is told that its group is not led here.
+/// Returns the answer to a client that its group is not led here.
 fn refuse(
     alloc: Global,
     me: u16,
@@ -87,7 +87,7 @@ fn refuse(
     )
 }
 
-/// The sender is asked for all slots of a group.
+/// Returns the mail that asks a node for all slots of a group.
 fn ask_whole(alloc: Global, me: u16, from: u32, group: Draw) -> Result<Sequence<Mail>, OutOfMemory>
     ensures { IfOk result (λ mails. mails ≡ sent me from (Ask group 0) []) }
 {
@@ -95,7 +95,8 @@ fn ask_whole(alloc: Global, me: u16, from: u32, group: Draw) -> Result<Sequence<
     alone(alloc, me, from, MailBody::Ask { group, from_slot })
 }
 
-/// The coordinator is told that the node leads no such group, and knows nobody who does.
+/// Returns the mail to a coordinator that the node leads no such group, and knows no node that
+/// does.
 fn pass_on(
     alloc: Global,
     me: u16,
@@ -109,14 +110,15 @@ fn pass_on(
     alone(alloc, me, from, MailBody::TxElsewhere { tx, coord, hint })
 }
 
-/// What is sent where there is no replica of the group.
+/// Returns what is sent for a mail to a group of which the node has no replica.
 pub(crate) fn absent(
     alloc: Global,
     me: u16,
     from: u32,
     body: &MailBody,
 ) -> Result<Sequence<Mail>, OutOfMemory>
-    ensures { IfOk result (λ mails. mails ≡ absent me from body.now) }
+    ensures mails { IfOk result (λ mails. mails ≡ absent me from body.now) }
+    ensures none { absent me from body.now ≡ [] → IsOk result }
 {
     match body {
         MailBody::Request {

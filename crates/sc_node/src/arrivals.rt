@@ -1,9 +1,11 @@
-//! A mail for a group of which the node has no replica: it makes one of the state that it is sent.
-ghost use Rattle.std.specs.Prelude.{◌≡◌, ◌≤◌, ◌||◌, ◌==◌, not, nat_lt, length, true, IfOk, OnOk};
+//! A mail for a group of which the node has no replica: an Install makes one of the state that it
+//! carries.
+ghost use Rattle.std.specs.Prelude.{◌≡◌, ◌≤◌, ◌||◌, ◌==◌, not, nat_lt, [], length, true, is_some, IfOk, OnOk, IsOk};
 ghost use Rattle.sc_node_table.specs.Slots.{slots_ahead};
 ghost use Rattle.sc_node_table.specs.Replica.{last_slot};
 ghost use Rattle.sc_node_table.specs.Rows.{made_by};
-ghost use Rattle.sc_node_table.specs.Node.{is_before, with_new, with_made, with_born, with_children, unknown, may_come};
+ghost use Rattle.sc_node.specs.Idle.{IsUnknownPassedBy};
+ghost use Rattle.sc_node_table.specs.Node.{is_before, replica_of, with_new, with_made, with_born, with_children, unknown, may_come};
 
 use crate::absent::absent;
 use crate::node::NodeCore;
@@ -15,14 +17,14 @@ use sc_node_table::OPEN_SLOTS;
 use sc_replica::{LAST_SLOT, Replica};
 use std::alloc::Global;
 
-/// Whether a name stands before another.
+/// Returns whether a name is ordered before another.
 pub(crate) fn is_before(a: Draw, b: Draw) -> bool
     ensures { result ≡ is_before a b }
 {
     a.node < b.node || (a.node == b.node && a.count < b.count)
 }
 
-/// Puts a replica in, in the order of the groups' names.
+/// Inserts a replica in the order of the groups' names.
 fn put_new(replicas: &mut Vec<Replica>, made: Replica) -> Result<(), OutOfMemory>
     ensures { OnOk result (replicas.new.items ≡ with_new made replicas.old.items) }
 {
@@ -36,8 +38,8 @@ fn put_new(replicas: &mut Vec<Replica>, made: Replica) -> Result<(), OutOfMemory
     Ok(())
 }
 
-/// Whether an Install makes no replica: it is of too late a slot, or it has not the members of the
-/// open slots.
+/// Returns whether an Install makes no replica: its slot is too late, or it does not have the
+/// members of the open slots.
 fn ignores(slot: u32, sets: &MemberSets) -> bool
     ensures { result ≡ (not (length sets.now == slots_ahead) || nat_lt last_slot slot) }
 {
@@ -45,7 +47,8 @@ fn ignores(slot: u32, sets: &MemberSets) -> bool
 }
 
 impl NodeCore {
-    /// The replica that an Install for a group makes.
+    /// Makes and inserts the replica of an Install, and returns the mails of an election that it
+    /// may begin.
     fn make(
         &mut self,
         alloc: Global,
@@ -67,9 +70,11 @@ impl NodeCore {
         Ok(sent)
     }
 
-    /// The replica of a child is made as at birth, unless there is one.
+    /// Makes the replica of a child group, unless there is one.
     fn bear(&mut self, alloc: Global, child: &Base) -> Result<(), OutOfMemory>
-        ensures { OnOk result (self.new ≡ with_born child.now self.old) }
+        ensures born { OnOk result (self.new ≡ with_born child.now self.old) }
+        ensures known { is_some (replica_of child.now.core.id self.old.replicas) ≡ true →
+            IsOk result }
     {
         if has_replica(self, child.core.id) {
             return Ok(());
@@ -78,14 +83,15 @@ impl NodeCore {
         put_new(&mut self.replicas, replica)
     }
 
-    /// .. of each of these children.
+    /// Makes the replica of each of these child groups, unless there is one.
     #[tactic(auto, unfolding(sc_node_table::specs::Node::with_children))]
     pub(crate) fn bear_all(
         &mut self,
         alloc: Global,
         made: &Sequence<Base>,
     ) -> Result<(), OutOfMemory>
-        ensures { OnOk result (self.new ≡ with_children made.now self.old) }
+        ensures born { OnOk result (self.new ≡ with_children made.now self.old) }
+        ensures none { made.now ≡ [] → IsOk result }
     {
         for child in made.as_slice() {
             self.bear(alloc, child)?;
@@ -93,7 +99,7 @@ impl NodeCore {
         Ok(())
     }
 
-    /// A mail for a group of which there is no replica.
+    /// Handles a mail for a group of which the node has no replica, and returns what is sent.
     pub(crate) fn take_unknown(
         &mut self,
         alloc: Global,
@@ -101,7 +107,8 @@ impl NodeCore {
         body: &MailBody,
     ) -> Result<Sequence<Mail>, OutOfMemory>
         requires { may_come from body.now ≡ true }
-        ensures { IfOk result (λ sent. unknown from body.now self.old ≡ (self.new, sent)) }
+        ensures row { IfOk result (λ sent. unknown from body.now self.old ≡ (self.new, sent)) }
+        ensures none { IsUnknownPassedBy self.old.me from body.now → IsOk result }
     {
         match body {
             MailBody::Install {

@@ -1,9 +1,11 @@
-//! The rows that execute: Accepted, where the command of the next slot became ready, and Learn.
-ghost use Rattle.std.specs.Prelude.{◌≡◌, ◌+◌, ◌<◌, ◌≤◌, ◌++◌, OnOk, Some};
+//! The rows of the replica's table that execute: Accepted, where the command of the next slot
+//! becomes ready, and Learn.
+ghost use Rattle.std.specs.Prelude.{◌≡◌, ◌+◌, ◌<◌, ◌≤◌, ◌++◌, ◌&&◌, not, true, false, OnOk, IsOk, Some};
 ghost use Rattle.sc_node_table.specs.Slots.{slots_ahead};
 ghost use Rattle.sc_node_table.specs.Replica.{next, set_at, last_slot};
 ghost use Rattle.sc_node_table.specs.Voting.{leads, readied, voted, accepted_row};
 ghost use Rattle.sc_node_table.specs.Rows.{learn_row};
+ghost use Rattle.sc_node.specs.Idle.{readies_none, is_learnt};
 
 use crate::execute::execute;
 use sc_base::{Ballot, Members, OutOfMemory, Sequence};
@@ -12,7 +14,7 @@ use sc_mail::Mail;
 use sc_paxos::Counted;
 use sc_replica::{LAST_SLOT, Replica};
 
-/// A command that became ready is executed where its slot is the next one.
+/// Makes a command ready, and executes it where its slot is the next one.
 #[tactic(auto, unfolding(sc_node_table::specs::Voting::readied), using(crate::proofs::Making::making))]
 fn make_ready(
     replica: &mut Replica,
@@ -33,7 +35,7 @@ fn make_ready(
     Ok(())
 }
 
-/// The count of a vote at an open slot.
+/// Counts a vote at an open slot, and makes the command ready of which a majority was counted.
 #[tactic(auto, using(crate::proofs::Counting::counted))]
 fn count(
     replica: &mut Replica,
@@ -50,6 +52,8 @@ fn count(
     ensures made { OnOk result
         (made.new
         ≡ made.old ++ (voted from ballot slot (Some set.now) (replica.old, out.old)).1) }
+    ensures short { readies_none from ballot slot (Some set.now) replica.old ≡ true →
+        IsOk result }
 {
     match replica.count_vote(from, ballot, slot, set) {
         Counted::Chosen(command) => make_ready(replica, slot, &command, out, made),
@@ -57,7 +61,8 @@ fn count(
     }
 }
 
-/// Accepted: a vote at an open slot is counted among that slot's members.
+/// Handles an Accepted: counts a vote at an open slot among that slot's members (Paxos Made Simple,
+/// section 2.3).
 #[tactic(auto, unfolding(sc_node_table::specs::Voting::accepted_row), using(crate::proofs::Making::making))]
 pub(crate) fn on_accepted(
     replica: &mut Replica,
@@ -71,6 +76,9 @@ pub(crate) fn on_accepted(
         ((replica.new, out.new) ≡ (accepted_row from ballot slot (replica.old, out.old)).0) }
     ensures made { OnOk result
         (made.new ≡ made.old ++ (accepted_row from ballot slot (replica.old, out.old)).1) }
+    ensures none { (leads ballot replica.old
+        && not (readies_none from ballot slot (set_at slot replica.old) replica.old)) ≡ false →
+        IsOk result }
 {
     if !replica.leads(ballot) {
         return Ok(());
@@ -82,8 +90,8 @@ pub(crate) fn on_accepted(
     count(replica, from, ballot, slot, &set, out, made)
 }
 
-/// Learn: the next slot's command is executed; for a later one the slots from the next on are asked
-/// for.
+/// Handles a Learn: executes the next slot's command; for a later slot, asks for the slots from the
+/// next one on.
 #[tactic(auto, unfolding(sc_node_table::specs::Rows::learn_row), using(crate::proofs::Making::making))]
 pub(crate) fn on_learn(
     replica: &mut Replica,
@@ -97,6 +105,7 @@ pub(crate) fn on_learn(
         ((replica.new, out.new) ≡ (learn_row from slot command.now (replica.old, out.old)).0) }
     ensures made { OnOk result
         (made.new ≡ made.old ++ (learn_row from slot command.now (replica.old, out.old)).1) }
+    ensures none { is_learnt slot replica.old ≡ true → IsOk result }
 {
     let next = replica.next();
     if LAST_SLOT < slot {

@@ -1,8 +1,8 @@
-//! Execute: the command of the next slot, counted where it was ready, else learnt.
-ghost use Rattle.std.specs.Prelude.{◌≡◌, ◌+◌, ◌<◌, ◌++◌, OnOk};
+//! Execute: the command of the next slot is executed, counted where it was ready, else learnt.
+ghost use Rattle.std.specs.Prelude.{◌≡◌, ◌+◌, ◌<◌, ◌++◌, None, OnOk, IsOk};
 ghost use Rattle.sc_node_table.specs.Slots.{slots_ahead};
 ghost use Rattle.sc_node_table.specs.Replica.{next, last_slot};
-ghost use Rattle.sc_node_table.specs.Execute.{executed_one, executed_ready, executed};
+ghost use Rattle.sc_node_table.specs.Execute.{next_ready, executed_one, executed_ready, executed};
 
 use crate::births::bear;
 use crate::speech::tell;
@@ -12,7 +12,7 @@ use sc_mail::Mail;
 use sc_replica::Replica;
 use sc_replica_transactions::before_of;
 
-/// The steps 1 to 6 but for 3.
+/// Does steps 1, 2, 4, 5 and 6 of Execute, as `executed_one` has them.
 #[tactic(auto, unfolding(sc_node_table::specs::Execute::executed_one))]
 fn execute_one(
     replica: &mut Replica,
@@ -36,7 +36,7 @@ fn execute_one(
     replica.look(out)
 }
 
-/// Step 7: what is ready at the next slot is executed, and so on.
+/// Does step 7 of Execute: executes what is ready at the next slot, as long as there is a command.
 fn execute_ready(
     replica: &mut Replica,
     out: &mut Sequence<Mail>,
@@ -47,6 +47,7 @@ fn execute_ready(
     ensures made { OnOk result
         (made.new
         ≡ made.old ++ (executed_ready replica.old.ready (replica.old, out.old)).1) }
+    ensures none { next_ready replica.old ≡ None → IsOk result }
 {
     let Some(command) = replica.next_ready()? else {
         return Ok(());
@@ -57,7 +58,7 @@ fn execute_ready(
     replica.pump(out)
 }
 
-/// The whole of Execute.
+/// Executes a command at the next slot, and what is ready behind it.
 #[tactic(auto, unfolding(sc_node_table::specs::Execute::executed), using(crate::proofs::Making::making))]
 pub(crate) fn execute(
     replica: &mut Replica,

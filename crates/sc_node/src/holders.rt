@@ -1,4 +1,4 @@
-//! What has the replicas of a node.
+//! Access to the replicas of a node by place.
 ghost use Rattle.std.specs.Prelude.{◌≡◌, ◌<◌, length, get_or, OnOk};
 ghost use Rattle.sc_node_table.specs.Replica.{ReplicaState, name_of};
 ghost use Rattle.sc_node_table.specs.Node.{NodeState};
@@ -7,22 +7,22 @@ ghost use Rattle.sc_node.specs.Ticking.{ticked_at};
 use sc_base::{Draw, OutOfMemory, Sequence};
 use sc_mail::Mail;
 
-/// What has the replicas of a node, each at its place.
+/// A type that holds the replicas of a node, each at its place.
 pub trait Holder {
     /// The node, as its table sees it.
     ghost node: { Self → NodeState };
 
-    /// How many replicas there are.
+    /// Returns the number of replicas.
     fn count(&self) -> usize
         ensures { result ≡ length (node self.now).replicas };
 
-    /// The name of the group whose replica stands at a place.
+    /// Returns the name of the group whose replica is at a place.
     fn name_at(&self, i: usize) -> Draw
         requires { i < length (node self.now).replicas }
         ensures { (d : ReplicaState) → result ≡ name_of (get_or (node self.now).replicas i d) };
 
-    /// The replica at a place ticks, by its row, with the names that are left. The mails come
-    /// behind those that are there. After want of memory the holder may only be dropped.
+    /// Lets the replica at a place tick by its row, with the names that are left. Mails are
+    /// appended to those that are there. After `Err(OutOfMemory)` the holder may only be dropped.
     fn tick_at(&mut self, i: usize, sent: &mut Sequence<Mail>) -> Result<(), OutOfMemory>
         requires { i < length (node self.old).replicas }
         ensures { OnOk result

@@ -1,5 +1,5 @@
-//! A node: its replicas, one a group, which step as the node's table says. Here stand the rows of a
-//! replica's table that execute, and those of transactions, orders and ticks.
+//! A node: its replicas, one a group, which step as the node's table says. It also has the rows of
+//! a replica's table that execute, and those of transactions, orders and ticks.
 #![tactic(auto)]
 
 mod absent;

@@ -1,11 +1,12 @@
 //! The node.
-ghost use Rattle.std.specs.Prelude.{◌≡◌, [], true, IfOk, OnOk};
+ghost use Rattle.std.specs.Prelude.{◌≡◌, [], true, false, None, IfOk, OnOk, IsOk};
 ghost use Rattle.std.specs.List.{list_all};
 ghost use Rattle.sc_cmd.specs.declared.cores.Base.{Base};
 ghost use Rattle.sc_node_table.specs.Slots.{slots_ahead};
 ghost use Rattle.sc_node_table.specs.Replica.{name_of};
 ghost use Rattle.sc_node_table.specs.Node.{is_before, are_in_order, born_replicas, born_node, replica_of, taken_by, routed, on_mail, with_children, on_tick, node_table, may_come};
 ghost use Rattle.sc_node.specs.Places.{StandsAt};
+ghost use Rattle.sc_node.specs.Idle.{IsPassedByOne, IsMailPassedBy, IsInputPassedBy};
 
 use crate::absent::{group_in, may_come};
 use crate::arrivals::is_before;
@@ -21,7 +22,7 @@ use std::alloc::Global;
 use std::marker::Model;
 
 /// A node, the names that it draws, and its replicas, one a group. Contracts see it as the record
-/// of the node's table.
+/// `NodeState` of the node's table.
 #[derive(Drop)]
 pub struct NodeCore {
     pub(crate) me: u16,
@@ -58,14 +59,14 @@ impl Model for NodeCore {
         } };
 }
 
-/// Whether a group's name stands before those of all these groups.
+/// Returns whether a group's name is ordered before those of all these groups.
 fn is_first(group: Draw, others: &[Base]) -> bool
     ensures { result ≡ list_all (λ (other : Base). is_before group other.core.id) others.now }
 {
     others.iter().all(|other| is_before(group, other.core.id))
 }
 
-/// Whether groups stand in the order of their names, none twice.
+/// Returns whether groups are in the order of their names, none twice.
 pub fn are_in_order(groups: &[Base]) -> bool
     ensures { result ≡ are_in_order groups.now }
 {
@@ -75,10 +76,11 @@ pub fn are_in_order(groups: &[Base]) -> bool
     }
 }
 
-/// The replicas at the birth of groups, of each of which the node is a member.
+/// Returns the replicas of these new groups, of those of which the node is a member.
 fn born_replicas(alloc: Global, me: u16, groups: &[Base]) -> Result<Vec<Replica>, OutOfMemory>
-    ensures { IfOk result
+    ensures born { IfOk result
         (λ replicas. replicas.items ≡ born_replicas slots_ahead me groups.now) }
+    ensures none { born_replicas slots_ahead me groups.now ≡ [] → IsOk result }
 {
     let mut replicas = Vec::new(alloc);
     for base in groups {
@@ -90,9 +92,10 @@ fn born_replicas(alloc: Global, me: u16, groups: &[Base]) -> Result<Vec<Replica>
 }
 
 impl NodeCore {
-    /// A node at the birth of groups, in the order of their names: it has a replica of each of
-    /// which it is a member. `OPEN_SLOTS` slots of a log are open at a time. With a policy it
-    /// orders what is wished of the groups that it leads. `are_in_order` tests the order.
+    /// Returns a node with a replica of each of these new groups of which it is a member. The
+    /// groups are in the order of their names, which `are_in_order` tests. `OPEN_SLOTS` slots of a
+    /// log are open at a time. With a policy the node orders what is wished of the groups that it
+    /// leads.
     pub fn born(
         alloc: Global,
         me: u16,
@@ -100,7 +103,8 @@ impl NodeCore {
         policy: bool,
     ) -> Result<NodeCore, OutOfMemory>
         requires { are_in_order groups.now ≡ true }
-        ensures { IfOk result (λ node. node ≡ born_node slots_ahead me groups.now policy) }
+        ensures born { IfOk result (λ node. node ≡ born_node slots_ahead me groups.now policy) }
+        ensures none { born_replicas slots_ahead me groups.now ≡ [] → IsOk result }
     {
         Ok(NodeCore {
             me,
@@ -110,28 +114,29 @@ impl NodeCore {
         })
     }
 
-    /// The node's number.
+    /// Returns the node's number.
     pub fn me(&self) -> u16
         ensures { result ≡ self.now.me }
     {
         self.me
     }
 
-    /// The replicas, in the order of their groups' names.
+    /// Returns the replicas, in the order of their groups' names.
     pub fn replicas(&self) -> &[Replica]
         ensures { result.now ≡ self.now.replicas }
     {
         self.replicas.as_slice()
     }
 
-    /// One step by the node's table: the new value, and what is sent. After want of memory the node
-    /// may only be dropped.
+    /// Makes one step by the node's table, and returns what is sent. After `Err(OutOfMemory)` the
+    /// node may only be dropped.
     pub fn step(
         &mut self,
         alloc: Global,
         input: &Input<Mail, OrderLine>,
     ) -> Result<Sequence<Mail>, OutOfMemory>
-        ensures { IfOk result (λ sent. node_table self.old input.now ≡ (self.new, sent)) }
+        ensures table { IfOk result (λ sent. node_table self.old input.now ≡ (self.new, sent)) }
+        ensures none { IsInputPassedBy input.now self.old → IsOk result }
     {
         match input {
             Input::Got(mail) => self.on_mail(alloc, mail.from, &mail.body),
@@ -141,13 +146,15 @@ impl NodeCore {
         }
     }
 
+    /// Handles a mail: gives it to the replica of its group, if it may come from its sender.
     fn on_mail(
         &mut self,
         alloc: Global,
         from: u32,
         body: &MailBody,
     ) -> Result<Sequence<Mail>, OutOfMemory>
-        ensures { IfOk result (λ sent. on_mail from body.now self.old ≡ (self.new, sent)) }
+        ensures row { IfOk result (λ sent. on_mail from body.now self.old ≡ (self.new, sent)) }
+        ensures none { IsMailPassedBy from body.now self.old → IsOk result }
     {
         if !may_come(from, body) {
             return Ok(Sequence::new(alloc));
@@ -158,7 +165,7 @@ impl NodeCore {
         }
     }
 
-    /// A mail for the replica of a group.
+    /// Handles a mail for a group, of which the node may have no replica.
     fn take(
         &mut self,
         alloc: Global,
@@ -167,10 +174,12 @@ impl NodeCore {
         body: &MailBody,
     ) -> Result<Sequence<Mail>, OutOfMemory>
         requires { may_come from body.now ≡ true }
-        ensures { IfOk result
+        ensures row { IfOk result
             (λ sent.
             taken_by (replica_of group self.old.replicas) group from body.now self.old
             ≡ (self.new, sent)) }
+        ensures none { IsPassedByOne (replica_of group self.old.replicas) self.old.me from body.now →
+            IsOk result }
     {
         match replica_place(self, group) {
             None => self.take_unknown(alloc, from, body),
@@ -178,8 +187,8 @@ impl NodeCore {
         }
     }
 
-    /// The replica at a place takes a mail; the children whose replicas must be made come into
-    /// `made`, which was empty.
+    /// Gives a mail to the replica at a place. The child groups whose replicas must be made are
+    /// appended to `made`, which was empty.
     fn hand_over(
         &mut self,
         i: usize,
@@ -193,14 +202,19 @@ impl NodeCore {
         requires place { StandsAt group self.old.replicas i }
         requires unsent { sent.old ≡ [] }
         requires none { made.old ≡ [] }
-        ensures { OnOk result
+        ensures row { OnOk result
             (taken_by (replica_of group self.old.replicas) group from body.now self.old
             ≡ (with_children made.new self.new, sent.new)) }
+        ensures none { IsPassedByOne (replica_of group self.old.replicas) self.old.me from body.now →
+            IsOk result }
+        ensures childless { IsPassedByOne (replica_of group self.old.replicas) self.old.me from body.now →
+            OnOk result (made.new ≡ []) }
     {
         take_mail(&mut self.replicas[i], from, body, sent, made)?;
         Ok(())
     }
 
+    /// Gives a mail to the replica at a place, and makes the replicas of child groups.
     fn take_at(
         &mut self,
         alloc: Global,
@@ -211,10 +225,12 @@ impl NodeCore {
     ) -> Result<Sequence<Mail>, OutOfMemory>
         requires may_come { may_come from body.now ≡ true }
         requires place { StandsAt group self.old.replicas i }
-        ensures { IfOk result
+        ensures row { IfOk result
             (λ sent.
             taken_by (replica_of group self.old.replicas) group from body.now self.old
             ≡ (self.new, sent)) }
+        ensures none { IsPassedByOne (replica_of group self.old.replicas) self.old.me from body.now →
+            IsOk result }
     {
         let mut sent = Sequence::new(alloc);
         let mut made = Sequence::new(alloc);
@@ -223,8 +239,10 @@ impl NodeCore {
         Ok(sent)
     }
 
+    /// Lets each replica tick, in the order of their groups' names.
     fn on_tick(&mut self, alloc: Global) -> Result<Sequence<Mail>, OutOfMemory>
-        ensures { IfOk result (λ sent. on_tick self.old ≡ (self.new, sent)) }
+        ensures row { IfOk result (λ sent. on_tick self.old ≡ (self.new, sent)) }
+        ensures none { self.old.replicas ≡ [] → IsOk result }
     {
         let mut sent = Sequence::new(alloc);
         tick_each(self, &mut sent)?;

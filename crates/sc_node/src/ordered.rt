@@ -15,7 +15,7 @@ use sc_cmd::{Order, OrderLine, OrderRefusal, ToldResult};
 use sc_mail::{DESK, Mail, MailBody};
 use std::alloc::Global;
 
-/// The group of an order.
+/// Returns the group of an order.
 fn group_of_order(order: &Order) -> Draw
     ensures { result ≡ group_of_order order.now }
 {
@@ -29,7 +29,8 @@ fn group_of_order(order: &Order) -> Draw
     }
 }
 
-/// The desk is told that the node does not lead the group of an order, and knows nobody who does.
+/// Returns the report to the desk that the node does not lead the group of an order, and knows no
+/// node that does.
 fn tell_unknown(alloc: Global, me: u16, number: u32) -> Result<Sequence<Mail>, OutOfMemory>
     ensures { IfOk result (λ sent. sent ≡ told_desk me number (Refused (NotLeader None)) []) }
 {
@@ -46,7 +47,8 @@ fn tell_unknown(alloc: Global, me: u16, number: u32) -> Result<Sequence<Mail>, O
 }
 
 impl NodeCore {
-    /// An order.
+    /// Gives an order to the replica of its group, or reports to the desk that there is none, and
+    /// returns what is sent.
     pub(crate) fn on_order(
         &mut self,
         alloc: Global,
@@ -60,6 +62,7 @@ impl NodeCore {
         }
     }
 
+    /// Gives an order to the replica at a place, and returns what is sent.
     fn take_order_at(
         &mut self,
         alloc: Global,

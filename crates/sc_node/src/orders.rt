@@ -1,5 +1,5 @@
 //! Orders: which are taken, and the names that they take of the node.
-ghost use Rattle.std.specs.Prelude.{◌≡◌, ◌≤◌, ◌-◌, ◌^◌, ◌||◌, ◌&&◌, not, true, false, OnOk, Some, None, is_some, if◌then◌else◌};
+ghost use Rattle.std.specs.Prelude.{◌≡◌, ◌≤◌, ◌-◌, ◌^◌, ◌||◌, ◌&&◌, not, true, false, OnOk, IsOk, Some, None, is_some, if◌then◌else◌};
 ghost use Rattle.sc_base.specs.Drawing.{next_name, drawn_on};
 ghost use Rattle.sc_txn.specs.Checked.{is_checked};
 ghost use Rattle.sc_machine_table.specs.Orders.{refusal_of};
@@ -15,7 +15,7 @@ use sc_replica::Replica;
 use sc_replica_parts::tell_desk;
 use sc_txn::check;
 
-/// Why the command of an order is refused.
+/// Returns why the command of an order is refused. None where it is not.
 fn refusal_of(core: &Core, command: &Command) -> Option<OrderRefusal>
     requires { is_checked command.now ≡ true }
     ensures { result ≡ refusal_of core.now command.now }
@@ -26,10 +26,10 @@ fn refusal_of(core: &Core, command: &Command) -> Option<OrderRefusal>
     }
 }
 
-/// A name of no node.
+/// The name of no node.
 const NO_NAME: Draw = Draw { node: 0, count: 0 };
 
-/// The command of an order, with a name for its child or its transaction.
+/// Returns the command of an order, with a name for its child or its transaction.
 fn ordered_command(name: Draw, number: u32, order: &Order) -> Command
     ensures same { result ≡ ordered_command name number order.now }
     ensures checked { is_checked result ≡ true }
@@ -67,7 +67,7 @@ fn ordered_command(name: Draw, number: u32, order: &Order) -> Command
     }
 }
 
-/// Whether an order takes a name.
+/// Returns whether an order takes a name.
 fn takes_name(order: &Order) -> bool
     ensures { result ≡ takes_name order.now }
 {
@@ -78,7 +78,7 @@ fn takes_name(order: &Order) -> bool
     }
 }
 
-/// Whether a node has drawn all its names.
+/// Returns whether a node has drawn all its names.
 fn has_drawn_all(draws: &Draws) -> bool
     ensures same { result ≡ has_drawn_all draws.now }
     ensures most { draws.now.next ≤ 2 ^ 32 - 1 }
@@ -86,7 +86,7 @@ fn has_drawn_all(draws: &Draws) -> bool
     draws.spent()
 }
 
-/// The command of an order, with the node's next name where its kind takes one.
+/// Returns the command of an order, with the node's next name where its kind takes one.
 fn drawn_command(draws: &mut Draws, line: &OrderLine) -> Command
     requires { (takes_name line.now.order && has_drawn_all draws.old) ≡ false }
     ensures command { result
@@ -102,14 +102,14 @@ fn drawn_command(draws: &mut Draws, line: &OrderLine) -> Command
     ordered_command(name, line.number, &line.order)
 }
 
-/// Whether it takes no order: its group is gone, or it is not settled.
+/// Returns whether a replica takes no order: its group is gone, or it is not settled.
 fn takes_no_order(replica: &Replica) -> bool
     ensures { result ≡ (is_some replica.now.group.core.gone || not (settled replica.now)) }
 {
     replica.machine().core().gone.is_some() || !replica.is_settled()
 }
 
-/// Why an order that takes a name is not taken where there is none left.
+/// Returns why an order that takes a name is not taken, where no name is left.
 fn named_refused(replica: &Replica, draws: &Draws, order: &Order) -> Option<OrderRefusal>
     ensures { result ≡ named_refused draws.now order.now replica.now }
 {
@@ -121,7 +121,7 @@ fn named_refused(replica: &Replica, draws: &Draws, order: &Order) -> Option<Orde
     None
 }
 
-/// Why an order is not taken, if it is not. No refusal looks at the name.
+/// Returns why an order is not taken. None where it is taken. No refusal depends on the name.
 #[tactic(auto, using(crate::proofs::Naming::refused_alike))]
 fn untaken(replica: &Replica, draws: &Draws, line: &OrderLine) -> Option<OrderRefusal>
     ensures { result ≡ untaken draws.now line.now replica.now }
@@ -138,7 +138,7 @@ fn untaken(replica: &Replica, draws: &Draws, line: &OrderLine) -> Option<OrderRe
     }
 }
 
-/// An order that is not refused waits last.
+/// Appends the command of an order to the queue. The order is not refused.
 fn put_drawn(replica: &mut Replica, draws: &mut Draws, line: &OrderLine) -> Result<(), OutOfMemory>
     requires { (takes_name line.now.order && has_drawn_all draws.old) ≡ false }
     ensures row { OnOk result
@@ -152,7 +152,7 @@ fn put_drawn(replica: &mut Replica, draws: &mut Draws, line: &OrderLine) -> Resu
     replica.put_order(command)
 }
 
-/// .. and the pump is tried.
+/// Appends the command of an order to the queue, and pumps. The order is not refused.
 fn queue_order(
     replica: &mut Replica,
     draws: &mut Draws,
@@ -172,7 +172,7 @@ fn queue_order(
     replica.pump(out)
 }
 
-/// An order of which nothing is told: it waits last, unless it is refused.
+/// Queues an order, unless it is refused. Nothing is reported of it.
 #[tactic(auto, using(crate::proofs::Naming::has_name))]
 pub(crate) fn put_untold(
     replica: &mut Replica,
@@ -180,6 +180,7 @@ pub(crate) fn put_untold(
     line: &OrderLine,
 ) -> Result<(), OutOfMemory>
     ensures row { OnOk result (replica.new ≡ with_line draws.old (Some line.now) replica.old) }
+    ensures refused { is_some (untaken draws.old line.now replica.old) ≡ true → IsOk result }
     ensures names { OnOk result (draws.new ≡ names_after draws.old line.now replica.old) }
 {
     match untaken(replica, draws, line) {
@@ -188,9 +189,9 @@ pub(crate) fn put_untold(
     }
 }
 
-/// An order to its group: it waits last, or the desk is told why not. An order of a split or a
-/// transaction takes a name of its node. The mails come behind those that are there. After want
-/// of memory the replica may only be dropped.
+/// Queues an order to the replica's group, or reports to the desk why it is not taken. A split or a
+/// transaction takes a name of the node. Mails are appended to those that are there. After
+/// `Err(OutOfMemory)` the replica may only be dropped.
 #[tactic(auto, unfolding(sc_node_table::specs::Ordering::ordered_row), using(crate::proofs::Naming::has_name))]
 pub fn on_order(
     replica: &mut Replica,

@@ -1,4 +1,4 @@
-//! Where the replica of a group stands.
+//! The place of a group's replica.
 ghost use Rattle.std.specs.Prelude.{◌≡◌, ◌<◌, length, get_or, is_some};
 ghost use Rattle.sc_base.specs.Same.{same_draw};
 ghost use Rattle.sc_node_table.specs.Replica.{ReplicaState, name_of};
@@ -8,7 +8,7 @@ ghost use Rattle.sc_node.specs.Places.{place_from, IsPlaceOf};
 use crate::holders::Holder;
 use sc_base::{Draw, same_draw};
 
-/// Whether the replica at a place is a group's.
+/// Returns whether the replica at a place is a group's.
 fn is_of<H: Holder>(holder: &H, i: usize, group: Draw) -> bool
     requires { i < length (H.node holder.now).replicas }
     ensures { (d : ReplicaState) →
@@ -17,7 +17,7 @@ fn is_of<H: Holder>(holder: &H, i: usize, group: Draw) -> bool
     same_draw(holder.name_at(i), group)
 }
 
-/// The first place at which a replica of a group stands.
+/// Returns the first place with a replica of a group.
 fn first_at<H: Holder>(holder: &H, group: Draw) -> Option<usize>
     ensures { result ≡ place_from 0 group (H.node holder.now).replicas }
 {
@@ -29,7 +29,7 @@ fn first_at<H: Holder>(holder: &H, group: Draw) -> Option<usize>
     None
 }
 
-/// The place of a group's replica, if there is one.
+/// Returns the place of a group's replica, if there is one.
 #[tactic(auto, using(crate::proofs::PlacesStanding::place_is))]
 pub(crate) fn replica_place<H: Holder>(holder: &H, group: Draw) -> Option<usize>
     ensures { IsPlaceOf group (H.node holder.now).replicas result }
@@ -37,7 +37,7 @@ pub(crate) fn replica_place<H: Holder>(holder: &H, group: Draw) -> Option<usize>
     first_at(holder, group)
 }
 
-/// Whether there is a replica of a group.
+/// Returns whether there is a replica of a group.
 #[tactic(auto, using(crate::proofs::PlacesStanding::known_by))]
 pub(crate) fn has_replica<H: Holder>(holder: &H, group: Draw) -> bool
     ensures { result ≡ is_some (replica_of group (H.node holder.now).replicas) }

@@ -1,8 +1,9 @@
 //! The rows of a replica's table, by the input.
-ghost use Rattle.std.specs.Prelude.{◌≡◌, ◌++◌, true, IfOk, OnOk};
+ghost use Rattle.std.specs.Prelude.{◌≡◌, ◌++◌, true, IfOk, OnOk, IsOk};
 ghost use Rattle.sc_node_table.specs.Node.{may_come};
 ghost use Rattle.sc_node_table.specs.Rows.{mailed, stepped, names_left};
 ghost use Rattle.sc_node.specs.Given.{is_of_transaction, may_take};
+ghost use Rattle.sc_node.specs.Idle.{IsPassedBy};
 
 use crate::counts::{on_accepted, on_learn};
 use crate::orders::on_order;
@@ -16,7 +17,7 @@ use sc_mail::{Mail, MailBody};
 use sc_node_table::{Made, ReplicaInput};
 use sc_replica::Replica;
 
-/// A mail of a transaction; those of no row change nothing.
+/// Handles a mail of a transaction. Mails of no row change nothing.
 #[tactic(auto, unfolding(sc_node_table::specs::Rows::mailed))]
 fn on_transaction(
     replica: &mut Replica,
@@ -25,8 +26,9 @@ fn on_transaction(
     out: &mut Sequence<Mail>,
 ) -> Result<(), OutOfMemory>
     requires { is_of_transaction body.now ≡ true }
-    ensures { OnOk result
+    ensures row { OnOk result
         ((replica.new, out.new) ≡ (mailed from body.now (replica.old, out.old)).0) }
+    ensures none { IsPassedBy from body.now replica.old → IsOk result }
 {
     match body {
         MailBody::TxPrepare { tx, offer } => on_offer(replica, from, *tx, offer.get(), out),
@@ -44,7 +46,7 @@ fn on_transaction(
     }
 }
 
-/// A mail from a node.
+/// Handles a mail from a node.
 #[tactic(auto, unfolding(sc_node_table::specs::Rows::mailed), using(crate::proofs::Making::making))]
 fn on_mail(
     replica: &mut Replica,
@@ -57,6 +59,7 @@ fn on_mail(
         ((replica.new, out.new) ≡ (mailed from body.now (replica.old, out.old)).0) }
     ensures made { OnOk result
         (made.new ≡ made.old ++ (mailed from body.now (replica.old, out.old)).1) }
+    ensures none { IsPassedBy from body.now replica.old → IsOk result }
 {
     match body {
         MailBody::Request {
@@ -86,9 +89,9 @@ fn on_mail(
     }
 }
 
-/// A mail for its group, by its row. Only a request may come from others than the nodes. The
-/// mails come behind those that are there, and so do the children whose replicas the node must
-/// make. After want of memory the replica may only be dropped.
+/// Handles a mail for the replica's group by its row. Only a request may come from others than the
+/// nodes. Mails are appended to those that are there, and child groups whose replicas the node must
+/// make to `made`. After `Err(OutOfMemory)` the replica may only be dropped.
 #[tactic(auto, unfolding(sc_node_table::specs::Rows::mailed), using(crate::proofs::Making::making))]
 pub fn take_mail(
     replica: &mut Replica,
@@ -102,6 +105,7 @@ pub fn take_mail(
         ((replica.new, out.new) ≡ (mailed from body.now (replica.old, out.old)).0) }
     ensures made { OnOk result
         (made.new ≡ made.old ++ (mailed from body.now (replica.old, out.old)).1) }
+    ensures none { IsPassedBy from body.now replica.old → IsOk result }
 {
     if from <= MOST_NODES {
         return on_mail(replica, from as u16, body, out, made);
@@ -117,10 +121,10 @@ pub fn take_mail(
     }
 }
 
-/// One step by the replica's table, on a node with a policy or without: the new value, the mails
-/// behind those that are there, and the children whose replicas the node must make. The names of
-/// splits and transactions are drawn from the node's. Only a request may come from others than the
-/// nodes. After want of memory the replica may only be dropped.
+/// Makes one step by the replica's table, on a node with a policy or without. Mails are appended to
+/// those that are there; the child groups whose replicas the node must make are returned. The names
+/// of splits and transactions are drawn from the node's. Only a request may come from others than
+/// the nodes. After `Err(OutOfMemory)` the replica may only be dropped.
 #[tactic(auto, unfolding(sc_node_table::specs::Rows::stepped))]
 pub fn step_replica(
     replica: &mut Replica,

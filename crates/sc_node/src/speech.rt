@@ -1,6 +1,6 @@
-//! What is said of an executed command: a call is answered, of an order the desk is told, and a
-//! transaction goes on.
-ghost use Rattle.std.specs.Prelude.{◌≡◌, true, false, OnOk};
+//! What is sent for an executed command: the answer to a call, the report of an order to the desk,
+//! and the mails of a transaction.
+ghost use Rattle.std.specs.Prelude.{◌≡◌, [], true, false, OnOk, IsOk};
 ghost use Rattle.sc_node_table.specs.Execute.{order_result, told_effect, announced};
 ghost use Rattle.sc_node_table.specs.Spoken.{spoken};
 ghost use Rattle.sc_replica_parts.specs.Calls.{is_call};
@@ -12,6 +12,7 @@ use sc_node_table::Before;
 use sc_replica::Replica;
 use sc_replica_transactions as transactions;
 
+/// Returns whether a command is a call.
 fn is_call(command: &Command) -> bool
     ensures { result ≡ is_call command.now }
 {
@@ -21,7 +22,8 @@ fn is_call(command: &Command) -> bool
     }
 }
 
-/// What it says of a join or a leave; splits and transactions are spoken of apart.
+/// Returns the result of a join or a leave that the desk is told. None for other commands: splits
+/// and transactions are reported apart.
 fn order_result(command: &Command, effect: &Effect) -> Option<ToldResult>
     ensures { result ≡ order_result command.now effect.now }
 {
@@ -40,7 +42,7 @@ fn order_result(command: &Command, effect: &Effect) -> Option<ToldResult>
     }
 }
 
-/// A call is answered where it was counted; nothing else is said of it.
+/// Answers a call where it was counted. Nothing else is sent for it.
 #[tactic(auto, using(crate::proofs::Saying::nothing_of_calls))]
 fn tell_call(
     replica: &mut Replica,
@@ -51,15 +53,16 @@ fn tell_call(
     out: &mut Sequence<Mail>,
 ) -> Result<(), OutOfMemory>
     requires { is_call command.now ≡ true }
-    ensures { OnOk result
+    ensures row { OnOk result
         ((replica.new, out.new)
         ≡ spoken counted before.now effect command.now
         (announced counted effect command.now (replica.old, out.old))) }
+    ensures uncounted { counted ≡ false → IsOk result }
 {
     replica.tell_counted(counted, effect, command, out)
 }
 
-/// What is said of a split or a transaction.
+/// Sends what a split or a transaction has to say of the command.
 #[tactic(auto, unfolding(sc_node_table::specs::Spoken::spoken))]
 fn speak(
     replica: &Replica,
@@ -69,9 +72,11 @@ fn speak(
     command: &Command,
     out: &mut Sequence<Mail>,
 ) -> Result<(), OutOfMemory>
-    ensures { OnOk result
+    ensures row { OnOk result
         ((replica.now, out.new)
         ≡ spoken counted before.now effect.now command.now (replica.now, out.old)) }
+    ensures none { (spoken counted before.now effect.now command.now (replica.now, [])).1 ≡ [] →
+        IsOk result }
 {
     transactions::speak(
         replica.alloc(),
@@ -85,7 +90,7 @@ fn speak(
     )
 }
 
-/// Of any other command the desk is told, and a transaction goes on.
+/// Reports a command other than a call to the desk, and sends what its transaction has to say.
 #[tactic(auto, using(crate::proofs::Saying::no_answer_of_others))]
 fn tell_others(
     replica: &Replica,
@@ -96,16 +101,18 @@ fn tell_others(
     out: &mut Sequence<Mail>,
 ) -> Result<(), OutOfMemory>
     requires { is_call command.now ≡ false }
-    ensures { OnOk result
+    ensures row { OnOk result
         ((replica.now, out.new)
         ≡ spoken counted before.now effect.now command.now
         (announced counted effect.now command.now (replica.now, out.old))) }
+    ensures none { (spoken counted before.now effect.now command.now
+        (announced counted effect.now command.now (replica.now, []))).1 ≡ [] → IsOk result }
 {
     replica.tell_effect(order_result(command, effect), command, out)?;
     speak(replica, counted, before, effect, command, out)
 }
 
-/// What is said of a command, counted or learnt, by its effect and the group before it.
+/// Sends what is to be said of a command, counted or learnt, by its effect and the group before it.
 pub(crate) fn tell(
     replica: &mut Replica,
     counted: bool,
@@ -114,10 +121,14 @@ pub(crate) fn tell(
     command: &Command,
     out: &mut Sequence<Mail>,
 ) -> Result<(), OutOfMemory>
-    ensures { OnOk result
+    ensures row { OnOk result
         ((replica.new, out.new)
         ≡ spoken counted before.now effect command.now
         (announced counted effect command.now (replica.old, out.old))) }
+    ensures uncounted { is_call command.now ≡ true → counted ≡ false → IsOk result }
+    ensures none { is_call command.now ≡ false →
+        (spoken counted before.now effect command.now
+        (announced counted effect command.now (replica.old, []))).1 ≡ [] → IsOk result }
 {
     if is_call(command) {
         return tell_call(replica, counted, before, effect, command, out);

@@ -1,7 +1,14 @@
 //! A tick of a replica.
-ghost use Rattle.std.specs.Prelude.{◌≡◌, OnOk};
-ghost use Rattle.sc_node_table.specs.Reminders.{impatient, waited_in, reminded};
+ghost use Rattle.std.specs.Prelude.{◌≡◌, [], true, false, nat_le, not, ◌||◌, is_some, OnOk, IsOk};
+ghost use Rattle.sc_node_table.specs.Reminders.{one_tick_more, patience, impatient, waited_in, reminded};
 ghost use Rattle.sc_node_table.specs.Policy.{wished_line, names_with, wishing, names_after_tick};
+ghost use Rattle.sc_base.specs.Roster.{is_member};
+ghost use Rattle.sc_cmd.specs.declared.commands.Command.TheVariants.{GiveUp};
+ghost use Rattle.sc_node_table.specs.Acts.{has_act};
+ghost use Rattle.sc_node_table.specs.Election.{elected};
+ghost use Rattle.sc_node_table.specs.Replica.{members, settled};
+ghost use Rattle.sc_replica_transactions.specs.Quiet.{coordinates};
+ghost use Rattle.sc_node.specs.Idle.{IsIdleTick};
 ghost use Rattle.sc_node_table.specs.Rows.{tick_row};
 
 use crate::wishes::wish;
@@ -12,9 +19,11 @@ use sc_replica::Replica;
 use sc_replica_transactions as transactions;
 use sc_replica_transactions::{has_waited, one_tick_more};
 
-/// A coordinator that has waited long enough gives up.
+/// Queues the give-up of a transaction whose coordinator has waited long enough.
 fn lose_patience(replica: &mut Replica, tx: Draw) -> Result<(), OutOfMemory>
-    ensures { OnOk result (replica.new ≡ impatient tx replica.old) }
+    ensures row { OnOk result (replica.new ≡ impatient tx replica.old) }
+    ensures patient { nat_le patience replica.old.waits ≡ false → IsOk result }
+    ensures known { has_act (GiveUp tx) replica.old ≡ true → IsOk result }
 {
     if !has_waited(replica.waits()) {
         return Ok(());
@@ -22,9 +31,12 @@ fn lose_patience(replica: &mut Replica, tx: Draw) -> Result<(), OutOfMemory>
     replica.put_act(Command::GiveUp { tx })
 }
 
-/// A coordinator waits one tick longer.
+/// Lets a coordinator wait one tick longer. Does nothing where the group coordinates no
+/// transaction.
 fn wait(replica: &mut Replica) -> Result<(), OutOfMemory>
-    ensures { OnOk result (replica.new ≡ waited_in replica.old.group.core.lock replica.old) }
+    ensures row { OnOk result (replica.new ≡ waited_in replica.old.group.core.lock replica.old) }
+    ensures free { coordinates replica.old.group.core.lock ≡ false → IsOk result }
+    ensures patient { nat_le patience (one_tick_more replica.old.waits) ≡ false → IsOk result }
 {
     match &replica.machine().core().lock {
         Lock::Coordinating { tx, .. } => {
@@ -37,10 +49,13 @@ fn wait(replica: &mut Replica) -> Result<(), OutOfMemory>
     }
 }
 
-/// Who is bound in a transaction asks again, or says its vote again.
+/// Sends a bound group's question or vote of its transaction again, and lets a coordinator wait one
+/// tick longer.
 #[tactic(auto, unfolding(sc_node_table::specs::Reminders::reminded))]
 fn remind(replica: &mut Replica, out: &mut Sequence<Mail>) -> Result<(), OutOfMemory>
     ensures row { OnOk result ((replica.new, out.new) ≡ reminded (replica.old, out.old)) }
+    ensures none { coordinates replica.old.group.core.lock ≡ false →
+        (reminded (replica.old, [])).1 ≡ [] → IsOk result }
     ensures waits { OnOk result
         (replica.new ≡ waited_in replica.old.group.core.lock replica.old) }
 {
@@ -48,7 +63,7 @@ fn remind(replica: &mut Replica, out: &mut Sequence<Mail>) -> Result<(), OutOfMe
     wait(replica)
 }
 
-/// .. and then what a policy wishes is ordered, if one is on.
+/// Sends a bound group's question or vote again, and queues what a policy wishes, if one is on.
 #[tactic(auto, unfolding(sc_node_table::specs::Policy::wishing))]
 fn remind_and_wish(
     replica: &mut Replica,
@@ -59,6 +74,8 @@ fn remind_and_wish(
     ensures row { OnOk result
         ((replica.new, out.new)
         ≡ wishing policy draws.old (reminded (replica.old, out.old))) }
+    ensures none { policy ≡ false → coordinates replica.old.group.core.lock ≡ false →
+        (reminded (replica.old, [])).1 ≡ [] → IsOk result }
     ensures names { OnOk result
         (draws.new
         ≡ names_with draws.old
@@ -69,9 +86,9 @@ fn remind_and_wish(
     wish(replica, policy, draws)
 }
 
-/// A tick of the clock of a node with a policy or without, by the row of Tick. What the policy
-/// orders takes a name of the node. The mails come behind those that are there. After want of
-/// memory the replica may only be dropped.
+/// Handles a tick by the row of Tick, on a node with a policy or without. What the policy orders
+/// takes a name of the node. Mails are appended to those that are there. After `Err(OutOfMemory)`
+/// the replica may only be dropped.
 #[tactic(auto, unfolding(sc_node_table::specs::Rows::tick_row))]
 pub fn on_tick(
     replica: &mut Replica,
@@ -81,6 +98,11 @@ pub fn on_tick(
 ) -> Result<(), OutOfMemory>
     ensures row { OnOk result
         ((replica.new, out.new) ≡ tick_row policy draws.old (replica.old, out.old)) }
+    ensures apart { (is_some replica.old.group.core.gone
+        || not (is_member (members replica.old) replica.old.me)) ≡ true → IsOk result }
+    ensures spent { settled replica.old ≡ false → (elected (replica.old, [])).1 ≡ [] →
+        IsOk result }
+    ensures idle { IsIdleTick policy replica.old → IsOk result }
     ensures names { OnOk result (draws.new ≡ names_after_tick policy draws.old replica.old) }
 {
     if !replica.takes_part() {

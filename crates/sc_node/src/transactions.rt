@@ -1,7 +1,9 @@
-//! The rows of TxPrepare, TxVote, TxOutcome, TxElsewhere, TxWatch and TxWatched.
-ghost use Rattle.std.specs.Prelude.{◌≡◌, OnOk, None};
-ghost use Rattle.sc_cmd.specs.declared.votes.Past.TheVariants.{Yes};
-ghost use Rattle.sc_node_table.specs.Transactions.{offered_by, offer_row, watched_by, watch_row, vote_queued, vote_row, watch_queued, watch_met, watched_row, elsewhere_row, outcome_row, noted_outcome};
+//! The rows of TxPrepare, TxVote, TxOutcome, TxElsewhere, TxWatch and TxWatched (Scatter, SOSP
+//! 2011, multi-group operations).
+ghost use Rattle.std.specs.Prelude.{◌≡◌, [], ◌&&◌, ◌||◌, false, OnOk, IsOk, Some, None};
+ghost use Rattle.sc_cmd.specs.declared.votes.Past.TheVariants.{Yes, Ended};
+ghost use Rattle.sc_node_table.specs.Transactions.{offered_by, offer_row, watched_by, watch_row, vote_queued, vote_row, watch_queued, watch_met, watched_row, elsewhere_row, outcome_row, standing_vote, awaits_vote, awaits_watch, is_bound, noted_outcome};
+ghost use Rattle.sc_node.specs.Idle.{asks_outcome, watcher_asks};
 
 use sc_base::{Boxed, Draw, Dup, OutOfMemory, Sequence};
 use sc_cmd::{Command, Offer, Outcome, Past, Vote, Watch};
@@ -13,7 +15,8 @@ use sc_replica_transactions::{
     tell_outcome, tell_vote, tell_watch,
 };
 
-/// An offer on which no vote stands is to be voted on in the log, by the leader.
+/// Queues the vote on an offer where the replica runs, and names the leader that it knows
+/// otherwise. No vote on it stands yet.
 fn take_offer(
     replica: &mut Replica,
     from: u16,
@@ -31,7 +34,7 @@ fn take_offer(
     pass_on(replica.me(), from, tx, offer.coord, replica.hint(), out)
 }
 
-/// TxPrepare.
+/// Handles a TxPrepare: answers with the vote that stands, or has the offer voted on.
 #[tactic(auto, unfolding(sc_node_table::specs::Transactions::offer_row))]
 pub(crate) fn on_offer(
     replica: &mut Replica,
@@ -40,8 +43,9 @@ pub(crate) fn on_offer(
     offer: &Offer,
     out: &mut Sequence<Mail>,
 ) -> Result<(), OutOfMemory>
-    ensures { OnOk result
+    ensures row { OnOk result
         ((replica.new, out.new) ≡ offer_row from tx offer.now (replica.old, out.old)) }
+    ensures ended { standing_vote replica.old.group.core tx ≡ Some Ended → IsOk result }
 {
     match standing_vote(replica.machine().core(), tx) {
         Some(vote) => tell_vote(
@@ -58,7 +62,8 @@ pub(crate) fn on_offer(
     }
 }
 
-/// A watch on which no vote stands is to be voted on in the log, by the leader.
+/// Queues the vote on a watch where the replica runs, and names the leader that it knows otherwise.
+/// No vote on it stands yet.
 fn take_watch(
     replica: &mut Replica,
     from: u16,
@@ -76,7 +81,7 @@ fn take_watch(
     pass_on(replica.me(), from, tx, watch.coord, replica.hint(), out)
 }
 
-/// TxWatch.
+/// Handles a TxWatch: answers with the vote that stands, or has the watch voted on.
 #[tactic(auto, unfolding(sc_node_table::specs::Transactions::watch_row))]
 pub(crate) fn on_watch(
     replica: &mut Replica,
@@ -85,8 +90,9 @@ pub(crate) fn on_watch(
     watch: &Watch,
     out: &mut Sequence<Mail>,
 ) -> Result<(), OutOfMemory>
-    ensures { OnOk result
+    ensures row { OnOk result
         ((replica.new, out.new) ≡ watch_row from tx watch.now (replica.old, out.old)) }
+    ensures ended { standing_vote replica.old.group.core tx ≡ Some Ended → IsOk result }
 {
     match standing_vote(replica.machine().core(), tx) {
         Some(vote) => tell_watch(replica.me(), from, tx, watch, vote, out),
@@ -94,7 +100,7 @@ pub(crate) fn on_watch(
     }
 }
 
-/// A vote for which the leader waits is recorded.
+/// Queues the record of a vote for which the leader waits. Ignores another vote.
 fn take_vote(
     replica: &mut Replica,
     from: u16,
@@ -102,8 +108,10 @@ fn take_vote(
     vote: &Vote,
     out: &mut Sequence<Mail>,
 ) -> Result<(), OutOfMemory>
-    ensures { OnOk result
+    ensures row { OnOk result
         ((replica.new, out.new) ≡ vote_queued from tx vote.now (replica.old, out.old)) }
+    ensures none { (replica.old.running && awaits_vote replica.old.group.core.lock tx) ≡ false →
+        IsOk result }
 {
     if !replica.is_running() || !awaits_vote(&replica.machine().core().lock, tx) {
         return Ok(());
@@ -112,7 +120,8 @@ fn take_vote(
     replica.queue_act(record_of(tx, vote, from), out)
 }
 
-/// TxVote: only a Yes asks for what was decided.
+/// Handles a TxVote: a Yes is answered with the outcome, if it is noted; a vote for which the
+/// leader waits is recorded.
 #[tactic(auto, unfolding(sc_node_table::specs::Transactions::vote_row))]
 pub(crate) fn on_party_vote(
     replica: &mut Replica,
@@ -122,8 +131,11 @@ pub(crate) fn on_party_vote(
     vote: &Vote,
     out: &mut Sequence<Mail>,
 ) -> Result<(), OutOfMemory>
-    ensures { OnOk result
+    ensures row { OnOk result
         ((replica.new, out.new) ≡ vote_row from tx part vote.now (replica.old, out.old)) }
+    ensures none { (asks_outcome vote.now (noted_outcome replica.old.group.core tx)
+        || (replica.old.running && awaits_vote replica.old.group.core.lock tx)) ≡ false →
+        IsOk result }
 {
     match vote {
         Vote::Yes(_) => match noted_outcome(replica.machine().core(), tx) {
@@ -136,7 +148,7 @@ pub(crate) fn on_party_vote(
     }
 }
 
-/// A watcher's vote for which the leader waits is recorded.
+/// Queues the record of a watcher's vote for which the leader waits. Ignores another vote.
 fn take_watched(
     replica: &mut Replica,
     from: u16,
@@ -144,8 +156,10 @@ fn take_watched(
     vote: Past,
     out: &mut Sequence<Mail>,
 ) -> Result<(), OutOfMemory>
-    ensures { OnOk result
+    ensures row { OnOk result
         ((replica.new, out.new) ≡ watch_queued from tx vote (replica.old, out.old)) }
+    ensures none { (replica.old.running && awaits_watch replica.old.group.core.lock tx) ≡ false →
+        IsOk result }
 {
     if !replica.is_running() || !awaits_watch(&replica.machine().core().lock, tx) {
         return Ok(());
@@ -153,7 +167,8 @@ fn take_watched(
     replica.queue_act(Command::RecordWatch { tx, vote, by: from }, out)
 }
 
-/// TxWatched: only a Yes asks for what was decided.
+/// Handles a TxWatched: a Yes is answered with the outcome, if it is noted; a vote for which the
+/// leader waits is recorded.
 #[tactic(auto, unfolding(sc_node_table::specs::Transactions::watched_row))]
 pub(crate) fn on_watched(
     replica: &mut Replica,
@@ -163,8 +178,11 @@ pub(crate) fn on_watched(
     vote: Past,
     out: &mut Sequence<Mail>,
 ) -> Result<(), OutOfMemory>
-    ensures { OnOk result
+    ensures row { OnOk result
         ((replica.new, out.new) ≡ watched_row from tx part vote (replica.old, out.old)) }
+    ensures none { (watcher_asks vote (noted_outcome replica.old.group.core tx)
+        || (replica.old.running && awaits_watch replica.old.group.core.lock tx)) ≡ false →
+        IsOk result }
 {
     match vote {
         Past::Yes => match noted_outcome(replica.machine().core(), tx) {
@@ -178,7 +196,7 @@ pub(crate) fn on_watched(
     }
 }
 
-/// TxElsewhere: the coordinator asks again.
+/// Handles a TxElsewhere: a settled coordinator asks another node of the party.
 #[tactic(auto, unfolding(sc_node_table::specs::Transactions::elsewhere_row))]
 pub(crate) fn on_elsewhere(
     replica: &mut Replica,
@@ -187,8 +205,9 @@ pub(crate) fn on_elsewhere(
     hint: Option<u16>,
     out: &mut Sequence<Mail>,
 ) -> Result<(), OutOfMemory>
-    ensures { OnOk result
+    ensures row { OnOk result
         ((replica.new, out.new) ≡ elsewhere_row from tx hint (replica.old, out.old)) }
+    ensures none { (elsewhere_row from tx hint (replica.old, [])).1 ≡ [] → IsOk result }
 {
     if !replica.is_settled() {
         return Ok(());
@@ -204,7 +223,7 @@ pub(crate) fn on_elsewhere(
     )
 }
 
-/// TxOutcome: the leader of a group that is bound puts the outcome into its log.
+/// Handles a TxOutcome: the leader of a group that is bound queues the outcome for its log.
 #[tactic(auto, unfolding(sc_node_table::specs::Transactions::outcome_row))]
 pub(crate) fn on_outcome(
     replica: &mut Replica,
@@ -212,8 +231,10 @@ pub(crate) fn on_outcome(
     outcome: &Outcome,
     out: &mut Sequence<Mail>,
 ) -> Result<(), OutOfMemory>
-    ensures { OnOk result
+    ensures row { OnOk result
         ((replica.new, out.new) ≡ outcome_row tx outcome.now (replica.old, out.old)) }
+    ensures none { (replica.old.running && is_bound replica.old.group.core.lock tx) ≡ false →
+        IsOk result }
 {
     if !replica.is_running() || !is_bound(&replica.machine().core().lock, tx) {
         return Ok(());

@@ -1,6 +1,6 @@
 //! What a policy orders of a group at a tick.
-ghost use Rattle.std.specs.Prelude.{◌≡◌, IfOk, OnOk, Some};
-ghost use Rattle.sc_node_table.specs.Policy.{wished_line, with_line, names_with};
+ghost use Rattle.std.specs.Prelude.{◌≡◌, false, IfOk, OnOk, IsOk, Some};
+ghost use Rattle.sc_node_table.specs.Policy.{is_at_rest, wished_line, with_line, names_with};
 
 use crate::orders::put_untold;
 use sc_base::{Draws, OutOfMemory};
@@ -8,9 +8,12 @@ use sc_cmd::OrderLine;
 use sc_policy::wished_order;
 use sc_replica::Replica;
 
-/// What a policy, if it is on, orders of a group that is at rest. Its orders have the number 0.
+/// Returns what a policy, if it is on, orders of a group that is at rest. Its orders have the
+/// number 0.
 fn wished_line(replica: &Replica, policy: bool) -> Result<Option<OrderLine>, OutOfMemory>
-    ensures { IfOk result (λ line. line ≡ wished_line policy replica.now) }
+    ensures line { IfOk result (λ line. line ≡ wished_line policy replica.now) }
+    ensures off { policy ≡ false → IsOk result }
+    ensures busy { is_at_rest replica.now ≡ false → IsOk result }
 {
     if !policy || !replica.is_at_rest() {
         return Ok(None);
@@ -22,8 +25,8 @@ fn wished_line(replica: &Replica, policy: bool) -> Result<Option<OrderLine>, Out
     }
 }
 
-/// What is wished waits last, if it is taken; of what is not taken nothing is told. It takes a name
-/// of the node.
+/// Queues what a policy wishes, if it is not refused; a refusal is not reported. A split or a
+/// transaction takes a name of the node.
 pub(crate) fn wish(
     replica: &mut Replica,
     policy: bool,
@@ -31,6 +34,8 @@ pub(crate) fn wish(
 ) -> Result<(), OutOfMemory>
     ensures row { OnOk result
         (replica.new ≡ with_line draws.old (wished_line policy replica.old) replica.old) }
+    ensures off { policy ≡ false → IsOk result }
+    ensures busy { is_at_rest replica.old ≡ false → IsOk result }
     ensures names { OnOk result
         (draws.new ≡ names_with draws.old (wished_line policy replica.old) replica.old) }
 {

@@ -24,13 +24,13 @@ next_call-found me idle core [] mails c e is down = absurd (cc)
 next_call-found me idle core (d ∷ calls) mails c e is down = let same : d ≡ c = cc in rw (e, same, down, same)
 
 -- the head is answered
-next_call-answered : (me : ℕ) (idle : Bool) (core : Core) (calls : List Command) (mails : List Mail) (c : Command) (answer : AnswerBody) → head_waits idle core.lock calls ≡ false → Some c ≡ head_of calls → turned_down core c ≡ Some answer
+pub next_call-answered : (me : ℕ) (idle : Bool) (core : Core) (calls : List Command) (mails : List Mail) (c : Command) (answer : AnswerBody) → head_waits idle core.lock calls ≡ false → Some c ≡ head_of calls → turned_down core c ≡ Some answer
     → next_call me idle core (rest_of calls) (answered me core.id answer c mails) ≡ next_call me idle core calls mails
 unfolding next_call
 next_call-answered me idle core [] mails c answer e is down = absurd (cc)
 next_call-answered me idle core (d ∷ calls) mails c answer e is down = let same : d ≡ c = cc in rw (e, same, down, same)
 
--- .. and the calls behind it are looked at
+-- the head is answered, and the calls behind it are looked at
 pub next_call-goes : (me : ℕ) (idle : Bool) (core : Core) (calls after : List Command) (mails more : List Mail) (c : Command) (answer : AnswerBody)
     → after ≡ rest_of calls → more ≡ answered me core.id answer c mails → head_waits idle core.lock calls ≡ false → Some c ≡ head_of calls → turned_down core c ≡ Some answer
     → next_call me idle core after more ≡ next_call me idle core calls mails

@@ -1,2 +1,5 @@
 mod Rounds
 mod Calls
+mod Idling
+mod Unsent
+mod Queueing

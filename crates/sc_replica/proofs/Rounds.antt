@@ -73,7 +73,7 @@ asked-by : (o : Option Command) (r : ReplicaState) (slot : ℕ) (set : List ℕ)
 asked-by None r slot set rest mails = refl
 asked-by (Some command) r slot set rest mails = refl
 
-asked-cons : (r : ReplicaState) (slot : ℕ) (set : List ℕ) (rest : List (List ℕ)) (mails : List Mail) → asked_again r (slot + 1) rest (asked_at r slot set mails) ≡ asked_again r slot (set ∷ rest) mails
+pub asked-cons : (r : ReplicaState) (slot : ℕ) (set : List ℕ) (rest : List (List ℕ)) (mails : List Mail) → asked_again r (slot + 1) rest (asked_at r slot set mails) ≡ asked_again r slot (set ∷ rest) mails
 unfolding asked_again
 asked-cons r slot set rest mails = asked-by (flying r slot) r slot set rest mails
 

@@ -1,4 +1,4 @@
--- What a settled replica says again at a tick.
+-- What a settled replica sends again at a tick.
 use Rattle.std.specs.Prelude.{ℕ, ◌-◌, List, if◌then◌else◌, Option, Some, None}
 use Rattle.sc_cmd.specs.declared.commands.Command.{Command}
 use Rattle.sc_mail.specs.declared.bodies.MailBody.TheVariants.{Accept}
@@ -8,15 +8,15 @@ use Rattle.sc_node_table.specs.Replica.{ReplicaState, name_of, next, flying, is_
 use Rattle.sc_node_table.specs.Mails.{sent_all}
 use Rattle.sc_node_table.specs.Rows.{uncounted, told_last, asked_again}
 
--- the command in flight at a slot, if there is one, to each of these members that was not counted
+-- an accept of this command, if there is one, to each of these members whose vote was not counted at the slot
 abbrev pub asked_for : Option Command → ReplicaState → ℕ → List ℕ → List Mail → List Mail
 asked_for None r slot set mails = mails
 asked_for (Some command) r slot set mails = sent_all r.me (uncounted r slot set) (Accept (name_of r) r.leader.ballot slot command) mails
 
--- .. the command in flight there
+-- an accept of the command in flight at the slot, if there is one, to each of these members whose vote was not counted there
 abbrev pub asked_at : ReplicaState → ℕ → List ℕ → List Mail → List Mail
 asked_at r slot set mails = asked_for (flying r slot) r slot set mails
 
--- one that is settled: accept again at each slot in flight, or with nothing under way the last entry
+-- a settled replica sends the accepts again of each slot in flight, and with nothing in flight or ready the last entry
 abbrev pub repeated : ReplicaState → List Mail → List Mail
 repeated r mails = if is_idle r then told_last (entry_at (next r - 1) r.log) r mails else asked_again r (next r) r.sets mails

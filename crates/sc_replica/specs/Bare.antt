@@ -1,4 +1,4 @@
--- A replica that does not run, as it is made, and one with another value of a single field.
+-- A replica that does not run, as it is made, and a replica with another value of a single field.
 use Rattle.std.specs.Prelude.{ℕ, false, List, [], Some}
 use Rattle.sc_cmd.specs.declared.commands.Command.{Command}
 use Rattle.sc_paxos_words.specs.Logs.{LogState}
@@ -7,7 +7,7 @@ use Rattle.sc_paxos_words.specs.Leaders.{first_leader}
 use Rattle.sc_machine_table.specs.Group.{Group}
 use Rattle.sc_node_table.specs.Replica.{ReplicaState, first_ballot}
 
--- with this state, log and members of the open slots, and the promise of its group's birth
+-- the replica of a node with this state, log and members of the open slots, which has promised the group's first ballot
 abbrev pub bare_replica : ℕ → Group → LogState Command → List (List ℕ) → ReplicaState
 bare_replica me group log sets = record {
   me = me;
@@ -25,10 +25,10 @@ bare_replica me group log sets = record {
   waits = 0;
 }
 
--- with this node taken for the leader
+-- the replica with this node taken for the leader
 abbrev pub with_hint : ℕ → ReplicaState → ReplicaState
 with_hint node r = record r { hint = Some node }
 
--- with a transaction that has waited for so many ticks
+-- the replica with a transaction that has waited for this number of ticks
 abbrev pub with_waits : ℕ → ReplicaState → ReplicaState
 with_waits waits r = record r { waits = waits }

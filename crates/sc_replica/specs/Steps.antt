@@ -5,10 +5,10 @@ use Rattle.sc_paxos_words.specs.Leaders.{LeaderState}
 use Rattle.sc_node_table.specs.Slots.{with_slot}
 use Rattle.sc_node_table.specs.Replica.{ReplicaState}
 
--- with another leader
+-- the replica with another leader's state
 abbrev pub with_leader : LeaderState Command → ReplicaState → ReplicaState
 with_leader leader r = record r { leader = leader }
 
--- with a command that is ready at a slot
+-- the replica with a command that is ready at a slot
 abbrev pub with_ready : ℕ → Command → ReplicaState → ReplicaState
 with_ready slot command r = record r { ready = with_slot r.ready slot command }

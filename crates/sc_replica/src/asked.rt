@@ -1,5 +1,5 @@
-//! The row of Ask: entries that are held, or the executed state.
-ghost use Rattle.std.specs.Prelude.{◌≡◌, ◌+◌, ◌<◌, ◌≤◌, OnOk, IfSome};
+//! Ask: a replica sends the entries that it holds, or the executed state.
+ghost use Rattle.std.specs.Prelude.{◌≡◌, ◌+◌, ◌<◌, ◌≤◌, [], OnOk, IsOk, IfSome};
 ghost use Rattle.std.specs.Option.{option_copied};
 ghost use Rattle.sc_paxos_words.specs.Logs.{entry_at};
 ghost use Rattle.sc_mail.specs.declared.bodies.MailBody.TheVariants.{Learn};
@@ -16,7 +16,7 @@ use sc_node_table::MOST_TAUGHT;
 use sc_replica_parts::send;
 
 impl Replica {
-    /// The entry of a slot, if it is held.
+    /// Returns the entry of a slot, if it is held.
     pub(crate) fn entry(&self, slot: u32) -> Option<&Command>
         ensures same { option_copied result ≡ entry_at slot self.now.log }
         ensures held { IfSome result (λ _. slot < next self.now) }
@@ -25,6 +25,7 @@ impl Replica {
         self.log.entry(slot)
     }
 
+    /// Sends a node the entry of a slot.
     fn teach_one(
         &self,
         from: u16,
@@ -48,7 +49,7 @@ impl Replica {
         )
     }
 
-    /// At most so many entries, from a slot on.
+    /// Sends a node at most `most` entries, from a slot on, as far as they are held.
     #[tactic(auto, unfolding(sc_node_table::specs::Rows::taught))]
     fn teach(
         &self,
@@ -57,7 +58,8 @@ impl Replica {
         slot: u32,
         out: &mut Sequence<Mail>,
     ) -> Result<(), OutOfMemory>
-        ensures { OnOk result (out.new ≡ taught most self.now from slot out.old) }
+        ensures mails { OnOk result (out.new ≡ taught most self.now from slot out.old) }
+        ensures none { taught most self.now from slot [] ≡ [] → IsOk result }
     {
         let mut at = slot;
         for _sent in 0..most {
@@ -70,8 +72,8 @@ impl Replica {
         Ok(())
     }
 
-    /// What is sent to one that asked from an executed slot: entries where its entry is held, else
-    /// the executed state.
+    /// Answers an Ask from an executed slot: with entries where that slot's entry is held, else
+    /// with the executed state.
     fn answer_ask(&self, from: u16, slot: u32, out: &mut Sequence<Mail>) -> Result<(), OutOfMemory>
         ensures { OnOk result
             ((self.now, out.new)
@@ -83,7 +85,7 @@ impl Replica {
         self.teach(MOST_TAUGHT, from, slot, out)
     }
 
-    /// Ask, of an executed slot or from 0.
+    /// Handles an Ask. One from a slot that is not executed is ignored.
     #[tactic(auto, unfolding(sc_node_table::specs::Rows::ask_row))]
     pub(crate) fn on_ask(
         &self,
@@ -91,7 +93,8 @@ impl Replica {
         slot: u32,
         out: &mut Sequence<Mail>,
     ) -> Result<(), OutOfMemory>
-        ensures { OnOk result ((self.now, out.new) ≡ ask_row from slot (self.now, out.old)) }
+        ensures row { OnOk result ((self.now, out.new) ≡ ask_row from slot (self.now, out.old)) }
+        ensures later { next self.now ≤ slot → IsOk result }
     {
         if self.next() <= slot {
             return Ok(());

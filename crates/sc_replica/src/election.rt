@@ -1,5 +1,5 @@
 //! A replica begins to run, or runs no longer.
-ghost use Rattle.std.specs.Prelude.{◌≡◌, ◌+◌, ◌≤◌, IfOk, OnOk, Some, is_some, length, nat_eq};
+ghost use Rattle.std.specs.Prelude.{◌≡◌, ◌+◌, ◌≤◌, [], IfOk, OnOk, IsOk, Some, is_some, length, nat_eq};
 ghost use Rattle.std.specs.List.{list_any};
 ghost use Rattle.std.specs.Option.{option_copied};
 ghost use Rattle.sc_node_table.specs.Replica.{taken_at, listed, under_way, is_idle, next, name_of, last_slot};
@@ -16,10 +16,12 @@ use sc_replica_parts::{answer_command, dismiss_all, ready_at};
 use std::collections::BTreeMap;
 
 impl Replica {
-    /// It runs with the next ballot of its own, and asks for promises.
+    /// Runs with the next ballot of its own, and asks the members of the open slots to promise it
+    /// (Paxos Made Simple, section 2.2, phase 1a). Does nothing after the last round, 2^32 - 1.
     #[tactic(auto, unfolding(sc_node_table::specs::Election::elected))]
     pub fn elect(&mut self, out: &mut Sequence<Mail>) -> Result<(), OutOfMemory>
-        ensures { OnOk result ((self.new, out.new) ≡ elected (self.old, out.old)) }
+        ensures row { OnOk result ((self.new, out.new) ≡ elected (self.old, out.old)) }
+        ensures none { (elected (self.old, [])).1 ≡ [] → IsOk result }
     {
         if self.top.round == u32::MAX {
             return Ok(());
@@ -39,7 +41,7 @@ impl Replica {
         self.send_prepares(nodes.as_slice(), ballot, from_slot, out)
     }
 
-    /// The command in flight or ready at a slot.
+    /// Returns the command in flight or ready at a slot.
     pub(crate) fn taken(&self, slot: u32) -> Option<&Command>
         ensures { option_copied result ≡ taken_at self.now slot }
     {
@@ -49,7 +51,7 @@ impl Replica {
         }
     }
 
-    /// The call in flight or ready at a slot is answered so.
+    /// Sends this answer to the client of a call that is in flight or ready at a slot.
     #[tactic(auto, unfolding(sc_node_table::specs::Mails::answered_all))]
     fn answer_taken(
         &self,
@@ -57,10 +59,12 @@ impl Replica {
         body: &AnswerBody,
         out: &mut Sequence<Mail>,
     ) -> Result<(), OutOfMemory>
-        ensures { OnOk result
+        ensures mails { OnOk result
             (out.new
             ≡ answered_all self.now.me (name_of self.now) body.now (listed (taken_at self.now slot))
             out.old) }
+        ensures none { answered_all self.now.me (name_of self.now) body.now (listed (taken_at self.now slot)) []
+            ≡ [] → IsOk result }
     {
         match self.taken(slot) {
             Some(command) => {
@@ -70,15 +74,17 @@ impl Replica {
         }
     }
 
-    /// The calls in flight or ready are answered so.
+    /// Sends this answer to the client of each call that is in flight or ready.
     fn answer_under_way(
         &self,
         body: &AnswerBody,
         out: &mut Sequence<Mail>,
     ) -> Result<(), OutOfMemory>
-        ensures { OnOk result
+        ensures mails { OnOk result
             (out.new
             ≡ answered_all self.now.me (name_of self.now) body.now (under_way self.now) out.old) }
+        ensures none { answered_all self.now.me (name_of self.now) body.now (under_way self.now) [] ≡ [] →
+            IsOk result }
     {
         let next = self.next();
         for i in 0..self.open_slots() {
@@ -87,8 +93,8 @@ impl Replica {
         Ok(())
     }
 
-    /// It runs no longer: each call in flight, ready or waiting is answered so, and the desk is
-    /// told of each waiting order.
+    /// Ends the run: sends this answer to the client of each call in flight, ready or queued, and
+    /// reports to the desk of each queued order that this node does not lead.
     #[tactic(auto, unfolding(sc_node_table::specs::Election::ended))]
     pub(crate) fn end(
         &mut self,
@@ -96,7 +102,8 @@ impl Replica {
         body: &AnswerBody,
         out: &mut Sequence<Mail>,
     ) -> Result<(), OutOfMemory>
-        ensures { OnOk result ((self.new, out.new) ≡ ended hint body.now (self.old, out.old)) }
+        ensures row { OnOk result ((self.new, out.new) ≡ ended hint body.now (self.old, out.old)) }
+        ensures none { (ended hint body.now (self.old, [])).1 ≡ [] → IsOk result }
     {
         self.answer_under_way(body, out)?;
         dismiss_all(
@@ -117,25 +124,28 @@ impl Replica {
         Ok(())
     }
 
-    /// Stops with a hint.
+    /// Ends the run with this hint, and answers clients that this node does not lead.
     pub(crate) fn stop(
         &mut self,
         hint: Option<u16>,
         out: &mut Sequence<Mail>,
     ) -> Result<(), OutOfMemory>
-        ensures { OnOk result ((self.new, out.new) ≡ stopped hint (self.old, out.old)) }
+        ensures row { OnOk result ((self.new, out.new) ≡ stopped hint (self.old, out.old)) }
+        ensures none { (stopped hint (self.old, [])).1 ≡ [] → IsOk result }
     {
         self.end(hint, &AnswerBody::NotLeader { hint }, out)
     }
 
-    /// The rule on a ballot of a Prepare, Accept or Nack.
+    /// Notes the ballot of a Prepare, Accept or Nack: raises the greatest ballot seen, and stops a
+    /// leader of a lower one.
     #[tactic(auto, unfolding(sc_node_table::specs::Election::saw))]
     pub(crate) fn see(
         &mut self,
         ballot: Ballot,
         out: &mut Sequence<Mail>,
     ) -> Result<(), OutOfMemory>
-        ensures { OnOk result ((self.new, out.new) ≡ saw ballot (self.old, out.old)) }
+        ensures row { OnOk result ((self.new, out.new) ≡ saw ballot (self.old, out.old)) }
+        ensures none { (saw ballot (self.old, [])).1 ≡ [] → IsOk result }
     {
         if self.top < ballot {
             self.top = ballot;

@@ -1,11 +1,13 @@
-//! The parts of Execute: the command of the next slot is entered, told and taught, and what was in
-//! flight or ready there is over.
-ghost use Rattle.std.specs.Prelude.{◌≡◌, ◌+◌, ◌<◌, ◌||◌, not, filter, IfOk, OnOk, IfSome, Option, Some, None, true, false, is_some, if◌then◌else◌};
+//! Parts of Execute: a command is applied and kept, its client or the desk is answered, the other
+//! members learn it, and what is in flight or ready at its slot is dropped.
+ghost use Rattle.std.specs.Prelude.{◌≡◌, ◌+◌, ◌<◌, ◌||◌, not, [], filter, IfOk, OnOk, IsOk, IfSome, Option, Some, None, true, false, is_some, if◌then◌else◌};
 ghost use Rattle.sc_base.specs.Roster.{is_member};
 ghost use Rattle.sc_cmd.specs.declared.commands.Command.TheVariants.{Call};
 ghost use Rattle.sc_machine_table.specs.Machine.{applied};
 ghost use Rattle.sc_node_table.specs.Slots.{slots_ahead};
 ghost use Rattle.sc_node_table.specs.Replica.{next, members, last_slot};
+ghost use Rattle.sc_replica_parts.specs.Calls.{is_call};
+ghost use Rattle.sc_replica.specs.Idle.{KeepsQueues};
 ghost use Rattle.sc_node_table.specs.Execute.{entered, answer_of, told_call, told_effect, learnt_to, welcomed, slot_lost, landed, left_gone, left, is_among, looked, has_room, next_ready};
 
 use crate::replica::{LAST_SLOT, Replica};
@@ -15,7 +17,7 @@ use sc_mail::{AnswerBody, Mail};
 use sc_replica_choices::{not_among, same_command, waits_in};
 use sc_replica_parts::{answer, drop_ready, order_number, ready_at, tell_order};
 
-/// What the effect of a call tells its client; no answer where the call has to wait.
+/// Returns the answer to the client of a call with this effect. None where the call has to wait.
 fn answer_of(effect: Effect) -> Option<AnswerBody>
     ensures { result ≡ answer_of effect }
 {
@@ -34,8 +36,8 @@ fn answer_of(effect: Effect) -> Option<AnswerBody>
 }
 
 impl Replica {
-    /// The command is applied and kept, one more slot is open, and what is not above the floor is
-    /// forgotten.
+    /// Applies the command of the next slot and keeps it in the log, opens one more slot, and
+    /// forgets what is not above the floor. Returns the effect.
     #[tactic(auto, unfolding(sc_node_table::specs::Execute::entered))]
     pub fn enter(&mut self, command: &Command) -> Result<Effect, OutOfMemory>
         requires { next self.old < last_slot + slots_ahead }
@@ -52,7 +54,7 @@ impl Replica {
         Ok(effect)
     }
 
-    /// A call is answered so.
+    /// Sends this answer to the client of a call. Does nothing for another command.
     #[tactic(auto, unfolding(sc_node_table::specs::Execute::told_call))]
     fn answer_call(
         &self,
@@ -60,8 +62,9 @@ impl Replica {
         command: &Command,
         out: &mut Sequence<Mail>,
     ) -> Result<(), OutOfMemory>
-        ensures { OnOk result
+        ensures row { OnOk result
             ((self.now, out.new) ≡ told_call (Some body) command.now (self.now, out.old)) }
+        ensures others { is_call command.now ≡ false → IsOk result }
     {
         match command {
             Command::Call { client, seq, .. } => {
@@ -71,11 +74,12 @@ impl Replica {
         }
     }
 
-    /// A call goes back.
+    /// Puts a copy of a call back into its queue. Does nothing for another command.
     #[tactic(auto, unfolding(sc_node_table::specs::Execute::told_call))]
     fn call_again(&mut self, command: &Command, out: &Sequence<Mail>) -> Result<(), OutOfMemory>
-        ensures { OnOk result
+        ensures row { OnOk result
             ((self.new, out.now) ≡ told_call None command.now (self.old, out.now)) }
+        ensures others { is_call command.now ≡ false → IsOk result }
     {
         match command {
             Command::Call { .. } => self.put_back(command.dup(self.alloc)?),
@@ -83,15 +87,17 @@ impl Replica {
         }
     }
 
-    /// A counted call is answered by its effect, or goes back.
+    /// Answers the client of a call by the call's effect, or puts the call back where the effect
+    /// gives no answer.
     fn tell_call(
         &mut self,
         effect: Effect,
         command: &Command,
         out: &mut Sequence<Mail>,
     ) -> Result<(), OutOfMemory>
-        ensures { OnOk result
+        ensures row { OnOk result
             ((self.new, out.new) ≡ told_call (answer_of effect) command.now (self.old, out.old)) }
+        ensures others { is_call command.now ≡ false → IsOk result }
     {
         match answer_of(effect) {
             Some(body) => self.answer_call(body, command, out),
@@ -99,7 +105,8 @@ impl Replica {
         }
     }
 
-    /// A call is answered where it was counted.
+    /// Answers the client of a call, or puts the call back, where the call was counted. Does
+    /// nothing for one that was learnt.
     pub fn tell_counted(
         &mut self,
         counted: bool,
@@ -107,10 +114,12 @@ impl Replica {
         command: &Command,
         out: &mut Sequence<Mail>,
     ) -> Result<(), OutOfMemory>
-        ensures { OnOk result
+        ensures row { OnOk result
             ((self.new, out.new)
             ≡ (if counted then told_call (answer_of effect) command.now (self.old, out.old) else
             (self.old, out.old))) }
+        ensures uncounted { counted ≡ false → IsOk result }
+        ensures others { is_call command.now ≡ false → IsOk result }
     {
         if !counted {
             return Ok(());
@@ -118,7 +127,8 @@ impl Replica {
         self.tell_call(effect, command, out)
     }
 
-    /// The desk is told what an executed order came to.
+    /// Reports to the desk the result of an executed order, if there is one and the order has a
+    /// number.
     #[tactic(auto, unfolding(sc_node_table::specs::Execute::told_effect))]
     pub fn tell_effect(
         &self,
@@ -126,8 +136,9 @@ impl Replica {
         command: &Command,
         out: &mut Sequence<Mail>,
     ) -> Result<(), OutOfMemory>
-        ensures { OnOk result
+        ensures row { OnOk result
             ((self.now, out.new) ≡ told_effect told command.now (self.now, out.old)) }
+        ensures none { (told_effect told command.now (self.now, [])).1 ≡ [] → IsOk result }
     {
         match told {
             Some(result) => tell_order(self.me, order_number(command), result, out),
@@ -135,7 +146,8 @@ impl Replica {
         }
     }
 
-    /// The members before a counted command learn it.
+    /// Sends a counted command to the other members of the state before it, so that they learn it.
+    /// Does nothing for one that was learnt.
     #[tactic(auto, unfolding(sc_node_table::specs::Execute::learnt_to))]
     pub fn teach_members(
         &self,
@@ -145,9 +157,11 @@ impl Replica {
         command: &Command,
         out: &mut Sequence<Mail>,
     ) -> Result<(), OutOfMemory>
-        ensures { OnOk result
+        ensures row { OnOk result
             ((self.now, out.new)
             ≡ learnt_to counted before.now slot command.now (self.now, out.old)) }
+        ensures none { (learnt_to counted before.now slot command.now (self.now, [])).1 ≡ [] →
+            IsOk result }
     {
         if !counted {
             return Ok(());
@@ -155,18 +169,20 @@ impl Replica {
         self.send_learns(before.as_slice(), slot, command, out)
     }
 
-    /// The members that were not there before.
+    /// Returns the members that are not among these.
     fn added_to(&self, before: &Members) -> Result<Vec<u16>, OutOfMemory>
-        ensures { IfOk result
+        ensures nodes { IfOk result
             (λ nodes.
             nodes.items ≡ filter (λ node. not (is_member before.now node)) (members self.now)) }
+        ensures none { filter (λ node. not (is_member before.now node)) (members self.now) ≡ [] →
+            IsOk result }
     {
         let members = self.machine.core().members;
         not_among(self.alloc, members.as_slice(), before)
     }
 
-    /// Each member that a counted command added is sent the state, and asked to promise this
-    /// leader's ballot.
+    /// Sends the executed state to each member that a counted command added, and asks it to promise
+    /// the leader's ballot. Does nothing for a command that was learnt.
     #[tactic(auto, unfolding(sc_node_table::specs::Execute::welcomed))]
     pub fn welcome(
         &self,
@@ -174,8 +190,9 @@ impl Replica {
         before: &Members,
         out: &mut Sequence<Mail>,
     ) -> Result<(), OutOfMemory>
-        ensures { OnOk result
+        ensures row { OnOk result
             ((self.now, out.new) ≡ welcomed counted before.now (self.now, out.old)) }
+        ensures none { (welcomed counted before.now (self.now, [])).1 ≡ [] → IsOk result }
     {
         if !counted {
             return Ok(());
@@ -184,14 +201,17 @@ impl Replica {
         self.welcome_all(added.as_slice(), out)
     }
 
-    /// A command that lost its slot to a learnt one goes back.
+    /// Puts back the command that was in flight at a slot, where the slot went to another command,
+    /// which was learnt.
     fn lose(
         &mut self,
         counted: bool,
         command: &Command,
         other: Option<Command>,
     ) -> Result<(), OutOfMemory>
-        ensures { OnOk result (self.new ≡ slot_lost counted command.now other self.old) }
+        ensures row { OnOk result (self.new ≡ slot_lost counted command.now other self.old) }
+        ensures none { KeepsQueues self.old (slot_lost counted command.now other self.old) →
+            IsOk result }
     {
         let Some(other) = other else {
             return Ok(());
@@ -202,7 +222,8 @@ impl Replica {
         self.put_back(other)
     }
 
-    /// What is in flight or ready at the slot is over.
+    /// Drops what is in flight or ready at a slot that is executed. A command in flight that lost
+    /// the slot to a learnt one goes back to its queue.
     #[tactic(auto, unfolding(sc_node_table::specs::Execute::landed))]
     pub fn land(
         &mut self,
@@ -211,18 +232,22 @@ impl Replica {
         command: &Command,
         out: &Sequence<Mail>,
     ) -> Result<(), OutOfMemory>
-        ensures { OnOk result
+        ensures row { OnOk result
             ((self.new, out.now) ≡ landed counted slot command.now (self.old, out.now)) }
+        ensures none { KeepsQueues self.old (landed counted slot command.now (self.old, [])).0 →
+            IsOk result }
     {
         drop_ready(&mut self.ready, slot);
         let other = self.leader.land(slot);
         self.lose(counted, command, other)
     }
 
-    /// One that runs ends where the group is gone, and stops where its node is no member.
+    /// Ends the run where the group is gone, and stops where the node is no longer a member. Does
+    /// nothing for a replica that does not run.
     #[tactic(auto, unfolding(sc_node_table::specs::Execute::left))]
     pub fn leave(&mut self, out: &mut Sequence<Mail>) -> Result<(), OutOfMemory>
-        ensures { OnOk result ((self.new, out.new) ≡ left (self.old, out.old)) }
+        ensures row { OnOk result ((self.new, out.new) ≡ left (self.old, out.old)) }
+        ensures none { (left (self.old, [])).1 ≡ [] → IsOk result }
     {
         if !self.running {
             return Ok(());
@@ -238,7 +263,8 @@ impl Replica {
         self.stop(Some(least), out)
     }
 
-    /// Whether it need not look for a leader: it runs, the group is gone, or its hint is a member.
+    /// Returns whether the replica need not look for a leader: it runs, the group is gone, or its
+    /// hint is a member.
     fn is_led(&self) -> bool
         ensures { result
             ≡ (self.now.running
@@ -253,10 +279,12 @@ impl Replica {
         }
     }
 
-    /// One that does not run looks for a leader where its hint is no member.
+    /// Takes the least member for the leader where the replica does not run and its hint is no
+    /// member. Where that member is its own node, it is elected.
     #[tactic(auto, unfolding(sc_node_table::specs::Execute::looked))]
     pub fn look(&mut self, out: &mut Sequence<Mail>) -> Result<(), OutOfMemory>
-        ensures { OnOk result ((self.new, out.new) ≡ looked (self.old, out.old)) }
+        ensures row { OnOk result ((self.new, out.new) ≡ looked (self.old, out.old)) }
+        ensures none { (looked (self.old, [])).1 ≡ [] → IsOk result }
     {
         if self.is_led() {
             return Ok(());
@@ -269,7 +297,7 @@ impl Replica {
         Ok(())
     }
 
-    /// Whether a counted command may be executed at the next slot.
+    /// Returns whether a counted command may be executed at the next slot.
     pub fn has_room(&self) -> bool
         ensures same { result ≡ has_room self.now }
         ensures room { result ≡ true → next self.now < last_slot + slots_ahead }
@@ -277,9 +305,10 @@ impl Replica {
         self.next() < LAST_SLOT + self.open_slots() as u32
     }
 
-    /// The ready command of the next slot, where it runs.
+    /// Returns a copy of the command that is ready at the next slot, where the replica runs.
     pub fn next_ready(&self) -> Result<Option<Command>, OutOfMemory>
         ensures ready { IfOk result (λ command. command ≡ next_ready self.now) }
+        ensures none { next_ready self.now ≡ None → IsOk result }
         ensures room { IfOk result
             (λ command. IfSome command (λ _. next self.now < last_slot + slots_ahead)) }
     {

@@ -1,9 +1,11 @@
-//! Install: the executed state is sent, and is taken over by a replica that has executed less.
-ghost use Rattle.std.specs.Prelude.{◌≡◌, ◌≤◌, ◌||◌, not, nat_lt, ◌==◌, IfOk, OnOk, length, Some, if◌then◌else◌};
+//! Install: the executed state is sent to a node, and a replica that has executed less takes it
+//! over.
+ghost use Rattle.std.specs.Prelude.{◌≡◌, ◌≤◌, [], false, true, IfOk, OnOk, IsOk, length, Some, if◌then◌else◌};
 ghost use Rattle.sc_node_table.specs.Slots.{slots_ahead};
 ghost use Rattle.sc_node_table.specs.Replica.{last_slot, next};
 ghost use Rattle.sc_node_table.specs.Election.{stopped};
 ghost use Rattle.sc_node_table.specs.Install.{install_to, asked_to_promise, welcomed_all, named, jumped};
+ghost use Rattle.sc_replica.specs.Idle.{ignores};
 ghost use Rattle.sc_node_table.specs.Rows.{looked_up, took_over, install_row, made_by};
 
 use crate::replica::{LAST_SLOT, Replica};
@@ -16,7 +18,7 @@ use sc_replica_parts as parts;
 use sc_replica_parts::send;
 use std::alloc::Global;
 
-/// A copy of the state under a group's name.
+/// Returns a copy of a state under this name of its group.
 fn named(alloc: Global, group: Draw, base: &Base) -> Result<Base, OutOfMemory>
     ensures { IfOk result (λ made. made ≡ named group base.now) }
 {
@@ -26,7 +28,8 @@ fn named(alloc: Global, group: Draw, base: &Base) -> Result<Base, OutOfMemory>
 }
 
 impl Replica {
-    /// The executed state, its last slot and the members of the open slots, to a node.
+    /// Appends a mail to a node with the executed state, its last slot and the members of the open
+    /// slots.
     #[tactic(auto, unfolding(sc_node_table::specs::Install::install_to))]
     pub(crate) fn send_install(
         &self,
@@ -50,9 +53,12 @@ impl Replica {
         )
     }
 
-    /// A member that was added is asked to promise a ballot that is not the group's first.
+    /// Appends a prepare of the leader's ballot to a node that was added as a member. Does nothing
+    /// where that is the group's first ballot.
     fn ask_to_promise(&self, node: u16, out: &mut Sequence<Mail>) -> Result<(), OutOfMemory>
-        ensures { OnOk result ((self.now, out.new) ≡ asked_to_promise node (self.now, out.old)) }
+        ensures row { OnOk result
+            ((self.now, out.new) ≡ asked_to_promise node (self.now, out.old)) }
+        ensures first { self.now.leader.is_first ≡ true → IsOk result }
     {
         if self.leader.is_first() {
             return Ok(());
@@ -65,14 +71,16 @@ impl Replica {
         send(self.me, node as u32, body, out)
     }
 
-    /// Each member that was added is sent the state, and then asked to promise.
+    /// Sends the executed state to each of these nodes, and asks it to promise the leader's ballot.
     #[tactic(auto, unfolding(sc_node_table::specs::Install::welcomed_all))]
     pub(crate) fn welcome_all(
         &self,
         nodes: &[u16],
         out: &mut Sequence<Mail>,
     ) -> Result<(), OutOfMemory>
-        ensures { OnOk result ((self.now, out.new) ≡ welcomed_all nodes.now (self.now, out.old)) }
+        ensures row { OnOk result
+            ((self.now, out.new) ≡ welcomed_all nodes.now (self.now, out.old)) }
+        ensures none { nodes.now ≡ [] → IsOk result }
     {
         for node in nodes {
             self.send_install(*node, out)?;
@@ -81,7 +89,8 @@ impl Replica {
         Ok(())
     }
 
-    /// State and log jump to those after a slot, and the open slots with them.
+    /// Takes over a state that was sent: state, log and members of the open slots are those after
+    /// this slot.
     #[tactic(auto, unfolding(sc_node_table::specs::Install::jumped))]
     fn jump(&mut self, slot: u32, base: &Base, sets: &MemberSets) -> Result<(), OutOfMemory>
         requires later { next self.old ≤ slot }
@@ -98,11 +107,12 @@ impl Replica {
         Ok(())
     }
 
-    /// The sender of the state is taken for the leader if it is a member, and else one is looked
-    /// for.
+    /// Takes the sender of a state for the leader if it is a member, and looks for a leader
+    /// otherwise.
     #[tactic(auto, unfolding(sc_node_table::specs::Rows::looked_up))]
     fn look_up(&mut self, from: u16, out: &mut Sequence<Mail>) -> Result<(), OutOfMemory>
-        ensures { OnOk result ((self.new, out.new) ≡ looked_up from (self.old, out.old)) }
+        ensures row { OnOk result ((self.new, out.new) ≡ looked_up from (self.old, out.old)) }
+        ensures none { (looked_up from (self.old, [])).1 ≡ [] → IsOk result }
     {
         if self.has_member(from) {
             self.take_hint(from);
@@ -111,7 +121,8 @@ impl Replica {
         self.look(out)
     }
 
-    /// One that runs stops, with the sender as its hint.
+    /// Stops a replica that runs, with the sender as its hint. Does nothing for one that does not
+    /// run.
     #[tactic(auto, unfolding(sc_node_table::specs::Election::ended))]
     fn make_way(&mut self, from: u16, out: &mut Sequence<Mail>) -> Result<(), OutOfMemory>
         ensures way { OnOk result
@@ -119,6 +130,7 @@ impl Replica {
             ≡ (if self.old.running then stopped (Some from) (self.old, out.old) else
             (self.old, out.old))) }
         ensures log { OnOk result (self.new.log ≡ self.old.log) }
+        ensures none { self.old.running ≡ false → IsOk result }
     {
         if !self.running {
             return Ok(());
@@ -126,7 +138,8 @@ impl Replica {
         self.stop(Some(from), out)
     }
 
-    /// One that runs stops, with the sender as its hint, and then takes the state over.
+    /// Stops a replica that runs, with the sender as its hint, and takes over the state that was
+    /// sent.
     #[tactic(auto, unfolding(sc_node_table::specs::Rows::took_over))]
     fn take_over(
         &mut self,
@@ -147,18 +160,16 @@ impl Replica {
         self.look_up(from, out)
     }
 
-    /// Whether an Install is not taken: it is of no later slot than those that are executed, or it
-    /// has not the members of the open slots.
+    /// Returns whether an Install is ignored: its slot is executed already or is above the last
+    /// slot, or it does not have the members of as many slots as are open.
     fn ignores(&self, slot: u32, sets: &MemberSets) -> bool
-        ensures same { result
-            ≡ (not (length sets.now == length self.now.sets)
-            || (nat_lt last_slot slot || nat_lt slot (next self.now))) }
+        ensures same { result ≡ ignores slot sets.now self.now }
         ensures four { length self.now.sets ≡ slots_ahead }
     {
         sets.len() != self.open_slots() || LAST_SLOT < slot || slot < self.next()
     }
 
-    /// Install.
+    /// Handles an Install: takes over the state that was sent, unless it is ignored.
     #[tactic(auto, unfolding(sc_node_table::specs::Rows::install_row))]
     pub(crate) fn on_install(
         &mut self,
@@ -168,8 +179,9 @@ impl Replica {
         sets: &MemberSets,
         out: &mut Sequence<Mail>,
     ) -> Result<(), OutOfMemory>
-        ensures { OnOk result
+        ensures row { OnOk result
             ((self.new, out.new) ≡ install_row from slot base.now sets.now (self.old, out.old)) }
+        ensures ignored { ignores slot sets.now self.old ≡ true → IsOk result }
     {
         if self.ignores(slot, sets) {
             return Ok(());
@@ -177,9 +189,9 @@ impl Replica {
         self.take_over(from, slot, base, sets, out)
     }
 
-    /// A replica of a group that is made of the state after a slot, as a node sent it, and the
-    /// mails of an election that it begins. It holds no entry. The slot is at most 2^32 - 8, and
-    /// there is a set of members for each open slot.
+    /// Returns a replica of a group that is made of the state after a slot, as a node sent it, and
+    /// the mails of an election that it may begin. It holds no entry. The slot is at most 2^32 - 8,
+    /// and there is a set of members for each open slot.
     #[tactic(auto, unfolding(sc_node_table::specs::Rows::made_by))]
     pub fn installed(
         alloc: Global,

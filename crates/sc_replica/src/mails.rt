@@ -1,5 +1,5 @@
-//! Mails of a replica to several nodes, put behind those that are there.
-ghost use Rattle.std.specs.Prelude.{◌≡◌, OnOk};
+//! Mails of a replica to several nodes, appended to those that are there.
+ghost use Rattle.std.specs.Prelude.{◌≡◌, [], All, OnOk, IsOk};
 ghost use Rattle.sc_mail.specs.declared.bodies.MailBody.TheVariants.{Prepare, Accept, Learn};
 ghost use Rattle.sc_node_table.specs.Replica.{name_of};
 ghost use Rattle.sc_node_table.specs.Mails.{sent_all, sent_others};
@@ -11,7 +11,8 @@ use sc_mail::Mail;
 use sc_replica_parts as parts;
 
 impl Replica {
-    /// A prepare to each of several nodes.
+    /// Appends a prepare of a ballot, from a slot on, to each of these nodes (Paxos Made Simple,
+    /// section 2.2, phase 1a).
     pub(crate) fn send_prepares(
         &self,
         nodes: &[u16],
@@ -19,15 +20,17 @@ impl Replica {
         from_slot: u32,
         out: &mut Sequence<Mail>,
     ) -> Result<(), OutOfMemory>
-        ensures { OnOk result
+        ensures mails { OnOk result
             (out.new
             ≡ sent_all self.now.me nodes.now (Prepare (name_of self.now) ballot from_slot)
             out.old) }
+        ensures none { nodes.now ≡ [] → IsOk result }
     {
         parts::send_prepares(self.me, self.name(), nodes, ballot, from_slot, out)
     }
 
-    /// An accept in the leader's ballot to each of several nodes.
+    /// Appends an accept of a command at a slot, in the leader's ballot, to each of these nodes
+    /// (Paxos Made Simple, section 2.2, phase 2a).
     pub(crate) fn send_accepts(
         &self,
         nodes: &[u16],
@@ -35,10 +38,11 @@ impl Replica {
         command: &Command,
         out: &mut Sequence<Mail>,
     ) -> Result<(), OutOfMemory>
-        ensures { OnOk result
+        ensures mails { OnOk result
             (out.new
             ≡ sent_all self.now.me nodes.now
             (Accept (name_of self.now) self.now.leader.ballot slot command.now) out.old) }
+        ensures none { nodes.now ≡ [] → IsOk result }
     {
         let ballot = self.leader.ballot();
         parts::send_accepts(
@@ -53,7 +57,8 @@ impl Replica {
         )
     }
 
-    /// The chosen command of a slot to each of several nodes but the sender.
+    /// Appends a learn of the chosen command of a slot to each of these nodes but the sender (Paxos
+    /// Made Simple, section 2.3).
     pub(crate) fn send_learns(
         &self,
         nodes: &[u16],
@@ -61,10 +66,11 @@ impl Replica {
         command: &Command,
         out: &mut Sequence<Mail>,
     ) -> Result<(), OutOfMemory>
-        ensures { OnOk result
+        ensures mails { OnOk result
             (out.new
             ≡ sent_others self.now.me nodes.now (Learn (name_of self.now) slot command.now)
             out.old) }
+        ensures alone { All (λ node. node ≡ self.now.me) nodes.now → IsOk result }
     {
         parts::send_learns(self.alloc, self.me, self.name(), nodes, slot, command, out)
     }

@@ -1,7 +1,8 @@
-//! Pump: what a settled replica offers at its open slots.
-ghost use Rattle.std.specs.Prelude.{◌≡◌, ◌+◌, ◌<◌, ◌≤◌, ◌==◌, IfOk, OnOk, IfSome, [], length, is_some, None, true, false, slice_index_or};
+//! Pump: a settled replica offers queued commands at its open slots.
+ghost use Rattle.std.specs.Prelude.{◌≡◌, ◌+◌, ◌<◌, ◌≤◌, ◌==◌, IfOk, OnOk, IsOk, IfSome, [], length, is_some, None, true, false, slice_index_or};
 ghost use Rattle.std.specs.List.{list_any};
 ghost use Rattle.sc_paxos_words.specs.Leaders.{Obeys, flight_at, must};
+ghost use Rattle.sc_paxos_words.specs.Choice.{chosen_value};
 ghost use Rattle.sc_node_table.specs.Slots.{slots_ahead};
 ghost use Rattle.sc_node_table.specs.Replica.{next, settled, may_offer, taken_at, listed, under_way, is_idle, last_slot};
 ghost use Rattle.sc_replica_parts.specs.Heads.{head_waits};
@@ -17,7 +18,7 @@ use sc_replica_parts::{answer_command, head, is_empty, take_head};
 use std::alloc::Global;
 use std::collections::VecDeque;
 
-// Whether the head of the calls waits, or there is none.
+// Returns whether the head of the queue of calls and orders has to wait, or there is none.
 fn head_waits(idle: bool, lock: &Lock, calls: &VecDeque<Command>) -> bool
     ensures { result ≡ head_waits idle lock.now calls.now.items }
 {
@@ -27,8 +28,8 @@ fn head_waits(idle: bool, lock: &Lock, calls: &VecDeque<Command>) -> bool
     }
 }
 
-/// The command at the head of the calls that a slot may have; the calls before it that the group
-/// does not serve are answered.
+/// Returns the command at the head of the queue of calls and orders, if it may have a slot. Calls
+/// before it that the group does not serve are answered and leave the queue.
 fn next_call(
     alloc: Global,
     me: u16,
@@ -37,9 +38,10 @@ fn next_call(
     calls: &mut VecDeque<Command>,
     out: &mut Sequence<Mail>,
 ) -> Result<Option<Command>, OutOfMemory>
-    ensures { IfOk result
+    ensures found { IfOk result
         (λ command.
         (command, calls.new.items, out.new) ≡ next_call me idle core.now calls.old.items out.old) }
+    ensures none { (next_call me idle core.now calls.old.items []).2 ≡ [] → IsOk result }
 {
     while !head_waits(idle, &core.lock, calls) {
         let Some(command) = take_head(calls) else {
@@ -54,7 +56,9 @@ fn next_call(
 }
 
 impl Replica {
-    /// Whether its leader may offer at an open slot, counted from the next one.
+    /// Returns whether the leader may offer at an open slot, counted from the next one: no higher
+    /// ballot was promised here, and its ballot is the first or a majority of the slot's members
+    /// has promised it.
     fn may_offer(&self, i: usize) -> bool
         requires { i < slots_ahead }
         ensures { result ≡ may_offer self.now (slice_index_or self.now.sets i []) }
@@ -63,7 +67,7 @@ impl Replica {
             .settled(self.acceptor.promised(), self.sets.at(i))
     }
 
-    /// Whether it runs and its leader may offer at the next slot.
+    /// Returns whether the replica runs and its leader may offer at the next slot.
     pub fn is_settled(&self) -> bool
         ensures { result ≡ settled self.now }
     {
@@ -74,6 +78,7 @@ impl Replica {
             .settled(self.acceptor.promised(), self.sets.first())
     }
 
+    /// Returns whether a command is in flight or ready at a slot.
     fn is_taken(&self, slot: u32) -> bool
         ensures { result ≡ is_some (taken_at self.now slot) }
     {
@@ -83,7 +88,7 @@ impl Replica {
         }
     }
 
-    /// Whether nothing is in flight or ready.
+    /// Returns whether nothing is in flight or ready.
     pub(crate) fn is_idle(&self) -> bool
         ensures { result ≡ is_idle self.now }
     {
@@ -96,6 +101,7 @@ impl Replica {
         true
     }
 
+    /// Returns whether a command other than Call and Noop is in flight or ready at a slot.
     fn is_act_at(&self, slot: u32) -> bool
         ensures { result ≡ list_any is_act (listed (taken_at self.now slot)) }
     {
@@ -105,7 +111,7 @@ impl Replica {
         }
     }
 
-    /// Whether a command other than Call and Noop is in flight or ready.
+    /// Returns whether a command other than Call and Noop is in flight or ready.
     fn has_act(&self) -> bool
         ensures { result ≡ list_any is_act (under_way self.now) }
     {
@@ -118,11 +124,12 @@ impl Replica {
         false
     }
 
-    /// What the calls have for a slot.
+    /// Takes a command for a slot from the queue of calls and orders, if one may have it.
     #[tactic(auto, unfolding(sc_node_table::specs::Pump::from_calls))]
     fn find_in_calls(&mut self, out: &mut Sequence<Mail>) -> Result<Option<Command>, OutOfMemory>
         ensures found { IfOk result
             (λ command. (command, (self.new, out.new)) ≡ from_calls (self.old, out.old)) }
+        ensures none { (from_calls (self.old, [])).1.1 ≡ [] → IsOk result }
         ensures leader { OnOk result (self.new.leader ≡ self.old.leader) }
         ensures sets { OnOk result (self.new.sets ≡ self.old.sets) }
     {
@@ -137,11 +144,13 @@ impl Replica {
         )
     }
 
-    /// What the commands of transactions have for a slot, else the calls.
+    /// Takes a command for a slot from the queue of transactions' commands, where nothing is in
+    /// flight or ready, and from the queue of calls and orders where that one is empty.
     fn find_in_acts(&mut self, out: &mut Sequence<Mail>) -> Result<Option<Command>, OutOfMemory>
         ensures found { IfOk result
             (λ command.
             (command, (self.new, out.new)) ≡ from_acts self.old.acts (self.old, out.old)) }
+        ensures none { (from_acts self.old.acts (self.old, [])).1.1 ≡ [] → IsOk result }
         ensures leader { OnOk result (self.new.leader ≡ self.old.leader) }
         ensures sets { OnOk result (self.new.sets ≡ self.old.sets) }
     {
@@ -154,11 +163,13 @@ impl Replica {
         Ok(take_head(&mut self.acts))
     }
 
-    /// What waits for a slot.
+    /// Takes a command for a slot from the queues. None while a command other than Call and Noop is
+    /// in flight or ready.
     #[tactic(auto, unfolding(sc_node_table::specs::Pump::from_queues))]
     fn find_in_queues(&mut self, out: &mut Sequence<Mail>) -> Result<Option<Command>, OutOfMemory>
         ensures found { IfOk result
             (λ command. (command, (self.new, out.new)) ≡ from_queues (self.old, out.old)) }
+        ensures none { (from_queues (self.old, [])).1.1 ≡ [] → IsOk result }
         ensures leader { OnOk result (self.new.leader ≡ self.old.leader) }
         ensures sets { OnOk result (self.new.sets ≡ self.old.sets) }
     {
@@ -168,7 +179,8 @@ impl Replica {
         self.find_in_acts(out)
     }
 
-    /// What is found for a slot.
+    /// Returns the command for a slot: what the leader must propose there, a Noop in a gap, and
+    /// else a queued command (Paxos Made Simple, section 3).
     #[tactic(auto, unfolding(sc_node_table::specs::Pump::found_for))]
     fn find_for(
         &mut self,
@@ -177,6 +189,8 @@ impl Replica {
     ) -> Result<Option<Command>, OutOfMemory>
         ensures found { IfOk result
             (λ command. (command, (self.new, out.new)) ≡ found_for slot (self.old, out.old)) }
+        ensures none { chosen_value slot self.old.leader.reports ≡ None →
+            (found_for slot (self.old, [])).1.1 ≡ [] → IsOk result }
         ensures leader { OnOk result (self.new.leader ≡ self.old.leader) }
         ensures sets { OnOk result (self.new.sets ≡ self.old.sets) }
         ensures obeys { IfOk result
@@ -189,7 +203,8 @@ impl Replica {
         }
     }
 
-    /// What is found goes into flight, and the members of its slot are asked to accept it.
+    /// Puts a command into flight at a slot, and asks the slot's members to accept it (Paxos Made
+    /// Simple, section 2.2, phase 2a).
     #[tactic(auto, unfolding(sc_node_table::specs::Pump::offered))]
     fn offer(
         &mut self,
@@ -210,12 +225,15 @@ impl Replica {
         self.send_accepts(self.sets.at(i).as_slice(), slot, command, out)
     }
 
-    /// The open slots from the least one on; a slot that is taken is passed by.
+    /// Offers at the open slots in their order. A slot at which a command is in flight or ready is
+    /// passed by; the first slot at which it may not offer, or has nothing to offer, ends it.
     #[tactic(auto, unfolding(sc_node_table::specs::Pump::pumped_from))]
     fn pump_from(&mut self, first: u32, out: &mut Sequence<Mail>) -> Result<(), OutOfMemory>
         requires { first ≤ last_slot }
-        ensures { OnOk result
+        ensures row { OnOk result
             ((self.new, out.new) ≡ pumped_from first self.old.sets (self.old, out.old)) }
+        ensures none { pumped_from first self.old.sets (self.old, []) ≡ (self.old, []) →
+            IsOk result }
     {
         for i in 0..self.open_slots() {
             let slot = first + i as u32;
@@ -233,10 +251,11 @@ impl Replica {
         Ok(())
     }
 
-    /// A settled replica offers what it has at its open slots.
+    /// Offers what the replica has at its open slots. Does nothing where it is not settled.
     #[tactic(auto, unfolding(sc_node_table::specs::Pump::pumped))]
     pub fn pump(&mut self, out: &mut Sequence<Mail>) -> Result<(), OutOfMemory>
-        ensures { OnOk result ((self.new, out.new) ≡ pumped (self.old, out.old)) }
+        ensures row { OnOk result ((self.new, out.new) ≡ pumped (self.old, out.old)) }
+        ensures none { pumped (self.old, []) ≡ (self.old, []) → IsOk result }
     {
         if !self.is_settled() {
             return Ok(());

@@ -1,6 +1,7 @@
-//! A command that lost its slot waits again.
-ghost use Rattle.std.specs.Prelude.{◌≡◌, OnOk};
+//! A command that lost its slot goes back to its queue.
+ghost use Rattle.std.specs.Prelude.{◌≡◌, OnOk, IsOk};
 ghost use Rattle.sc_node_table.specs.Queues.{put_back};
+ghost use Rattle.sc_replica.specs.Idle.{KeepsQueues};
 
 use crate::replica::Replica;
 use sc_base::OutOfMemory;
@@ -8,10 +9,12 @@ use sc_cmd::Command;
 use sc_replica_parts::{push_front, put_call};
 
 impl Replica {
-    /// A command goes back to the front of its queue; a Noop is dropped.
+    /// Puts a command back at the head of its queue. A Noop is dropped; of two calls of one client
+    /// the one with the higher number stays.
     #[tactic(auto, unfolding(sc_node_table::specs::Queues::put_back))]
     pub(crate) fn put_back(&mut self, command: Command) -> Result<(), OutOfMemory>
-        ensures { OnOk result (self.new ≡ put_back command self.old) }
+        ensures row { OnOk result (self.new ≡ put_back command self.old) }
+        ensures none { KeepsQueues self.old (put_back command self.old) → IsOk result }
     {
         match &command {
             Command::Noop => Ok(()),

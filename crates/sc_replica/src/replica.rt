@@ -1,4 +1,4 @@
-//! The replica.
+//! The replica: one group on one node.
 ghost use Rattle.std.specs.Prelude.{◌≡◌, ◌+◌, ◌≤◌, IfOk, OnOk, length, true};
 ghost use Rattle.sc_base.specs.Roster.{is_member};
 ghost use Rattle.sc_node_table.specs.Slots.{slots_ahead};
@@ -16,10 +16,10 @@ use std::alloc::Global;
 use std::collections::{BTreeMap, VecDeque};
 use std::marker::Model;
 
-/// No slot above this one is learnt, and after it none is offered.
+/// The last slot at which a command is learnt. After it none is offered.
 pub const LAST_SLOT: u32 = 4_294_967_288;
 
-/// One group on one node. Contracts see what it keeps as the record of the replica's table.
+/// One group on one node. Contracts see it as the record `ReplicaState` of the replica's table.
 #[derive(Drop)]
 pub struct Replica {
     pub(crate) me: u16,
@@ -31,7 +31,7 @@ pub struct Replica {
     /// The greatest ballot seen.
     pub(crate) top: Ballot,
     pub(crate) running: bool,
-    /// It counts only where the replica runs.
+    /// The leader's state, which counts only where the replica runs.
     pub(crate) leader: Leader<Command>,
     pub(crate) ready: BTreeMap<u32, Command>,
     pub(crate) sets: Sets,
@@ -75,7 +75,8 @@ impl Model for Replica {
 }
 
 impl Replica {
-    /// A replica of such a state, log and open slots that does not run, with the promise of birth.
+    /// Returns a replica with this state, log and open slots that does not run and has promised the
+    /// group's first ballot.
     fn bare(alloc: Global, me: u16, machine: Machine, log: Entries, sets: Sets) -> Replica
         ensures { result ≡ bare_replica me machine log sets }
     {
@@ -102,7 +103,8 @@ impl Replica {
         }
     }
 
-    /// A replica that was made at its group's birth. `OPEN_SLOTS` slots are open at a time.
+    /// Returns a replica of a group that is created with this state. It runs where its node is the
+    /// group's first leader. `OPEN_SLOTS` slots are open at a time.
     pub fn born(alloc: Global, me: u16, base: Base) -> Result<Replica, OutOfMemory>
         ensures { IfOk result (λ replica. replica ≡ born_replica slots_ahead me base) }
     {
@@ -114,7 +116,8 @@ impl Replica {
         Ok(replica)
     }
 
-    /// A replica that is made of the state after a slot, with the members of the open slots.
+    /// Returns a replica that is made of the state after a slot, with the members of the open
+    /// slots. It holds no entry and does not run.
     pub(crate) fn after(
         alloc: Global,
         me: u16,
@@ -131,75 +134,75 @@ impl Replica {
         Ok(replica)
     }
 
-    /// The node's number.
+    /// Returns the node's number.
     pub fn me(&self) -> u16
         ensures { result ≡ self.now.me }
     {
         self.me
     }
 
-    /// What gives it memory.
+    /// Returns the allocator.
     pub fn alloc(&self) -> Global {
         self.alloc
     }
 
-    /// The node that it takes for the leader.
+    /// Returns the node that it takes for the leader.
     pub fn hint(&self) -> Option<u16>
         ensures { result ≡ self.now.hint }
     {
         self.hint
     }
 
-    /// Whether it runs.
+    /// Returns whether the replica runs.
     pub fn is_running(&self) -> bool
         ensures { result ≡ self.now.running }
     {
         self.running
     }
 
-    /// How many ticks a transaction has waited.
+    /// Returns the number of ticks that a transaction has waited.
     pub fn waits(&self) -> u32
         ensures { result ≡ self.now.waits }
     {
         self.waits
     }
 
-    /// A transaction has waited for so many ticks.
+    /// Sets the number of ticks that a transaction has waited.
     pub fn set_waits(&mut self, waits: u32)
         ensures { self.new ≡ with_waits waits self.old }
     {
         self.waits = waits;
     }
 
-    /// The executed state.
+    /// Returns the executed state.
     pub fn machine(&self) -> &Machine
         ensures { result.now ≡ self.now.group }
     {
         &self.machine
     }
 
-    /// The name of its group.
+    /// Returns the name of the group.
     pub fn name(&self) -> Draw
         ensures { result ≡ name_of self.now }
     {
         self.machine.core().id
     }
 
-    /// Whether a node is a member in the executed state.
+    /// Returns whether a node is a member in the executed state.
     pub(crate) fn has_member(&self, node: u16) -> bool
         ensures { result ≡ is_member (members self.now) node }
     {
         self.machine.core().members.has(node)
     }
 
-    /// The node is taken for the leader.
+    /// Takes a node for the leader.
     pub(crate) fn take_hint(&mut self, node: u16)
         ensures { self.new ≡ with_hint node self.old }
     {
         self.hint = Some(node);
     }
 
-    /// The slot after the last executed one.
+    /// Returns the slot after the last executed one.
     pub fn next(&self) -> u32
         ensures same { result ≡ next self.now }
         ensures most { next self.now ≤ last_slot + slots_ahead }
@@ -207,7 +210,7 @@ impl Replica {
         self.log.next()
     }
 
-    /// How many slots are open.
+    /// Returns the number of open slots.
     pub(crate) fn open_slots(&self) -> usize
         ensures four { result ≡ slots_ahead }
         ensures all { result ≡ length self.now.sets }

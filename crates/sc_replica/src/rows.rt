@@ -1,5 +1,5 @@
-//! The row of Request, what is asked again at a tick, and the mails of a round of votes.
-ghost use Rattle.std.specs.Prelude.{◌≡◌, ◌+◌, ◌-◌, ◌<◌, ◌≤◌, ◌||◌, not, nat_le, nat_lt, true, false, IfOk, OnOk, IfSome, Some, None, is_some};
+//! Requests, what is sent again at a tick, and the mails of a round of votes.
+ghost use Rattle.std.specs.Prelude.{◌≡◌, ◌+◌, ◌-◌, ◌<◌, ◌≤◌, ◌||◌, not, nat_le, nat_lt, [], ℕ, true, false, IfOk, OnOk, IsOk, IfSome, Some, None, is_some};
 ghost use Rattle.std.specs.Option.{option_copied};
 ghost use Rattle.sc_base.specs.Roster.{is_member};
 ghost use Rattle.sc_paxos_words.specs.Logs.{entry_at, next_of};
@@ -9,8 +9,9 @@ ghost use Rattle.sc_mail.specs.declared.bodies.MailBody.TheVariants.{Ask, Learn}
 ghost use Rattle.sc_node_table.specs.Mails.{sent};
 ghost use Rattle.sc_replica.specs.Again.{asked_at, repeated};
 ghost use Rattle.sc_node_table.specs.Replica.{name_of, next, members, flying, is_idle};
-ghost use Rattle.sc_node_table.specs.Rows.{queued, requested, request_row, asked_again, told_last, mailed};
+ghost use Rattle.sc_node_table.specs.Rows.{refused_at, queued, requested, request_row, asked_again, told_last, mailed};
 ghost use Rattle.sc_replica.specs.Given.{is_of_round};
+ghost use Rattle.sc_replica.specs.Idle.{IsRoundPassedBy};
 
 use crate::replica::Replica;
 use sc_base::{Members, Op, OutOfMemory, Sequence};
@@ -19,8 +20,8 @@ use sc_replica_choices::{call_refusal, uncounted};
 use sc_replica_parts::{add_call, answer, call_of, drop_call, send};
 
 impl Replica {
-    /// A call waits last, unless the same or a later one of its client waits; an earlier one waits
-    /// no more.
+    /// Appends a call to the queue in place of an earlier one of its client, and pumps. Does
+    /// nothing where the same or a later one is queued.
     #[tactic(auto, unfolding(sc_node_table::specs::Rows::queued))]
     fn queue(
         &mut self,
@@ -29,9 +30,11 @@ impl Replica {
         op: &Op,
         out: &mut Sequence<Mail>,
     ) -> Result<(), OutOfMemory>
-        ensures { OnOk result
+        ensures row { OnOk result
             ((self.new, out.new)
             ≡ queued (call_of self.old.calls client) client seq op.now (self.old, out.old)) }
+        ensures waiting { (other : ℕ) → call_of self.old.calls client ≡ Some other →
+            seq ≤ other → IsOk result }
     {
         if let Some(other) = call_of(&self.calls, client) {
             if seq <= other {
@@ -43,7 +46,7 @@ impl Replica {
         self.pump(out)
     }
 
-    /// Request.
+    /// Handles a Request: answers why it is not taken, or queues it.
     #[tactic(auto, unfolding(sc_node_table::specs::Rows::request_row, sc_node_table::specs::Rows::requested))]
     pub fn on_request(
         &mut self,
@@ -52,8 +55,10 @@ impl Replica {
         op: &Op,
         out: &mut Sequence<Mail>,
     ) -> Result<(), OutOfMemory>
-        ensures { OnOk result
+        ensures row { OnOk result
             ((self.new, out.new) ≡ request_row client seq op.now (self.old, out.old)) }
+        ensures waiting { (other : ℕ) → refused_at self.old.group.core.gone op.now self.old ≡ None
+            → call_of self.old.calls client ≡ Some other → seq ≤ other → IsOk result }
     {
         match call_refusal(self.machine.core(), self.running, self.hint, op) {
             Some(body) => answer(self.me, self.name(), client, seq, body, out),
@@ -61,7 +66,7 @@ impl Replica {
         }
     }
 
-    /// The slots from one on are asked for.
+    /// Asks a node for the entries from a slot on.
     pub fn ask(
         &self,
         from: u16,
@@ -80,14 +85,16 @@ impl Replica {
         )
     }
 
-    /// Accept again at one slot, if a command is in flight there.
+    /// Sends the command in flight at a slot, if there is one, again to the members of the slot
+    /// whose votes were not counted.
     fn ask_again_at(
         &self,
         slot: u32,
         set: &Members,
         out: &mut Sequence<Mail>,
     ) -> Result<(), OutOfMemory>
-        ensures { OnOk result (out.new ≡ asked_at self.now slot set.now out.old) }
+        ensures mails { OnOk result (out.new ≡ asked_at self.now slot set.now out.old) }
+        ensures none { asked_at self.now slot set.now [] ≡ [] → IsOk result }
     {
         let Some(command) = self.leader.flight(slot) else {
             return Ok(());
@@ -96,10 +103,11 @@ impl Replica {
         self.send_accepts(nodes.as_slice(), slot, command, out)
     }
 
-    /// Accept again for each slot in flight, to each of its members that was not counted.
+    /// Sends each command in flight again to the members of its slot whose votes were not counted.
     fn ask_again(&self, out: &mut Sequence<Mail>) -> Result<(), OutOfMemory>
-        ensures { OnOk result
+        ensures mails { OnOk result
             (out.new ≡ asked_again self.now (next self.now) self.now.sets out.old) }
+        ensures none { asked_again self.now (next self.now) self.now.sets [] ≡ [] → IsOk result }
     {
         let next = self.next();
         for i in 0..self.open_slots() {
@@ -108,11 +116,13 @@ impl Replica {
         Ok(())
     }
 
-    /// The last entry to each other member.
+    /// Sends the last executed entry, if it is held, to each other member.
     #[tactic(auto, unfolding(sc_node_table::specs::Rows::told_last))]
     fn tell_last(&self, out: &mut Sequence<Mail>) -> Result<(), OutOfMemory>
-        ensures { OnOk result
+        ensures mails { OnOk result
             (out.new ≡ told_last (entry_at (next self.now - 1) self.now.log) self.now out.old) }
+        ensures none { told_last (entry_at (next self.now - 1) self.now.log) self.now [] ≡ [] →
+            IsOk result }
     {
         let slot = self.next() - 1;
         match self.entry(slot) {
@@ -124,7 +134,7 @@ impl Replica {
         }
     }
 
-    /// Whether its group is not gone and its node is a member.
+    /// Returns whether the group is not gone and the node is a member.
     pub fn takes_part(&self) -> bool
         ensures { result
             ≡ not
@@ -137,10 +147,11 @@ impl Replica {
         core.members.has(self.me)
     }
 
-    /// One that is settled asks again at a tick: for the votes that it lacks, or with nothing under
-    /// way it tells the last entry.
+    /// Sends the accepts again whose votes are lacking. Where nothing is in flight or ready, sends
+    /// the last executed entry to the other members.
     pub fn repeat(&self, out: &mut Sequence<Mail>) -> Result<(), OutOfMemory>
-        ensures { OnOk result (out.new ≡ repeated self.now out.old) }
+        ensures mails { OnOk result (out.new ≡ repeated self.now out.old) }
+        ensures none { repeated self.now [] ≡ [] → IsOk result }
     {
         if self.is_idle() {
             return self.tell_last(out);
@@ -148,7 +159,7 @@ impl Replica {
         self.ask_again(out)
     }
 
-    /// A mail of a round of votes, but for the votes themselves.
+    /// Handles a mail of a round of votes, but for the votes themselves.
     #[tactic(auto, unfolding(sc_node_table::specs::Rows::mailed, sc_node_table::specs::Voting::nack_row))]
     pub fn on_round(
         &mut self,
@@ -157,8 +168,9 @@ impl Replica {
         out: &mut Sequence<Mail>,
     ) -> Result<(), OutOfMemory>
         requires { is_of_round body.now ≡ true }
-        ensures { OnOk result
+        ensures row { OnOk result
             ((self.new, out.new) ≡ (mailed from body.now (self.old, out.old)).0) }
+        ensures none { IsRoundPassedBy body.now self.old → IsOk result }
     {
         match body {
             MailBody::Prepare {

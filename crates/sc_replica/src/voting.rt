@@ -1,5 +1,6 @@
-//! Promises and votes: the rows of Prepare, Promise and Accept, and the count of a vote.
-ghost use Rattle.std.specs.Prelude.{◌≡◌, ◌+◌, ◌<◌, ◌≤◌, ◌&&◌, nat_le, true, false, IfOk, OnOk, Some};
+//! Promises and votes: Prepare, Promise and Accept, and the count of a vote (Paxos Made Simple,
+//! section 2.2).
+ghost use Rattle.std.specs.Prelude.{◌≡◌, ◌+◌, ◌<◌, ◌≤◌, ◌&&◌, nat_le, true, false, IfOk, OnOk, IsOk, Some};
 ghost use Rattle.std.specs.Option.{option_copied};
 ghost use Rattle.sc_paxos_words.specs.Preparing.{prepared};
 ghost use Rattle.sc_paxos_words.specs.Accepting.{accepted as accepted_by};
@@ -19,7 +20,7 @@ use sc_paxos::{AcceptAnswer, Counted, PrepareAnswer};
 use sc_replica_parts::{put_ready, send};
 
 impl Replica {
-    /// One that does not run takes the ballot's node for the leader.
+    /// Takes the ballot's node for the leader. Does nothing for a replica that runs.
     fn follow(&mut self, ballot: Ballot)
         ensures { self.new ≡ hinted ballot self.old }
     {
@@ -28,6 +29,7 @@ impl Replica {
         }
     }
 
+    /// Sends a node the ballot that was promised, in place of a promise or a vote.
     fn nack(&self, from: u16, promised: Ballot, out: &mut Sequence<Mail>) -> Result<(), OutOfMemory>
         ensures { OnOk result
             (out.new ≡ sent self.now.me from (Nack (name_of self.now) promised) out.old) }
@@ -39,8 +41,8 @@ impl Replica {
         send(self.me, from as u32, body, out)
     }
 
-    /// A prepare from a slot whose reports are kept; to one from a slot that is forgotten the
-    /// executed state is sent.
+    /// Answers a prepare with a promise and reports, or with the ballot that was promised (Paxos
+    /// Made Simple, section 2.2, phase 1b). For a slot that is forgotten, sends the executed state.
     #[tactic(auto, unfolding(sc_node_table::specs::Voting::promised))]
     fn promise(
         &mut self,
@@ -74,7 +76,7 @@ impl Replica {
         }
     }
 
-    /// Prepare.
+    /// Handles a Prepare.
     #[tactic(auto, unfolding(sc_node_table::specs::Voting::prepare_row))]
     pub(crate) fn on_prepare(
         &mut self,
@@ -90,8 +92,8 @@ impl Replica {
         self.promise(from, ballot, from_slot, out)
     }
 
-    /// An accept at a slot that is kept; to one at a slot that is forgotten the executed state is
-    /// sent.
+    /// Answers an accept with a vote, or with the ballot that was promised (Paxos Made Simple,
+    /// section 2.2, phase 2b). For a slot that is forgotten, sends the executed state.
     #[tactic(auto, unfolding(sc_node_table::specs::Voting::took))]
     fn take(
         &mut self,
@@ -126,7 +128,7 @@ impl Replica {
         }
     }
 
-    /// Accept.
+    /// Handles an Accept.
     #[tactic(auto, unfolding(sc_node_table::specs::Voting::accept_row))]
     pub(crate) fn on_accept(
         &mut self,
@@ -143,14 +145,15 @@ impl Replica {
         self.take(from, ballot, slot, command, out)
     }
 
-    /// Whether it runs with a ballot.
+    /// Returns whether the replica runs with this ballot.
     pub fn leads(&self, ballot: Ballot) -> bool
         ensures { result ≡ leads ballot self.now }
     {
         self.running && same_ballot(ballot, self.leader.ballot())
     }
 
-    /// Promise: of the ballot with which it runs, each node's is counted once.
+    /// Handles a Promise: counts a promise of the ballot with which the replica runs, each node's
+    /// once, and pumps. Ignores one of another ballot.
     #[tactic(auto, unfolding(sc_node_table::specs::Voting::promise_row))]
     pub(crate) fn on_promise(
         &mut self,
@@ -159,8 +162,9 @@ impl Replica {
         reports: &Reports,
         out: &mut Sequence<Mail>,
     ) -> Result<(), OutOfMemory>
-        ensures { OnOk result
+        ensures row { OnOk result
             ((self.new, out.new) ≡ promise_row from ballot reports.now (self.old, out.old)) }
+        ensures others { leads ballot self.old ≡ false → IsOk result }
     {
         if !self.leads(ballot) {
             return Ok(());
@@ -170,7 +174,7 @@ impl Replica {
         self.pump(out)
     }
 
-    /// The count of a vote at an open slot.
+    /// Counts a vote at an open slot among the slot's members, and returns the count.
     pub fn count_vote(
         &mut self,
         from: u16,
@@ -185,14 +189,14 @@ impl Replica {
         self.leader.on_accepted(from, ballot, slot, set)
     }
 
-    /// A command of which a majority was counted is ready.
+    /// Makes a command ready at its slot, since a majority was counted.
     pub fn make_ready(&mut self, slot: u32, command: &Command) -> Result<(), OutOfMemory>
         ensures { OnOk result (self.new ≡ with_ready slot command.now self.old) }
     {
         put_ready(&mut self.ready, slot, command.dup(self.alloc)?)
     }
 
-    /// The members of a slot, if it is open.
+    /// Returns the members of a slot, if it is open.
     pub fn set_at(&self, slot: u32) -> Option<&Members>
         ensures { option_copied result ≡ set_at slot self.now }
     {

@@ -28,7 +28,7 @@ returns-clause-place t c =
     ap pumped c.in_ok-execute_ready.ensures.place
     ∙ ap (λ (step : Executed). step.0) (turn-next c.args.replica.now c.execute_one.new.replica c.args.out.now c.execute_one.new.out c.in-Some.command
     (sym c.in_ok-command.ensures.ready ∙ c.in-Some.is) c.in_ok-execute_one.ensures) in
-    rw (← whole) c.pump.ensures
+    rw (← whole) c.pump.ensures.row
 
 pub returns-clause-made : goal.returns-clause-made
 returns-clause-made t c =
@@ -36,8 +36,8 @@ returns-clause-made t c =
     let rest = (executed_ready after.ready (after, c.execute_one.new.out)).1 in
     let made : c.execute_ready.new.made ≡ c.args.made.now ++ (executed_ready c.args.replica.now.ready (c.args.replica.now, c.args.out.now)).1 =
     c.in_ok-execute_ready.ensures.made
-    ∙ ap (λ made. made ++ rest) c.in_ok-bear.ensures
+    ∙ ap (λ made. made ++ rest) c.in_ok-bear.ensures.made
     ∙ append_assoc c.args.made.now (next_child c.in-Some.command c.args.replica.now) rest
     ∙ ap (λ (step : Executed). c.args.made.now ++ step.1) (turn-next c.args.replica.now after c.args.out.now c.execute_one.new.out c.in-Some.command
     (sym c.in_ok-command.ensures.ready ∙ c.in-Some.is) c.in_ok-execute_one.ensures) in
-    on_ok_weaker c.pump.result (λ _. made) c.pump.ensures
+    on_ok_weaker c.pump.result (λ _. made) c.pump.ensures.row

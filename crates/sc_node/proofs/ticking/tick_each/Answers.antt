@@ -12,8 +12,8 @@ loop-i-preserved g c =
       left = ticked-more c.loop-i.i node after c.loop-i.sent c.tick_at.new.sent within c.in_ok-tick_at.ensures ∙ c.loop-i.invariant.left;
     }
 
-pub returns : goal.returns
-returns g c =
+pub returns-clause-row : goal.returns-clause-row
+returns-clause-row g c =
     let node = g.H.Holder.node c.loop-i.holder in
     let over : length node.replicas ≤ c.loop-i.i = omega (arith, c.loop-i-test.false, c.loop-i.invariant.same, c.count-i-end.ensures) in
     ap (ticked_from 0 (g.H.Holder.node c.args.holder.now)) (sym c.requires) ∙ sym c.loop-i.invariant.left ∙ ticked-whole c.loop-i.i node c.loop-i.sent over

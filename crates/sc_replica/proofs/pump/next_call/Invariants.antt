@@ -1,10 +1,13 @@
-use Rattle.std.proofs.Common.{◌≡◌, length}
+use Rattle.std.proofs.Common.{◌≡◌, [], length}
 use Rattle.sc_node_table.specs.Pump.{next_call}
 use Rattle.sc_replica.proofs.pump.next_call.Given as goal
 
--- what is left makes the whole
+-- what is left makes the whole; and where the whole makes no mail, neither does what is left
 abbrev pub invariant-loop-alloc : goal.invariant-loop-alloc
-invariant-loop-alloc l = next_call l.me l.idle l.core l.calls.items l.out ≡ next_call l.me l.idle l.core l.fn.calls.items l.fn.out
+invariant-loop-alloc l = record {
+  left : next_call l.me l.idle l.core l.calls.items l.out ≡ next_call l.me l.idle l.core l.fn.calls.items l.fn.out;
+  none : (next_call l.me l.idle l.core l.fn.calls.items []).2 ≡ [] → (next_call l.me l.idle l.core l.calls.items []).2 ≡ [];
+}
 
 -- how many calls are left
 abbrev pub decreases-loop-alloc : goal.decreases-loop-alloc

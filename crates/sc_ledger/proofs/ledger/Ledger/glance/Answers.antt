@@ -12,7 +12,7 @@ overflow_cast-sent g c = let s = c.args.self.now in
 pub returns-clause-spot : goal.returns-clause-spot
 returns-clause-spot g c = let s = c.args.self.now in
     let all = numbers (counts_for c.args.actors s.crashed.items 0) 1 s.receivers.items s.counts.items in
-    c.in_ok-spot.ensures
+    c.in_ok-spot.ensures.spot
     ∙ ap (λ l. picked_spot (copies_for c.args.whos.now l) c.args.word)
     (look_spots g.M.Parcel.receiver c.args.actors s.rows.items s.receivers.items s.counts.items s.crashed.items all (spots_from s.receivers.items all) s.sent_to s.under_way s.gone refl refl)
 
