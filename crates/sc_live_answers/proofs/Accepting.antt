@@ -191,11 +191,6 @@ module _ (P : Report Command → Type 0) where
     asked_low from group ballot slot command r goes low good k =
         subst (λ p. StandsIn (took from (record { slot = slot; ballot = ballot; value = command }) p)) (sym (saw_none ballot r goes low)) (took_stands from (record { slot = slot; ballot = ballot; value = command }) r good k)
 
-    polled_low : (from : ℕ) (group : Draw) (ballot : Ballot) (from_slot : ℕ) (r : ReplicaState) → GoesOn ballot r → below r.top ballot ≡ false → StandsAt r → StandsIn (mailed from (Prepare group ballot from_slot) (r, [])).0
-    unfolding mailed prepare_row
-    polled_low from group ballot from_slot r goes low k =
-        subst (λ p. StandsIn (promised from ballot from_slot p)) (sym (saw_none ballot r goes low)) (promised_place StandsIn from ballot from_slot (r, []) (sent_stands from (r, []) k) (promise_stands from ballot from_slot r k))
-
     pub nacked_low : (from : ℕ) (group : Draw) (ballot : Ballot) (r : ReplicaState) → GoesOn ballot r → below r.top ballot ≡ false → StandsAt r → StandsIn (mailed from (Nack group ballot) (r, [])).0
     unfolding mailed nack_row
     nacked_low from group ballot r goes low k = subst StandsIn (sym (saw_none ballot r goes low)) k

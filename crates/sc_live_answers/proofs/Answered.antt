@@ -1,5 +1,5 @@
 -- In a whole calm journal every request of a client whose `go` line is followed by a line of deliveries is answered.
-use Rattle.std.proofs.Common.{◌≡◌, ℕ, ◌+◌, ◌-◌, ◌≤◌, ◌<◌, eqb, Bool, false, append-nil, List, [], ◌∷◌, ◌++◌, length, map, Some, None, inl, inr, refl, sym, ◌∙◌, ap, subst, arith, append_assoc}
+use Rattle.std.proofs.Common.{◌≡◌, ℕ, ◌+◌, ◌-◌, ◌≤◌, ◌<◌, eqb, Bool, true, false, append-nil, List, [], ◌∷◌, ◌++◌, length, map, Some, None, inl, inr, refl, sym, ◌∙◌, ap, subst, arith, append_assoc}
 use Rattle.std.specs.Prelude.{slice_get}
 use Rattle.std.proofs.lemmas.Bool.{cases_Bool, cases_lt, cond-false, eqb-true}
 use Rattle.std.proofs.lemmas.List.{map-append}
@@ -23,7 +23,6 @@ use Rattle.sc_law_groups.specs.whole.Definitions.{ValidJournalsAreSound}
 use Rattle.sc_live_plain.specs.Definitions.{AreAnswered, IsQuietJournal}
 use Rattle.sc_live_plain.proofs.Lemmas.{IsStage, stage, map_among, replies_more, first_delivery, many_line}
 use Rattle.sc_live_steps.specs.calm.Definitions.{IsAnswered}
-use Rattle.sc_live_answers.specs.Definitions.{CalmLinesSettle, CalmJournalsRest}
 
 abbrev Rows : Type 0
 Rows = List (Row Mail OrderLine)

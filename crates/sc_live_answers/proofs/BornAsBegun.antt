@@ -1,17 +1,13 @@
 -- The replicas of a group at the births are as the group begins, at its first members; and those of the scenario's groups are there from then on.
-use Rattle.std.proofs.Common.{◌≡◌, Bool, true, false, cond, [], Option, Some, None, ◌⊎◌, inl, inr, refl, sym, ◌∙◌}
-use Rattle.std.proofs.lemmas.Bool.{cond-true}
+use Rattle.std.proofs.Common.{◌≡◌, Bool, true, false, cond, Option, Some, None, ◌⊎◌, inl, inr, refl}
 use Rattle.sc_base.specs.Definitions.{Among, is_member}
 use Rattle.sc_node_table.specs.Values.{Base}
 use Rattle.sc_node_table.specs.Definitions.{born_replica, slots_ahead}
 use Rattle.sc_scenario.specs.Definitions.{IsBounded, ValidScenariosAreBounded}
 use Rattle.sc_scenario.specs.declared.scenarios.Scenario.{Scenario}
 use Rattle.sc_sound.specs.Definitions.{births, as_nodes}
-use Rattle.sc_live_journals.specs.mail.Definitions.{ReplicasLast}
-use Rattle.sc_live_journals.specs.rows.Definitions.{view_at}
 use Rattle.sc_live_journals.proofs.RowsProofs.Lemmas.{view_born}
-use Rattle.sc_live_answers.specs.Definitions.{GroupsAreBornOrNot, AreBornAsBegun, GroupsAreBornAsBegun, FirstGroupsAreNeverYoung}
-use Rattle.sc_law_entries.proofs.RingProofs.Lemmas.{some_none}
+use Rattle.sc_live_answers.specs.Definitions.{GroupsAreBornOrNot, AreBornAsBegun, GroupsAreBornAsBegun}
 
 one_or_none : {X : Type 0} (b : Bool) (x : X) (o : Option X) → o ≡ cond b (Some x) None → (o ≡ None) ⊎ ((o ≡ Some x) × (b ≡ true))
 one_or_none true x o e = inr (e, refl)
@@ -25,9 +21,3 @@ groups_born bounded born words scenario journal base group = elim (born words sc
   | inl own ↦ scenarios_born scenario base (bounded scenario group.valid) own
   | inr unborn ↦ λ who. inl (unborn who)
 ]
-
-pub never_young : ReplicasLast → FirstGroupsAreNeverYoung
-never_young last words scenario rows base bounded a timely who member none =
-    let born : view_at (births as_nodes scenario) [] base.core.id who ≡ Some (born_replica slots_ahead who base) = view_born scenario bounded base a who ∙ cond-true (is_member base.core.members who) (Some (born_replica slots_ahead who base)) None member in
-    let later = last words scenario [] rows base.core.id who (born_replica slots_ahead who base) timely born in
-    absurd (some_none later.0 (sym later.1 ∙ none))

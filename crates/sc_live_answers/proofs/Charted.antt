@@ -1,24 +1,26 @@
 -- Calm scenarios at their budget have charts, so no line of theirs is cut off, and their quiet journals rest.
-use Rattle.std.proofs.Common.{◌≡◌, ℕ, ◌+◌, ◌*◌, ◌≤◌, eqb, Bool, true, false, true≢false, cond, List, [], ◌∷◌, ◌++◌, length, find, replicate, Some, None, ◌||◌, zero, suc, inl, inr, refl, sym, ◌∙◌, ap, subst, arith, append-nil}
+use Rattle.std.proofs.Common.{◌≡◌, ℕ, ◌+◌, ◌*◌, ◌^◌, ◌≤◌, eqb, Bool, true, false, true≢false, cond, List, [], ◌∷◌, ◌++◌, length, find, replicate, Some, None, ◌||◌, zero, suc, inl, inr, refl, sym, ◌∙◌, ap, subst, arith, append-nil, length-append}
 use Rattle.std.specs.List.{list_any}
 use Rattle.std.proofs.Math.Nat.{mul-le-mul}
 use Rattle.std.proofs.lemmas.Bool.{cases_lt}
 use Rattle.sc_base.specs.Definitions.{Among, Each}
 use Rattle.sc_node_table.specs.Values.{Base, OrderLine, Mail, MailBody, Told, Node, Client, Seat, Row}
-use Rattle.sc_actor.specs.Definitions.{mails, copies, System, numbers_of, is_delivery, is_quiet}
+use Rattle.sc_actor.specs.Definitions.{mails, copies, System, numbers_of, is_delivery, is_quiet, unsettled}
 use Rattle.sc_live_orderly.specs.Definitions.{deliveries, orders, is_born, mail_with, HasRoom, under_way, AreInTime, AreSpaced, Nothing, IsMeasure, orders_given}
 use Rattle.sc_live_orderly.proofs.Given.{few_told, spaced_are_calm}
 use Rattle.sc_live_orderly.proofs.Lemmas.{count_push, rows_in_time, deliveries_and_orders, settled_in_time, uncut_before}
 use Rattle.sc_paxos_words.proofs.Lemmas.{Each-among, Each-from}
+use Rattle.sc_actor.proofs.Lemmas.{journal_counts}
+use Rattle.sc_mail.specs.Weight.{body_weight}
 use Rattle.sc_scenario.specs.Definitions.{IsValid, ValidScenariosAreBounded}
 use Rattle.sc_scenario.specs.declared.scenarios.Scenario.{Scenario}
-use Rattle.sc_sound.specs.Definitions.{Player, births, schedule, as_nodes, Lawful}
+use Rattle.sc_sound.specs.Definitions.{Player, births, schedule, as_nodes, Lawful, system_of}
 use Rattle.sc_law_groups.proofs.WholeProofs.Lemmas.{all_apart}
 use Rattle.sc_law_groups.specs.whole.Definitions.{ValidJournalsAreSound}
 use Rattle.sc_live_steps.specs.calm.Definitions.{Chart, players, run_owes, KeptCalmIsMeasured, IsDelivered, RestingOwesLittle, births_owe, Rows}
 use Rattle.sc_live_journals.specs.mail.Definitions.{IsPosted, IsPlayers, IsNodesBody, IsClientsBody, MailIsPosted, DesksAreNotBorn}
-use Rattle.sc_live_plain.specs.Definitions.{IsQuietJournal, budget_of, orders_of, calm_budget_of, IsCalm, IsCalmAtBudget, RoomyScenariosAreCalm, CalmLinesAreSpaced, PlainLinesEndQuiet, PlainRequestsAreAnswered}
-use Rattle.sc_live_plain.proofs.Lemmas.{IsStage, stage}
+use Rattle.sc_live_plain.specs.Definitions.{IsQuietJournal, budget_of, orders_of, calm_budget_of, IsCalm, IsCalmAtBudget, RoomyScenariosAreCalm, CalmLinesAreSpaced, PlainLinesEndQuiet, PlainJournalsAreLight, PlainRequestsAreAnswered}
+use Rattle.sc_live_plain.proofs.Lemmas.{IsStage, stage, roomy_scenarios_are_calm}
 use Rattle.sc_live_answers.specs.Definitions.{charts_of, CalmJournalsAreCharted, CalmJournalsGoOn, CalmLinesSettle, CalmJournalsRest, SettledJournalsRest, SettledRequestsAreAnswered, CalmRequestsAreAnswered, IsCalmJournal, IsFront, calm_deliveries_of, AreCharted, CalmLinesEndQuiet, CalmJournalsAreShort}
 use Rattle.sc_live_answers.specs.Given.{OrdersMayBeGiven}
 use Rattle.sc_live_answers.proofs.Answered.{answered_calmly}
@@ -90,9 +92,6 @@ module _ (segment : SegmentLaws) (rows_laws : RowLaws) (laws : LineLaws) (words 
 
   abbrev far : ℕ
   far = orders_of scenario + 1
-
-  abbrev sends : ℕ
-  sends = length scenario.groups + orders_of scenario
 
   abbrev begins : IsStage scenario
   begins = stage scenario (rows_laws.all_bounded scenario valid)
@@ -172,9 +171,6 @@ module _ (segment : SegmentLaws) (rows_laws : RowLaws) (laws : LineLaws) (words 
       abbrev owes_first : ℕ
       owes_first = births_owe (charts_of words scenario []) (births as_nodes scenario)
 
-      abbrev raises : ℕ
-      raises = 242 + 4 * (orders_of scenario + 1)
-
       within : owes_first + (242 + 4 * (orders_of scenario + 1)) ≤ calm_budget_of scenario
       within = births_covered scenario (charts_of words scenario []) charted.first some
 
@@ -236,6 +232,13 @@ settled_answered all_bounded sound_law rest_law words scenario journal valid cal
     let settled = uncut_before (system_of as_nodes words scenario) (schedule scenario) rows more (subst (λ (l : Rows). unsettled (system_of as_nodes words scenario) (schedule scenario) l ≡ false) are uncut) in
     let longer = ap length are ∙ length-append rows more in
     rest_law words scenario first others rows valid calm groups begins settled (omega (arith, short, longer)) quiet))
+
+-- a plain scenario is a calm one, no line of which is cut off at its budget
+pub plain_answered : PlainLinesEndQuiet → PlainJournalsAreLight → SettledRequestsAreAnswered → PlainRequestsAreAnswered
+plain_answered quiet_law light_law settled_law words scenario journal valid at lawful whole =
+    let light = light_law words scenario journal valid at lawful in
+    let counts = journal_counts (λ (mail : Mail). body_weight mail.body) journal in
+    settled_law words scenario journal valid (roomy_scenarios_are_calm.plain scenario at) lawful whole (quiet_law words scenario journal valid at lawful) (omega (arith, light, counts))
 
 pub requests_answered : ValidScenariosAreBounded → ValidJournalsAreSound → CalmLinesSettle → CalmJournalsRest → PlainRequestsAreAnswered → CalmRequestsAreAnswered
 requests_answered all_bounded sound_law settle_law rest_law plain_law words scenario journal valid calm lawful whole_ = elim (cases_lt 0 (orders_of scenario)) [

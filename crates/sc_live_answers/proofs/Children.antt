@@ -3,19 +3,17 @@ use Rattle.std.proofs.Common.{◌≡◌, ◌⊎◌, ℕ, eqb, Bool, true, false,
 use Rattle.std.specs.List.{find, list_any}
 use Rattle.std.proofs.lemmas.Bool.{cases_Bool, eqb-true}
 use Rattle.sc_base.specs.Definitions.{Each, same_draw}
-use Rattle.sc_node_table.specs.Values.{Draw, Base, Mail, MailBody, Prepare, Promise, Accept, Accepted, Learn, Install, Seat}
+use Rattle.sc_node_table.specs.Values.{Draw, Base, MailBody, Prepare, Promise, Accept, Accepted, Learn, Install, Seat}
 use Rattle.sc_base.proofs.Lemmas.{draw_is}
-use Rattle.sc_live_orderly.specs.Definitions.{is_born, rest, AreInTime}
+use Rattle.sc_live_orderly.specs.Definitions.{AreInTime}
 use Rattle.sc_paxos_words.proofs.Lemmas.{Each-among, Each-weaker, find_found}
-use Rattle.sc_node_table.specs.Definitions.{group_of_mail, ReplicaState, listed, mailed}
+use Rattle.sc_node_table.specs.Definitions.{group_of_mail, ReplicaState, mailed}
 use Rattle.sc_sound.specs.Definitions.{Player, births, as_nodes}
 use Rattle.sc_live_steps.specs.calm.Definitions.{players, Rows}
-use Rattle.sc_live_steps.specs.following.Definitions.{Mark, named_mark, mark_of, marks_of}
-use Rattle.sc_live_journals.specs.mail.Definitions.{ReplicasLast}
-use Rattle.sc_live_journals.specs.rows.Definitions.{view_at, replica_in, marks_at}
+use Rattle.sc_live_steps.specs.following.Definitions.{Mark, named_mark, mark_of}
+use Rattle.sc_live_journals.specs.rows.Definitions.{view_at, replica_in}
 use Rattle.sc_live_journals.specs.scenes.Definitions.{IsThere, IsNowhere}
-use Rattle.sc_live_answers.specs.Definitions.{Bears, BearsBy, DeliveriesKeepWork, GroupsAreQuietWhileYoung, ChildrenWereNowhere}
-use Rattle.sc_live_answers.proofs.Staying.{IsNoneFor}
+use Rattle.sc_live_answers.specs.Definitions.{Bears, BearsBy, DeliveriesKeepWork, ChildrenWereNowhere}
 
 pub none_some : {X P : Type 0} {x : X} → None ≡ Some x → P
 none_some e = absurd (let bad : None ≡ Some _ = e in cc)
@@ -66,26 +64,11 @@ unmarked name from (Prepare group ballot from_slot) ne = named_none name group _
 unmarked name from (Promise group ballot reports) ne = named_none name group _ ne
 unmarked name from _ ne = refl
 
-pub no_marks : (name : Draw) (mails : List Mail) → Each (IsNoneFor name) mails → marks_of name mails ≡ []
-no_marks name [] k = refl
-no_marks name (mail ∷ mails) k = ap (λ (o : Option Mark). listed o ++ marks_of name mails) (unmarked name mail.from mail.body k.0) ∙ no_marks name mails k.1
-
 -- the first rows of some in time are
 pub front_in_time : (words : ℕ → ℕ → ℕ × ℕ) (all : List (Seat Player)) (journal rows more : Rows) → journal ≡ rows ++ more → AreInTime (players words all) journal → AreInTime (players words all) rows
 front_in_time words all journal rows more e t before row after is = t before row (after ++ more) (e ∙ (ap (λ l. l ++ more) is ∙ append_assoc before (row ∷ after) more))
 
 -- ---- groups are quiet while young
-
-pub quiet_while_young : ReplicasLast → GroupsAreQuietWhileYoung
-quiet_while_young last words scenario first journal quiet rows more calm under at base stands strangers who member none =
-    elim (cases_Bool (is_born (players words (births as_nodes scenario)) who)) [ inr f ↦ strangers who f | inl t ↦ by t (there_or (births as_nodes scenario) quiet base.core.id) ]
-  where
-    by : is_born (players words (births as_nodes scenario)) who ≡ true → IsThere (births as_nodes scenario) quiet base.core.id ⊎ IsNowhere (births as_nodes scenario) quiet base.core.id → marks_at (players words (births as_nodes scenario)) rows base.core.id who ≡ []
-    by t (inl there) =
-        let had = under.rests.members base stands there who member in
-        let later = last words scenario quiet more base.core.id who had.0 (subst (AreInTime (players words (births as_nodes scenario))) at (front_in_time words (births as_nodes scenario) journal rows under.front.more under.front.is calm.timely)) had.1 in
-        none_some (sym none ∙ (ap (λ r. view_at (births as_nodes scenario) r base.core.id who) at ∙ later.1))
-    by t (inr nowhere) = no_marks base.core.id (rest (players words (births as_nodes scenario)) rows who) ((under.young base stands nowhere).unsent who t)
 
 -- ---- children were nowhere
 

@@ -1,12 +1,8 @@
 -- Calls leave the core of a group as it is, and what an order or a choice leaves is one of two.
-use Rattle.std.proofs.Common.{◌≡◌, Bool, true, false, cond}
+use Rattle.std.proofs.Common.{Bool, true, false, cond}
 use Rattle.sc_node_table.specs.Values.{Effect}
 use Rattle.sc_machine_table.specs.Definitions.{Group}
 pub use Rattle.sc_live_steps.proofs.FollowingProofs.Alone.{called_core}
-
-pub cond_core : (group : Group) (b : Bool) (x y : Group × Effect) → x.0.core ≡ group.core → y.0.core ≡ group.core → (cond b x y).0.core ≡ group.core
-cond_core group true x y e f = e
-cond_core group false x y e f = f
 
 pub cond_either : (P : Group → Type 0) (b : Bool) (x y : Group × Effect) → P x.0 → P y.0 → P (cond b x y).0
 cond_either P true x y p q = p

@@ -44,9 +44,6 @@ module _ (words : ℕ → ℕ → ℕ × ℕ) (scenario : Scenario) (begins : Is
 
   -- ---- replicas that were there are there
 
-  abbrev Was : Draw → ℕ → ReplicaState → Type 0
-  Was group node first = replica_at scenario before group node ≡ Some first
-
   pub home_still : (group : Draw) (node : ℕ) → HasReplica (replicas_after scenario before) group node → HasReplica (replicas_after scenario rows) group node
   home_still group node h = elim (q.quiet.groups group node h) [
     | inl stands ↦ (let n = ends.now words scenario begins before q frames ways s is seated rows j served none one_log group stands node h.0 h.1 in (n.r, n.there))

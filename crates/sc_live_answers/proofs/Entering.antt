@@ -31,11 +31,6 @@ pub or_map : (b c d : Bool) → (c ≡ true → d ≡ true) → (b || c) ≡ tru
 or_map true c d f e = refl
 or_map false c d f e = f e
 
-take_member : (n : ℕ) (members : List ℕ) (who : ℕ) → is_member (take n members) who ≡ true → is_member members who ≡ true
-take_member zero members who e = cc
-take_member (suc n) [] who e = cc
-take_member (suc n) (x ∷ members) who e = or_map (eqb x who) (is_member (take n members) who) (is_member members who) (take_member n members who) e
-
 -- none of these is new that are all there
 none_new : (old members : List ℕ) → Each (λ who. is_member old who ≡ true) members → filter (λ who. not (is_member old who)) members ≡ []
 none_new old [] all = refl

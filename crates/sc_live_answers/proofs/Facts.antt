@@ -20,7 +20,7 @@ use Rattle.sc_live_journals.specs.mail.Definitions.{IsPlainlyKept}
 use Rattle.sc_live_journals.proofs.MailProofs.Lemmas.{journals_idle, slots_left}
 use Rattle.sc_live_journals.specs.groups.Definitions.{Ends, IsOfLog, IsSlotKept, IsTopKept}
 use Rattle.sc_live_journals.proofs.GroupsProofs.Lemmas.{replicas_kept, scenarios_kept_born}
-use Rattle.sc_live_answers.specs.Definitions.{over_at, state_at, ReplicasRunLogs, replicas_at, IsQuietGroup, MembersHaveReplicas}
+use Rattle.sc_live_answers.specs.Definitions.{over_at, state_at, ReplicasRunLogs, replicas_at, IsQuietGroup}
 
 -- the members of as many slots from one on are the same
 pub opens_same : (at : Sets) (slot : ℕ) (xs ys : List (List ℕ)) → AreAt at slot xs → AreAt at slot ys → length xs ≡ length ys → xs ≡ ys
@@ -112,7 +112,3 @@ module _ (by : Tellers) (words : ℕ → ℕ → ℕ × ℕ) (scenario : Scenari
     -- replicas that executed as much are in one state
     pub same_state : (one other : ℕ) (r s : ReplicaState) → view one ≡ Some r → view other ≡ Some s → next r ≡ next s → r.group ≡ s.group
     same_state one other r s e f nexts = (ran one r e).1 ∙ ap (λ n. state_at as_nodes base journal n) nexts ∙ sym (ran other s f).1
-
--- Each node that was ever a member of the group has a replica of it.
-pub members_have_replicas : MembersHaveReplicas
-members_have_replicas by words scenario journal front base course q node slot low m = members_have by words scenario journal front base course q node slot low m

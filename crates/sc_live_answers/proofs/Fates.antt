@@ -12,14 +12,6 @@ use Rattle.sc_live_answers.proofs.Above.{MovesLast}
 use Rattle.sc_live_answers.specs.Definitions.{IsPassed, IsFated, EndsGone, AreFated}
 use Rattle.sc_live_answers.proofs.Lists.{round_most, Silent, none_silent, counts_silent, pledged_rises, fit_behind, open_or, member_open, told_nothing, told_all, offered_nothing}
 
--- a group begins so, with all nodes taking its first leader for that
-fates_begin : (at : Sets) (by : Tellers) (now : Progress) (hints : ℕ → Option ℕ) → now.course.runs ≡ true → ((who : ℕ) → now.promise who ≡ now.course.ballot) → ((who : ℕ) → hints who ≡ Some now.course.ballot.node) → AreFated at by now hints (λ node. [])
-fates_begin at by now hints runs promises hint = record {
-  fates = λ who prem. inr (record { hint_is = hint who ∙ ap (λ (b : Ballot). Some b.node) (sym (promises who)); passed = inl (promises who) });
-  last = λ off. absurd (true≢false (sym runs ∙ off));
-  left = λ off. absurd (true≢false (sym runs ∙ off));
-}
-
 module _ (at : Sets) (by : Tellers) (now after : Progress) (node : ℕ) (taken : Option Mark) (sent marks marks_after : ℕ → List Mark) (hints hints_after : ℕ → Option ℕ) (row : IsRow now after node taken sent marks marks_after)
     (was : IsFollowing at now marks) (then_ : IsFollowing at after marks_after) (others : (who : ℕ) → (who ≡ node → ⊥) → hints_after who ≡ hints who) (k : AreFated at by now hints marks) where
   -- once it has taken its mail, a node takes the same one for the leader, and has promised and executed as much
@@ -195,9 +187,6 @@ module _ (at : Sets) (by : Tellers) (now after : Progress) (node : ℕ) (taken :
   -- ---- a leader's row
 
   module _ (l : Leads at now after node taken sent) (heeded : IsHeeding at by now hints marks) (moves : MovesLast at now.course now.course.newest after.course.newest) where
-    leading : now.course.runs ≡ true
-    leading = l.runs
-
     -- until the last entry the members are the same
     members_stay : (more : ℕ) → now.course.newest + more < after.course.newest → members_at at (now.course.newest + more) ≡ members_at at now.course.newest
     members_stay zero low = ap (members_at at) (omega arith)

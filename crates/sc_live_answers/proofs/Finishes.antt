@@ -13,7 +13,7 @@ use Rattle.sc_sound.specs.Definitions.{world_at, Lawful, Player, as_nodes, birth
 use Rattle.sc_law_groups.specs.whole.Definitions.{ValidEntriesAreLogs, ValidJournalsAreSound}
 use Rattle.sc_law_entries.specs.logs.Definitions.{AreItsLogs}
 use Rattle.sc_live_steps.specs.calm.Definitions.{Rows}
-use Rattle.sc_live_answers.specs.Definitions.{IsTrueEntry, Doer, HasDone, Voting, doer, doers_of, LeadsSince, VotesAreTrue, EntriesAreTrue, FinishesAreTrue, HasOwnKeys, OutcomesAreTaken, RecordsAreTrue, IsAllowedBy, LockTells, ReplicasTell}
+use Rattle.sc_live_answers.specs.Definitions.{IsTrueEntry, Doer, HasDone, Voting, doer, doers_of, LeadsSince, VotesAreTrue, EntriesAreTrue, HasOwnKeys, OutcomesAreTaken, RecordsAreTrue, IsAllowedBy, LockTells, ReplicasTell}
 use Rattle.sc_live_steps.specs.orders.Definitions.{bond_of, work_by, Answers, Bound, Ends, Here, Records, Work, IsAt, IsOrder, Stage, leads_of, parties_of}
 use Rattle.sc_live_journals.specs.rows.Definitions.{view_at}
 use Rattle.sc_live_journals.specs.scenes.Definitions.{IsThere, scene_at}
@@ -152,9 +152,6 @@ module _ (tells : ReplicasTell) (sound : ValidJournalsAreSound) (logs : ValidEnt
 
     entry_true : IsTrueEntry r.me r.group flight.value
     entry_true = true_by flight.value refl
-
-pub finishes_true : ReplicasTell → ValidJournalsAreSound → ValidEntriesAreLogs → OutcomesAreTaken → FinishesAreTrue
-finishes_true tells sound logs taken words scenario first journal quiet rows name node r stage l flight among tx outcome is = finish_true tells sound logs taken words scenario first journal quiet rows name node r stage l flight among tx outcome is
 
 pub entries_true : ReplicasTell → ValidJournalsAreSound → ValidEntriesAreLogs → OutcomesAreTaken → VotesAreTrue → RecordsAreTrue → EntriesAreTrue
 entries_true tells sound logs taken votes records words scenario first journal quiet rows name node r stage l =

@@ -12,7 +12,7 @@ use Rattle.sc_client_table.specs.Definitions.{Client as ClientState}
 use Rattle.sc_scenario.specs.declared.scenarios.Asks.{Asks}
 use Rattle.sc_live_steps.specs.calm.Definitions.{Chart, AsksWithin, IsInTurn, LearnsOf, LeavesFor, MayHear, HearsCalmly}
 use Rattle.sc_live_plain.specs.Definitions.{IsLinkedSetting, Knows, IsCalmClient, FollowedBy, AreRoundRing, KnowsFirst, Setting, HasGoneTo, IsSetting, IsAsideBody, IsCalmMail, Frame, IsWaiting, IsBegun, Requests, IsPlainBody}
-use Rattle.sc_live_plain.proofs.Lemmas.{unasked, name_in, id_of, learn_in_turn, chosen_is, some_is}
+use Rattle.sc_live_plain.proofs.Lemmas.{unasked, name_in, id_of, learn_in_turn, some_is}
 use Rattle.sc_live_answers.specs.Definitions.{CountsAs, IsLedAt, AreReached, AsksLeaders, AnswersAreHeardCalmly, ClientsGoCalmly}
 pub use Rattle.sc_live_plain.proofs.CalmClients.{chosen_among as chosen_known}
 

@@ -13,7 +13,7 @@ use Rattle.sc_live_steps.specs.calm.Definitions.{HasReplica}
 use Rattle.sc_law_entries.specs.logs.Definitions.{Rows}
 use Rattle.sc_live_steps.specs.following.Definitions.{Course, members_at, Tellers}
 use Rattle.sc_live_journals.specs.logs.Definitions.{logged_sets}
-use Rattle.sc_live_answers.specs.Definitions.{state_at, replicas_at, IsQuietGroup, GoneAgree, IsQuietFront, IsFoundFront, FrontsAreFound, QuietLogsAreExecuted, FrontsGoneAgree, QuietCoursesEnd}
+use Rattle.sc_live_answers.specs.Definitions.{state_at, replicas_at, IsQuietGroup, GoneAgree, IsQuietFront, IsFoundFront, FrontsAreFound, QuietLogsAreExecuted, FrontsGoneAgree}
 use Rattle.sc_live_answers.proofs.Facts.{even, members_have, place, states}
 use Rattle.sc_live_plain.specs.Definitions.{replicas_after}
 use Rattle.sc_live_answers.proofs.KnownGroups.{newest_there}
@@ -113,6 +113,3 @@ module _ (executed : QuietLogsAreExecuted) (finds : FrontsAreFound) (words : ℕ
 
 pub fronts_gone_agree : QuietLogsAreExecuted → FrontsAreFound → FrontsGoneAgree
 fronts_gone_agree = agree
-
-pub quiet_courses_end : QuietLogsAreExecuted → FrontsAreFound → QuietCoursesEnd
-quiet_courses_end executed finds words scenario journal front by base course q a k = ends executed finds words scenario journal front q base a by course k

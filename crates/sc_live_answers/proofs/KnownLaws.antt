@@ -3,7 +3,7 @@ use Rattle.sc_live_answers.proofs.LinkFronts.{links_were_members as links_were_m
 use Rattle.sc_scenario.proofs.Lemmas.{valid_scenarios_are_bounded}
 use Rattle.sc_law_groups.proofs.WholeProofs.Lemmas.{valid_scenarios_begin_well, valid_journals_are_sound, valid_entries_are_logs}
 use Rattle.sc_law_entries.proofs.NamesProofs.Lemmas.{orders_are_allowed_allowed, orders_are_allowed_wishes, orders_are_allowed_positions, names_have_one_owner_others}
-use Rattle.sc_live_answers.specs.Definitions.{LinksWereMembers, GroupsAreAskedThrough, FreeGroupsHaveArcs, FrontsAreFound, QuietFrontsHaveGroups, QuietLogsAreExecuted, MembersAreHome, NoMailForStrangers, EntriesBearChildren, ChildrenAreMade, FrontsHaveMembers, FrontsAreThere, FrontsGoneAgree, QuietCoursesEnd, FrontsAreKnown, FrontsAreReachable, FrontsAreTakenIn, FrontsAreLinked, StillFrontsAreFree, IssuedAreBegun, FrontsAreNoted, FrontsGoInTurn, FrontsStayInTurn, FirstGroupsAreReached}
+use Rattle.sc_live_answers.specs.Definitions.{LinksWereMembers, GroupsAreAskedThrough, FreeGroupsHaveArcs, FrontsAreFound, QuietFrontsHaveGroups, QuietLogsAreExecuted, MembersAreHome, NoMailForStrangers, EntriesBearChildren, ChildrenAreMade, FrontsHaveMembers, FrontsAreThere, FrontsGoneAgree, FrontsAreKnown, FrontsAreReachable, FrontsAreTakenIn, FrontsAreLinked, StillFrontsAreFree, IssuedAreBegun, FrontsAreNoted, FrontsGoInTurn, FrontsStayInTurn, FirstGroupsAreReached}
 use Rattle.sc_live_answers.proofs.Offered.{asked_through}
 use Rattle.sc_live_journals.proofs.GroupsProofs.Lemmas.{events_go_on, rows_keep_taught, scenarios_are_well_born}
 use Rattle.sc_live_answers.proofs.Arcs.{free_groups_have_arcs as free_groups_have_arcs_by}
@@ -15,7 +15,7 @@ use Rattle.sc_live_answers.proofs.KnownBorn.{children_are_made as children_are_m
 use Rattle.sc_live_answers.proofs.LedLaws.{groups_are_born_or_not, groups_begin_taught, replicas_run_logs}
 use Rattle.sc_live_answers.proofs.There.{fronts_have_members as fronts_have_members_by, fronts_are_there as fronts_are_there_by}
 use Rattle.sc_live_answers.proofs.KnownGroups.{quiet_fronts_have_groups as quiet_fronts_have_groups_by, quiet_logs_are_executed as quiet_logs_are_executed_by}
-use Rattle.sc_live_answers.proofs.Known.{fronts_gone_agree as fronts_gone_agree_by, quiet_courses_end as quiet_courses_end_by}
+use Rattle.sc_live_answers.proofs.Known.{fronts_gone_agree as fronts_gone_agree_by}
 use Rattle.sc_live_answers.proofs.KnownReaching.{fronts_are_known as fronts_are_known_by, fronts_are_reachable as fronts_are_reachable_by, fronts_are_taken_in as fronts_are_taken_in_by}
 use Rattle.sc_live_answers.proofs.Linking.{fronts_are_linked as fronts_are_linked_by}
 use Rattle.sc_live_answers.proofs.Still.{still_fronts_are_free as still_fronts_are_free_by}
@@ -78,10 +78,6 @@ quiet_logs_are_executed = quiet_logs_are_executed_by scenarios_are_well_born gro
 -- Replicas of one group that are gone know the same route in a quiet prefix.
 pub fronts_gone_agree : FrontsGoneAgree
 fronts_gone_agree = fronts_gone_agree_by quiet_logs_are_executed fronts_are_found
-
--- The course of a group ends with its log then.
-pub quiet_courses_end : QuietCoursesEnd
-quiet_courses_end = quiet_courses_end_by quiet_logs_are_executed fronts_are_found
 
 -- So each group of a quiet prefix has a replica.
 pub fronts_are_there : FrontsAreThere

@@ -96,9 +96,6 @@ module _ (Were Come : Draw → ℕ → Type 0) (come : (name : Draw) (node : ℕ
 
     -- ---- a split
 
-    abbrev divided : Option Division → Bool → Option Division
-    divided o b = cond b o None
-
     split_by : (at : ℕ) (child : Draw) (order : ℕ) (b : Bool) → (let div : Division = record { at = at; child = child } in let after = cond b (left_group s at child) (begun_group s child (At.Split at child) order) in
         Good Were g after.core.members → ((d : Division) → cond b (Some div) None ≡ Some d → Good Were d.child (right_members s.core.members))
         → LinkedSo after.core × ((tx : Draw) (y : Story) → cond (not b) (put ys child (Some (new_story s (At.Split at child)))) ys tx ≡ Some y → ToldSo y) × ((d : Division) → cond b (Some div) None ≡ Some d → LinkedSo (right_core s.core d.at d.child)))

@@ -2,7 +2,6 @@ pub mod Above
 pub mod Accepting
 pub mod Acts
 pub mod Affairs
-pub mod Along
 mod Answered
 pub mod Arcs
 pub mod Asked
@@ -71,7 +70,6 @@ pub mod Hints
 mod Homeward
 mod HomewardAsking
 mod HomewardErrands
-pub mod JournalFronts
 pub mod Keeping
 pub mod KeptAll
 pub mod KeptAsking
@@ -121,7 +119,6 @@ mod NamedOnce
 pub mod Names
 pub mod NamesStay
 pub mod Near
-pub mod Needs
 pub mod Newest
 pub mod Nodes
 pub mod NoneWaiting
@@ -244,7 +241,6 @@ pub mod AnswerLaws
 pub mod AskedLaws
 pub mod BetweenLaws
 pub mod FindingLaws
-pub mod FoundLaws
 pub mod FrontLaws
 pub mod GoerLaws
 pub mod HomewardLaws

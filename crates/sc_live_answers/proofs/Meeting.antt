@@ -1,19 +1,19 @@
 -- What a mail of a group that is well led finds at the node that it comes to, by what it says.
 use Rattle.std.proofs.Common.{◌≡◌, ℕ, suc, ◌+◌, ◌≤◌, true, false, true≢false, List, [], ◌∷◌, ◌++◌, Option, Some, None, ◌⊎◌, inl, inr, refl, sym, ◌∙◌, ap, subst, arith, append_assoc}
 use Rattle.std.proofs.lemmas.Bool.{cases_Bool}
-use Rattle.sc_node_table.specs.Values.{Draw, Command, Base, Mail, MailBody, Request, Answer, Prepare, Promise, Accept, Accepted, Nack, Learn, Ask, Install, TxPrepare, TxVote, TxOutcome, TxElsewhere, TxWatch, TxWatched, Told as ToldMail, Node, Seat, Deliver, Go}
+use Rattle.sc_node_table.specs.Values.{Draw, Command, Base, Mail, MailBody, Request, Answer, Prepare, Promise, Accept, Accepted, Nack, Learn, Ask, Install, TxPrepare, TxVote, TxOutcome, TxElsewhere, TxWatch, TxWatched, Told as ToldMail, Node, Seat, Deliver}
 use Rattle.sc_base.specs.Definitions.{is_member}
 use Rattle.sc_actor.specs.Definitions.{mails, are_apart, row_of}
 use Rattle.sc_paxos_words.specs.Definitions.{below}
 use Rattle.sc_node_table.specs.Definitions.{entered, NodeState, replica_of, group_of_mail, may_come, ReplicaState, Place, next, mailed}
 use Rattle.sc_law_walks.proofs.Lemmas.{entered_next}
 use Rattle.sc_sound.specs.Definitions.{Player, player_table}
-use Rattle.sc_live_steps.specs.calm.Definitions.{players, MayCount, MayTake, StaysIn, IsCalmMailAt, Takes as TakesAt, Learns as LearnsAt, Makes as MakesAt, Misses as MissesAt, MayPump, Follows, group_owes, after_mail, MayMiss, Ways, Elsewhere, StandsOnce, Rows, led_elsewhere}
+use Rattle.sc_live_steps.specs.calm.Definitions.{players, MayCount, MayTake, StaysIn, IsCalmMailAt, Takes as TakesAt, Learns as LearnsAt, Makes as MakesAt, Misses as MissesAt, MayPump, Follows, group_owes, after_mail, MayMiss, Ways, StandsOnce, Rows, led_elsewhere}
 use Rattle.sc_live_steps.proofs.CalmProofs.Lemmas.{unbound_new}
 use Rattle.sc_live_steps.specs.following.Definitions.{Mark, Asks, Votes, Tells, Installs, Prepares, Promises, mark_of, Course, Progress, Sets, members_at, IsHeir, Tellers, AreHeeded, Stays}
 use Rattle.sc_live_steps.proofs.FollowingProofs.Lemmas.{same_mark, states, heirs_elect}
-use Rattle.sc_live_journals.specs.rows.Definitions.{view_at, promise_in, progress_at, marks_at, mark_in, taken_mark, IsScene, TakesMail, HoldsReplica, with_event, IsReplicasRow}
-use Rattle.sc_live_journals.proofs.RowsProofs.Lemmas.{names_stay, apart_off as led_off, goes_on, row_in, head, all_fit, known, within, no_lead, fit, found_name, rows_replicas, view_was, Plays, Found, found_well, replay_well}
+use Rattle.sc_live_journals.specs.rows.Definitions.{promise_in, progress_at, marks_at, mark_in, taken_mark, IsScene, TakesMail, HoldsReplica, with_event, IsReplicasRow}
+use Rattle.sc_live_journals.proofs.RowsProofs.Lemmas.{names_stay, apart_off as led_off, goes_on, row_in, head, all_fit, known, within, no_lead, fit, found_name, rows_replicas, Plays, Found, found_well, replay_well}
 use Rattle.sc_live_journals.specs.groups.Definitions.{Ends, hint_in, hints_at, IsOfLog, IsLogsState, AreWellBorn}
 use Rattle.sc_live_answers.specs.Definitions.{MeetsMail, IsPlain, NeedsBesides, IsNoRequest, NeedsAt}
 use Rattle.sc_live_answers.proofs.Elsewhere.{IsApart, owes_same, owes_most, stands_here, elsewhere_apart, apart_off, none_of}
@@ -29,9 +29,6 @@ module _ (at : Sets) (over : Ends) (by : Tellers) (words : ℕ → ℕ → ℕ �
 
   abbrev now : Progress
   now = progress_at births rows base course
-
-  abbrev elsewhere : Elsewhere
-  elsewhere = led_elsewhere births rows seat.who
 
   abbrev Calm : Type 0
   Calm = IsCalmMailAt ways groups (led_elsewhere births rows seat.who) mail.from mail.body node
@@ -50,9 +47,6 @@ module _ (at : Sets) (over : Ends) (by : Tellers) (words : ℕ → ℕ → ℕ �
 
   plays : Plays seat.who (Node node)
   plays = subst (Plays seat.who) m.is (replay_well seat.who seat.who rows seat.actor [] (plays_of seat.who seat.actor (born.well seat m.seated)))
-
-  view_of : (o : Option ReplicaState) → replica_of base.core.id node.replicas ≡ o → view_at births rows base.core.id seat.who ≡ o
-  view_of o here = view_was births rows seat Go name m.seated (Node node) m.is ∙ here
 
   -- another leads then, or the group is gone
   is_apart : led_elsewhere births rows seat.who base.core.id ≡ true → IsApart course seat.who

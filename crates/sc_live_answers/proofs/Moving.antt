@@ -1,5 +1,5 @@
 -- By each command a group loses no member, or nobody comes to it.
-use Rattle.std.proofs.Common.{◌≡◌, ℕ, Bool, true, false, cond, ◌&&◌, ◌||◌, not, eqb, nat_le, zero, suc, length, take, filter, List, [], ◌∷◌, Option, Some, None, ◌⊎◌, inl, inr, ◌∙◌, ap}
+use Rattle.std.proofs.Common.{◌≡◌, ℕ, Bool, true, false, cond, ◌&&◌, not, eqb, nat_le, zero, suc, length, take, filter, List, [], ◌∷◌, Option, Some, None, ◌⊎◌, inl, inr, ◌∙◌, ap}
 use Rattle.sc_cmd.specs.Definitions.{is_alone}
 use Rattle.sc_node_table.specs.Values.{Lock, Free, Coordinating, Promised, Watching, Command, Noop, Call, Join, Leave, Split, Begin, Prepared, RecordVote, GiveUp, Finish, Watched, RecordWatch, Core, OrderRefusal, Draw, Body, Offer, Frozen, Gift, Heard, No, Outcome, Abort, Merged, Moved, Migrated, Divided, Past, Vote, NoEffect, Changed, Decided}
 use Rattle.sc_base.specs.Definitions.{holds, same_draw, is_member, with_member, with_any, united}

@@ -2,7 +2,7 @@
 use Rattle.std.proofs.Common.{List, None, Some, [], ap, arith, false, inl, inr, subst, sym, true, true≢false, ℕ, ◌++◌, ◌∙◌, ◌∷◌, ◌≡◌, ◌≤◌}
 use Rattle.std.proofs.lemmas.Bool.{cases_eq}
 use Rattle.sc_actor.specs.Definitions.{mails, row_of}
-use Rattle.sc_node_table.specs.Values.{Seat, Event, Row, Ballot, Draw, Base, OrderLine, Mail}
+use Rattle.sc_node_table.specs.Values.{Seat, Event, Row, Ballot, Base, OrderLine, Mail}
 use Rattle.sc_live_answers.specs.Definitions.{AreBoundBy, IsGuided, IsReached, NewestStay}
 use Rattle.sc_live_journals.specs.groups.Definitions.{RowElects, RowLeads, RowMakes, RowPasses, RowRests, RowTakes, Ends, IsWellLed}
 use Rattle.sc_live_steps.specs.calm.Definitions.{players, Rows}
@@ -36,9 +36,6 @@ newest_bound at over by words births rows base course bonds was (node, x, there,
 module _ (words : ℕ → ℕ → ℕ × ℕ) (births : List (Seat Player)) (rows : Rows) (seat : Seat Player) (event : Event OrderLine) (base : Base) (g : IsGuided words births rows seat event base) where
   abbrev row_is : Row Mail OrderLine
   row_is = row_of player_table seat rows event
-
-  abbrev name : Draw
-  name = base.core.id
 
   abbrev course : Course
   course = g.course

@@ -1,5 +1,5 @@
 -- What a coordinator decides its participant can carry out: a boundary that it moves lies in one of two arcs that meet, and a member comes where there is room.
-use Rattle.std.proofs.Common.{◌≡◌, ℕ, ◌+◌, ◌-◌, ◌^◌, ◌<◌, ◌≤◌, Bool, true, false, List, [], ◌∷◌, Option, Some, None, option_map, refl, sym, ◌∙◌, ap, subst}
+use Rattle.std.proofs.Common.{◌≡◌, ℕ, ◌+◌, ◌^◌, ◌<◌, ◌≤◌, true, false, List, [], ◌∷◌, Option, Some, None, option_map, refl, sym, ◌∙◌, ap, subst}
 use Rattle.std.specs.Prelude.{length, ◌&&◌, ◌==◌, not, nat_le}
 use Rattle.std.specs.FinMap.{entries}
 use Rattle.std.proofs.lemmas.Bool.{and_from, and_parts, cond-true, cond_both, eq-eqb, le-leb}
@@ -113,9 +113,6 @@ changed_fits s (Vows.No why) y k = k
 module _ (sources : Sources) (ring : Ring) (gs : Groups) (ys : Stories) (g : Draw) (s : Group) (k : Kept sources.owner ring gs ys) (is : gs g ≡ Some s) (old : AllFit ys) where
   -- a participant's vote
   module _ (tx : Draw) (offer : Offer) (a : IsAllowed sources ys g (Prepared tx offer)) where
-    abbrev cast : Option Vote
-    cast = vote_in s (applied s (Prepared tx offer)).1
-
     -- it votes once
     once : (y : Story) → ys tx ≡ Some y → (vote : Vote) → y.vote ≡ Some vote → vote_in s (applied s (Prepared tx offer)).1 ≡ None
     once y e vote v =

@@ -152,10 +152,6 @@ module _ (a : Affair) (g : Draw) where
 
   -- ---- the state is sent
 
-  install_fine : (node : ℕ) (place : Place) → a.Parts → Fine place → Fine (install_to node place)
-  unfolding install_to
-  install_fine node (r, mails) p f = (f.0, one_sent a r.me node (Install (name_of r) (next r - 1) (base_of r.group) r.sets) mails (p, subst (λ n. a.Is n r.group.core) (sym f.0.0) f.0.5) f.1)
-
   -- ---- an entry: a counted one, or one that is learnt where nothing is in flight
 
   abbrev Goes : Bool → Group → Place → Type 0

@@ -2,7 +2,7 @@
 use Rattle.std.proofs.Common.{◌≡◌, ℕ, ◌≤◌, Bool, true, false, true≢false, List, [], ◌∷◌, Some, None, inl, inr, refl, sym, ◌∙◌, ap, subst}
 use Rattle.std.specs.Prelude.{length, not, ◌&&◌}
 use Rattle.sc_base.specs.Definitions.{Among, Each, holds, is_member, united}
-use Rattle.sc_node_table.specs.Values.{Draw, Seat, Body, Offer, Command, Split, Prepared, RecordVote, RecordWatch, Base, Coordinating, Free, Promised, Frozen, Past, Flight}
+use Rattle.sc_node_table.specs.Values.{Draw, Seat, Body, Offer, Command, Prepared, RecordVote, RecordWatch, Base, Coordinating, Free, Promised, Frozen, Past, Flight}
 use Rattle.sc_actor.proofs.Lemmas.{lawful-prefix}
 use Rattle.sc_live_plain.specs.Definitions.{replicas_after}
 use Rattle.sc_cmd.specs.Definitions.{is_alone}
@@ -57,9 +57,6 @@ module _ (tells : ReplicasTell) (sound : ValidJournalsAreSound) (logs : ValidEnt
   meets_at : (who : Draw) (q : StandsQuiet (replicas_after scenario quiet) who) (behind : Draw) → behind ≡ q.lead.group.core.succ.group → (who ≡ q.lead.group.core.succ.group → ⊥) → (s : StandsQuiet (replicas_after scenario quiet) behind) → Meets q.lead.group s.lead.group
   meets_at who q behind e other = subst (λ b. (s : Quiet b) → Meets q.lead.group s.lead.group) (sym e) (λ s. meet_so words scenario first quiet the_map the_logs l.rests.known l.rests.is who q s other)
 
-  abbrev Has : Doer → Type 0
-  Has it = HasDone (births as_nodes scenario) quiet rows it
-
   own_id : (it : Doer) (d : HasDone (births as_nodes scenario) quiet rows it) → d.first.group.core.id ≡ it.group
   own_id it d = (l.rests.is.kept it.group it.host d.first (sym (l.seen it.group it.host) ∙ d.was)).name_is
 
@@ -87,9 +84,6 @@ module _ (tells : ReplicasTell) (sound : ValidJournalsAreSound) (logs : ValidEnt
     since : IsTrueSince scenario quiet rows (Recorded deal agreed host)
     since = subst (IsTrueSince scenario quiet rows) is l.true_since
 
-    abbrev c_doer : Doer
-    c_doer = doer deal.coord deal.chief (opened deal.tx deal.turn)
-
     abbrev c : HasDone (births as_nodes scenario) quiet rows (doer deal.coord deal.chief (opened deal.tx deal.turn))
     c = since.done.0
 
@@ -115,15 +109,9 @@ module _ (tells : ReplicasTell) (sound : ValidJournalsAreSound) (logs : ValidEnt
     asks_whom : (asked : Draw) (turn : Turn) → bond_of c.now.group.core ≡ Asking deal.tx asked turn → (deal.asked ≡ asked) × (deal.turn ≡ turn)
     asks_whom asked turn e = same_asking deal.tx deal.tx deal.asked asked deal.turn turn (sym bond_is ∙ e)
 
-    abbrev True : Command → Type 0
-    True command = IsTrueEntry r.me c.now.group command
-
     -- ---- a watcher's vote
 
     module _ (vote : Past) (by : ℕ) where
-      abbrev Watched_so : Type 0
-      Watched_so = IsTrueEntry r.me c.now.group (RecordWatch deal.tx vote by)
-
       lone_so : deal.turn ≡ Lone → IsTrueEntry r.me c.now.group (RecordWatch deal.tx vote by)
       lone_so e =
           let o : IsOpened c.first.group deal.tx deal.asked Lone c.now.group = subst (λ t. Coordinates c.first.group deal.tx deal.asked t c.now.group) e made in
@@ -245,9 +233,6 @@ module _ (tells : ReplicasTell) (sound : ValidJournalsAreSound) (logs : ValidEnt
           let mine = pred_at deal.coord q.0 deal.asked (o.asked_is ∙ ap (λ (x : ReplicaState). x.group.core.succ.group) q.1) s.0 in
           let its = pred_at deal.asked s.0 deal.asked itself s.0 in
           not_itself c.first.group.core deal.coord (own_id (doer deal.coord deal.chief (opened deal.tx deal.turn)) c) alone (sym mine ∙ (its ∙ o.asked_is))
-
-      abbrev True_vote : Type 0
-      True_vote = IsTrueEntry r.me c.now.group (RecordVote deal.tx (Vows.Yes frozen) by)
 
       lock_of : (body : Body) → o.body ≡ body → c.now.group.core.lock ≡ Coordinating deal.tx body o.order None
       lock_of body e = lock_is ∙ ap (λ b. Coordinating deal.tx b o.order None) e

@@ -1,17 +1,15 @@
 -- A line of requests in a calm journal, between two orders: each row finds what it needs, and the line leaves a quiet journal.
 use Rattle.sc_live_answers.proofs.LinesEnd.{replicas_quiet}
 use Rattle.sc_scenario.proofs.Lemmas.{valid_scenarios_are_bounded}
-use Rattle.sc_live_answers.specs.Definitions.{LinesLeaveReplicasQuiet, LinesLeaveQuiet, LawfulJournalsHaveOneLog, LawfulLinesLeaveQuiet, TokensNeverRise, IdleCountsOnce, AnswersAreExpected, LinesAskLeaders, RequestRowsFindCalm, QuietJournalsCountOnce, LawfulReplicasAreNamedOnce, LawfulQuietJournalsCountOnce}
+use Rattle.sc_live_answers.specs.Definitions.{LinesLeaveReplicasQuiet, LinesLeaveQuiet, LawfulJournalsHaveOneLog, LawfulLinesLeaveQuiet, AnswersAreExpected, LinesAskLeaders, RequestRowsFindCalm, QuietJournalsCountOnce, LawfulReplicasAreNamedOnce, LawfulQuietJournalsCountOnce}
 use Rattle.sc_live_answers.proofs.QuietEnd.{leave_quiet}
 use Rattle.sc_live_answers.proofs.OneLog.{lawful_one_log}
 use Rattle.sc_law_groups.proofs.WholeProofs.Lemmas.{valid_scenarios_begin_well, lawful_journals_decide_in_turn, valid_journals_are_sound}
 use Rattle.sc_law_entries.proofs.NamesProofs.Lemmas.{orders_are_allowed_allowed, orders_are_allowed_wishes, orders_are_allowed_positions, names_have_one_owner_others}
 use Rattle.sc_law_entries.proofs.LogsProofs.Lemmas.{groups_are_born_under_new_names_found}
 use Rattle.sc_live_answers.proofs.LawfulLines.{lawful_leave}
-use Rattle.sc_live_answers.proofs.TokensJournal.{never_rise}
 use Rattle.sc_live_answers.proofs.TokensOne.{expected}
 use Rattle.sc_live_answers.proofs.LinesAsk.{lines_lead}
-use Rattle.sc_live_answers.proofs.TokensIdle.{idle_once}
 use Rattle.sc_live_answers.proofs.FindsRows.{request_rows}
 use Rattle.sc_live_answers.proofs.Heard.{answers_heard as answers_are_heard_calmly, clients_go as clients_go_calmly}
 use Rattle.sc_live_answers.proofs.Starts.{count_once}
@@ -35,10 +33,6 @@ lawful_journals_have_one_log =
 pub lawful_lines_leave_quiet : LawfulLinesLeaveQuiet
 lawful_lines_leave_quiet = lawful_leave valid_scenarios_are_bounded lawful_journals_have_one_log lines_leave_replicas_quiet lines_leave_quiet
 
--- No row of a journal raises how often a client's request is under way, where a client that waits for none counts one.
-pub tokens_never_rise : TokensNeverRise
-tokens_never_rise = never_rise valid_scenarios_are_bounded
-
 -- In a line of requests the first mail to a client is the answer that it waits for, of the node and the group that it asked.
 pub answers_are_expected : AnswersAreExpected
 answers_are_expected = expected valid_scenarios_are_bounded
@@ -46,10 +40,6 @@ answers_are_expected = expected valid_scenarios_are_bounded
 -- In a line of requests each client would ask the node that leads, of each group that it knows but for that which it asked last.
 pub lines_ask_leaders : LinesAskLeaders
 lines_ask_leaders = lines_lead valid_scenarios_are_bounded
-
--- Where no replica has a queued request and no mail is under way, each client counts one at most.
-pub idle_counts_once : IdleCountsOnce
-idle_counts_once = idle_once valid_scenarios_are_bounded
 
 -- In a line of requests whatever comes next, in order, finds what it needs: a client that starts, an answer that it takes, and each mail of a node, by a chart that counts as the setting does.
 pub request_rows_find_calm : RequestRowsFindCalm

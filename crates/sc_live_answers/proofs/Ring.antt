@@ -49,9 +49,6 @@ key_at p = p / 16777216 ∷ (p / 65536) % 256 ∷ (p / 256) % 256 ∷ p % 256 �
 key_there : (p : ℕ) → p < 2 ^ 32 → pos_of (key_at p) ≡ p
 key_there p low = omega arith
 
-near : (lo len : ℕ) → lo < 2 ^ 32 → 1 ≤ len → ((lo + 2 ^ 32) - lo) % 2 ^ 32 < len
-near lo len a b = omega arith
-
 -- the last position of an arc
 last_of : Arc → ℕ
 last_of arc = (arc.lo + arc.len + 2 ^ 32 - 1) % 2 ^ 32
@@ -73,10 +70,6 @@ same_last a b e = omega (arith, e)
 ends_last : (one other : Arc) → end_of one ≡ end_of other → last_of one ≡ last_of other
 unfolding last_of
 ends_last one other e = same_last (one.lo + one.len) (other.lo + other.len) e
-
--- two arcs that meet and are longer than the ring hold one position
-wide_near : (lo len next : ℕ) → lo < 2 ^ 32 → len ≤ 2 ^ 32 → 1 ≤ len → 2 ^ 32 < len + next → ((lo + 2 ^ 32) - (lo + len) % 2 ^ 32) % 2 ^ 32 < next
-wide_near lo len next a b c d = omega arith
 
 module _ (words : ℕ → ℕ → ℕ × ℕ) (scenario : Scenario) (first : Base) (rows : Rows) (map : IsOneMap (world_at as_nodes scenario.groups rows)) (logs : AreItsLogs as_nodes scenario.groups rows) (known : AreKnown scenario rows) (quiet : IsQuietJournal words scenario first rows) where
   abbrev world : StoreWorld

@@ -1,10 +1,9 @@
 -- That hints rise in quiet prefixes of a calm journal, and that rounds are few: what is kept of each group row by row, and what follows of it in quiet.
 use Rattle.sc_live_answers.proofs.RiseJournals.{groups_begin, next_rows}
 use Rattle.sc_live_answers.proofs.SentLaws.{groups_are_born_as_begun}
-use Rattle.sc_live_answers.specs.Definitions.{GroupsBeginRising, NextRowsRise, RowsKeepRound, OrdersKeepRounds, RequestsKeepBallots}
+use Rattle.sc_live_answers.specs.Definitions.{GroupsBeginRising, NextRowsRise, OrdersKeepRounds, RequestsKeepBallots}
 use Rattle.sc_live_journals.proofs.MailProofs.Lemmas.{journals_keep_idle}
 use Rattle.sc_live_journals.proofs.GroupsProofs.Lemmas.{scenarios_are_well_born}
-use Rattle.sc_live_answers.proofs.RiseRounds.{rows_keep_round as rows_keep_round_by}
 use Rattle.sc_live_answers.proofs.RiseSeen.{orders_keep, requests_keep}
 
 -- At the births each node takes the first member for the leader, and has promised its ballot.
@@ -14,10 +13,6 @@ groups_begin_rising = groups_begin groups_are_born_as_begun
 -- After each row those that left the group take for the leader the node of the ballot that they promised last, and that one leads still, or has promised a later round; and no replica saw a later ballot than it has promised, once it has taken its mail.
 pub next_rows_rise : NextRowsRise
 next_rows_rise = next_rows journals_keep_idle scenarios_are_well_born
-
--- By each row a group begins one round more at most since a quiet prefix: its leader stops by an act alone, which ends the group's part in the order.
-pub rows_keep_round : RowsKeepRound
-rows_keep_round = rows_keep_round_by journals_keep_idle scenarios_are_well_born
 
 -- So while an order is under way that was given in quiet.
 pub orders_keep_rounds : OrdersKeepRounds

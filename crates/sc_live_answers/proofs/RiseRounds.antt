@@ -13,15 +13,14 @@ use Rattle.sc_live_steps.specs.calm.Definitions.{players, Rows}
 use Rattle.sc_live_steps.specs.following.Definitions.{Course, Sets, Tellers}
 use Rattle.sc_live_steps.specs.orders.Definitions.{works, Work, Deal, Stage, Still, Asks, IsAt}
 use Rattle.sc_live_journals.specs.rows.Definitions.{view_at, taken_mark, led_course, elected_course, IsSeat, with_event, IsReplicasRow}
-use Rattle.sc_live_journals.specs.groups.Definitions.{IsGroupRow, RowPasses, RowRests, RowTakes, RowMakes, RowLeads, RowElects, Ends, LeadsWell, ElectsWell, AreWellBorn, ScenariosAreWellBorn}
+use Rattle.sc_live_journals.specs.groups.Definitions.{IsGroupRow, RowPasses, RowRests, RowTakes, RowMakes, RowLeads, RowElects, Ends, LeadsWell, ElectsWell, AreWellBorn}
 use Rattle.sc_live_journals.specs.mail.Definitions.{JournalsKeepIdle}
 use Rattle.sc_live_journals.specs.scenes.Definitions.{IsTelling, GoesBy, is_running, lead_of, works_of, work_at, scene_at}
 use Rattle.sc_live_journals.proofs.ScenesProofs.Lemmas.{lead_found, lead_runs, seat_among}
-use Rattle.sc_live_answers.specs.Definitions.{IsSentThrough, IsSentStep, MustLead, HasOneRound, StaysGone, RowsKeepRound}
+use Rattle.sc_live_answers.specs.Definitions.{IsSentThrough, IsSentStep, MustLead, HasOneRound, StaysGone}
 use Rattle.sc_live_answers.proofs.Asked.{leader_moves}
 use Rattle.sc_live_answers.proofs.Comers.{HasAct}
 use Rattle.sc_live_answers.proofs.Acts.{has_work}
-use Rattle.sc_live_answers.proofs.RiseJournals.{calm_of}
 use Rattle.sc_live_answers.proofs.Lists.{round_most}
 use Rattle.sc_live_answers.proofs.RiseRising.{next_round}
 use Rattle.sc_live_answers.proofs.Stages.{Before, work_leads, must_lead, step_back}
@@ -209,7 +208,3 @@ module _ (words : ℕ → ℕ → ℕ × ℕ) (at : Sets) (over : Ends) (by : Te
 
         pub round_then : HasOneRound first later base.core.id s.through.course
         round_then = subst (HasOneRound first later base.core.id) (sym s.same) keeps_then
-
-pub rows_keep_round : JournalsKeepIdle → ScenariosAreWellBorn → RowsKeepRound
-rows_keep_round idle wb words at over by scenario rows seat event base first stage later timely born t s a goes telling asked was =
-    round_then words at over by scenario rows seat event base idle (wb scenario) timely born (calm_of words scenario rows seat event timely) t s stage a first later goes telling asked was

@@ -76,9 +76,6 @@ rounds_seen = record {
 
 -- ---- while an order is under way
 
-none_still : (deal : Deal) (to : ℕ) → Still ≡ Asks deal to → ⊥
-none_still deal to e = cc
-
 pub orders_keep : JournalsKeepIdle → ScenariosAreWellBorn → OrdersKeepRounds
 orders_keep idle wb = record {
   told = λ words at over by scenario quiet seat line base stage timely born q s none.

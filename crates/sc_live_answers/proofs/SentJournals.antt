@@ -7,7 +7,7 @@ use Rattle.sc_node_table.specs.Values.{Ballot, Draw, Command, Base, OrderLine, M
 use Rattle.sc_actor.proofs.Lemmas.{mails-snoc}
 use Rattle.sc_actor.specs.Definitions.{mails, row_of}
 use Rattle.sc_live_orderly.specs.Definitions.{IsCalmEvent, AreInTime}
-use Rattle.sc_live_orderly.proofs.Lemmas.{by_time, last_in_time}
+use Rattle.sc_live_orderly.proofs.Lemmas.{last_in_time}
 use Rattle.sc_node_table.specs.Definitions.{ReplicaState, listed, born_replica, slots_ahead}
 use Rattle.sc_paxos_words.specs.Definitions.{reports_from, IsAtLeast}
 use Rattle.sc_paxos_words.proofs.Lemmas.{at_least_below, at_least_from_below, Each-append, Each-weaker}
@@ -22,7 +22,7 @@ use Rattle.sc_live_journals.proofs.RowsProofs.Lemmas.{rows_are}
 use Rattle.sc_live_journals.specs.logs.Definitions.{logged_sets, IsGroupOf}
 use Rattle.sc_live_journals.specs.groups.Definitions.{IsGroupRow, RowPasses, RowRests, RowTakes, RowMakes, RowLeads, RowElects, IsLedStep, Ends, IsWellLed, HasOneLog, IsSentSo, EventsGoOn, ScenariosAreWellBorn}
 use Rattle.sc_live_journals.proofs.GroupsProofs.Lemmas.{dated_in, taken_dated, rows_dated}
-use Rattle.sc_live_answers.specs.Definitions.{over_at, LedLogsAreOne, tellers_at, AreFew, GroupsAreLed, GroupsBeginLed, AreAbove, HasBelow, IsAskedOn, IsAtHome, IsSentOn, IsQuietWhileYoung, AreBornAsBegun, GroupsAreBornAsBegun, IsSentThrough, IsSentStep, GroupsBeginSent, NextRowsAreSent, SentReplicas, LedJournalsAreSentSo, SaysWell, AreSaidWell}
+use Rattle.sc_live_answers.specs.Definitions.{over_at, LedLogsAreOne, tellers_at, AreFew, GroupsAreLed, GroupsBeginLed, AreAbove, HasBelow, IsAskedOn, IsAtHome, IsSentOn, IsQuietWhileYoung, AreBornAsBegun, GroupsAreBornAsBegun, IsSentThrough, IsSentStep, GroupsBeginSent, NextRowsAreSent, SentReplicas, SaysWell, AreSaidWell}
 use Rattle.sc_live_journals.specs.mail.Definitions.{JournalsKeepIdle}
 use Rattle.sc_live_answers.proofs.Asked.{asked_then}
 use Rattle.sc_live_answers.proofs.Finds.{next_mail_so}
@@ -251,21 +251,8 @@ module _ (bounds : ValidScenariosAreBounded) (idle : JournalsKeepIdle) (wb : Sce
       abbrev Begin : Rows → Type 0
       Begin rows = (more : Rows) → journal ≡ rows ++ more → Through rows
 
-      after_row : (rows : Rows) (row : Row Mail OrderLine) → AreInTime (players words (births as_nodes scenario)) (rows ++ row ∷ []) → Begin rows → Begin (rows ++ row ∷ [])
-      after_row rows row in_time was more is =
-          let calm = (last_in_time (players words all) rows row in_time).0 in
-          let before : journal ≡ rows ++ (row ∷ more) = is ∙ append_assoc rows (row ∷ []) more in
-          subst (λ (r : Row Mail OrderLine). Through (rows ++ r ∷ [])) (sym calm.row_is)
-          (next_row rows more calm.seat calm.event (is ∙ ap (λ (r : Row Mail OrderLine). (rows ++ r ∷ []) ++ more) calm.row_is) calm.born (was (row ∷ more) before) (quiet rows (row ∷ more) before)).through
-
-      all_rows : (rows more : Rows) → journal ≡ rows ++ more → Through rows
-      all_rows rows more is = by_time (players words (births as_nodes scenario)) Begin (λ more e. first_rows) after_row rows (before_in_time rows more is) more is
-
   pub begin_sent : GroupsBeginSent
   begin_sent words scenario journal base group timely few = first_rows words scenario journal base group timely few
 
   pub rows_sent : NextRowsAreSent
   rows_sent words scenario journal base group timely few rows more seat event is born t quiet = next_row words scenario journal base group timely few rows more seat event is born t quiet
-
-  pub journals_sent_so : LedJournalsAreSentSo
-  journals_sent_so words scenario journal base group timely few quiet rows more is = all_rows words scenario journal base group timely few quiet rows more is

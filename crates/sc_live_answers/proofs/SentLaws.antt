@@ -1,10 +1,10 @@
 -- Of one group through a calm journal, that its mail is sent as its leader's course needs it.
-use Rattle.sc_live_answers.proofs.BornAsBegun.{groups_born, never_young}
+use Rattle.sc_live_answers.proofs.BornAsBegun.{groups_born}
 use Rattle.sc_scenario.proofs.Lemmas.{valid_scenarios_are_bounded}
 use Rattle.sc_live_answers.proofs.LedLaws.{groups_are_born_or_not, groups_are_led, led_logs_are_one, groups_begin_led}
-use Rattle.sc_live_answers.specs.Definitions.{GroupsAreBornAsBegun, GroupsBeginSent, NextRowsAreSent, LedJournalsAreSentSo, FirstGroupsAreNeverYoung}
-use Rattle.sc_live_answers.proofs.SentJournals.{begin_sent, rows_sent, journals_sent_so}
-use Rattle.sc_live_journals.proofs.MailProofs.Lemmas.{journals_keep_idle, replicas_last}
+use Rattle.sc_live_answers.specs.Definitions.{GroupsAreBornAsBegun, GroupsBeginSent, NextRowsAreSent}
+use Rattle.sc_live_answers.proofs.SentJournals.{begin_sent, rows_sent}
+use Rattle.sc_live_journals.proofs.MailProofs.Lemmas.{journals_keep_idle}
 use Rattle.sc_live_journals.proofs.GroupsProofs.Lemmas.{scenarios_are_well_born, events_go_on}
 
 -- The replicas of a group at the births are as the group begins.
@@ -18,11 +18,3 @@ groups_begin_sent = begin_sent valid_scenarios_are_bounded journals_keep_idle sc
 -- So it is after one row more of a journal whose rows come in time, in the course that comes of its row, where no first member is sent anything before it has its replica.
 pub next_rows_are_sent : NextRowsAreSent
 next_rows_are_sent = rows_sent valid_scenarios_are_bounded journals_keep_idle scenarios_are_well_born groups_are_led led_logs_are_one events_go_on groups_begin_led groups_are_born_as_begun
-
--- So a group's mail is sent so through such a journal, and the group is well led with one log, where no first member is sent anything before it has its replica.
-pub led_journals_are_sent_so : LedJournalsAreSentSo
-led_journals_are_sent_so = journals_sent_so valid_scenarios_are_bounded journals_keep_idle scenarios_are_well_born groups_are_led led_logs_are_one events_go_on groups_begin_led groups_are_born_as_begun
-
--- A first member of a group of the scenario always has a replica of it, so it is sent nothing before it has one.
-pub first_groups_are_never_young : FirstGroupsAreNeverYoung
-first_groups_are_never_young = never_young replicas_last

@@ -1,6 +1,6 @@
 -- What a row of requests leaves of a replica as it is.
 use Rattle.std.proofs.Common.{◌≡◌, ℕ, ◌+◌, ◌≤◌, true, List, [], ◌∷◌, filter, Some, ◌⊎◌, inl, inr, refl, sym, ◌∙◌, ap, subst, arith}
-use Rattle.std.proofs.lemmas.Bool.{cond_both, cases_lt, both_ways}
+use Rattle.std.proofs.lemmas.Bool.{cond_both, both_ways}
 use Rattle.sc_base.specs.Definitions.{Among, client_actor, is_member}
 use Rattle.sc_node_table.specs.Values.{Ballot, Draw, Op, Command, Call, MailBody, Request, Answer, Accept, Accepted, Learn, Report}
 use Rattle.std.specs.Prelude.{nat_lt}
@@ -8,23 +8,12 @@ use Rattle.sc_paxos_words.specs.Definitions.{with_report, below}
 use Rattle.sc_paxos_words.proofs.Lemmas.{from_filter}
 use Rattle.sc_node_table.specs.Definitions.{ReplicaState, Place, next, last_slot, mailed, slots_ahead}
 use Rattle.sc_live_plain.specs.Definitions.{Frame, IsFrame, Requests, IsPlainCall, IsPlainCommand, IsPlainBody, AreTaken, IsPlainLeader, IsPlainFollower, IsPlainVoter, IsPlainReplica, IsPlainAt, IsDue}
-use Rattle.sc_live_plain.proofs.Lemmas.{as_voter, learn_is, learnt_plain, learnt_follower, learnt_next, one_yes, one_no, IsRun, in_range, range_yes, range_behind, call_is, DidRefuse, DidQueue, DidCount, following_at, none_stops, replica_row, taken_once}
+use Rattle.sc_live_plain.proofs.Lemmas.{as_voter, learn_is, learnt_plain, learnt_follower, learnt_next, IsRun, call_is, DidRefuse, DidQueue, DidCount, following_at, none_stops, replica_row, taken_once}
 use Rattle.sc_live_answers.proofs.Calls.{knows, Leaves, leaves_itself, leaves_bare, request_kept, vote_goes}
 use Rattle.sc_live_answers.proofs.RequestsTaking.{takes_it, accept_takes, learn_leaves}
 use Rattle.sc_live_answers.proofs.Following.{split_among}
 
 -- ---- how many slots are taken
-
-taken_low : (r : ReplicaState) (a b : ℕ) → AreTaken r a → AreTaken r b → a ≤ b
-taken_low r a b p q = elim (cases_lt b a) [
-  | inl more ↦ (
-      let here = p.once (next r + b) in
-      let there = q.once (next r + b) in
-      let yes = one_yes (in_range (next r) a (next r + b)) (range_yes (next r) a (next r + b) (omega arith) (omega (arith, more))) in
-      let no_ = one_no (in_range (next r) b (next r + b)) (range_behind (next r) b (next r + b) (omega arith)) in
-      absurd (omega (arith, here, there, yes, no_)))
-  | inr low ↦ omega (arith, low)
-]
 
 -- ---- what a row leaves
 

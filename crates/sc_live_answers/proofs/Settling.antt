@@ -1,5 +1,5 @@
 -- The group that gets an order, or coordinates its transaction, stays without rounds; so its leader has its promises.
-use Rattle.std.proofs.Common.{◌≡◌, ℕ, ◌*◌, ◌≤◌, ◌||◌, not, true, false, List, [], ◌∷◌, ◌++◌, length, Option, Some, ◌⊎◌, inl, inr, refl, sym, ◌∙◌, ap, subst, append-nil, append_assoc, arith}
+use Rattle.std.proofs.Common.{◌≡◌, ℕ, ◌≤◌, ◌||◌, not, true, false, List, [], ◌∷◌, ◌++◌, length, Option, Some, ◌⊎◌, inl, inr, refl, sym, ◌∙◌, ap, subst, append-nil, append_assoc, arith}
 use Rattle.std.proofs.lemmas.Bool.{cases_Bool, or_left, or_right}
 use Rattle.sc_base.specs.Definitions.{Among, Each, is_majority, is_member}
 use Rattle.sc_node_table.specs.Values.{Draw, Seat, Event, Deliver, Base, OrderLine, Mail, TxElsewhere, Node}

@@ -16,7 +16,7 @@ use Rattle.sc_scenario.specs.Definitions.{most_deliveries, IsBoundedLine, ValidS
 use Rattle.sc_scenario.specs.declared.scenarios.Asks.{Asks}
 use Rattle.sc_scenario.specs.declared.scenarios.Scenario.{Scenario}
 use Rattle.sc_scenario.specs.declared.scenarios.SchedLine.{SchedLine}
-use Rattle.sc_scenario.specs.declared.scenarios.SchedLine.TheVariants.{Go, Told, Settle, Free}
+use Rattle.sc_scenario.specs.declared.scenarios.SchedLine.TheVariants.{Go, Deliver, Told, Settle, Free}
 use Rattle.sc_sound.specs.Definitions.{client_seats, client_seat, node_seat, route_of, schedule, as_nodes, system_of}
 use Rattle.sc_law_groups.proofs.WholeProofs.Lemmas.{all_apart}
 use Rattle.sc_live_plain.specs.Definitions.{delivers, gives_order, orders_of, calm_budget_of, AllowsCalmly, CalmLinesAreSpaced}
@@ -52,6 +52,7 @@ line_low budget nodes clients (Settle most) is allows bounded = (let high = boun
 line_low budget nodes clients (Free most workers) is allows bounded = (let high = bounded.0.1 in omega (arith, allows, high))
 line_low budget nodes clients (Go client) is allows bounded = absurd (true≢false (sym is))
 line_low budget nodes clients (Told node order) is allows bounded = absurd (true≢false (sym is))
+line_low budget nodes clients (Deliver who k) is allows bounded = absurd (true≢false (sym is))
 line_low budget nodes clients _ is allows bounded = absurd allows
 
 -- so the budget is no more, where one of these delivers

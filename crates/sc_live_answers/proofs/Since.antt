@@ -1,7 +1,7 @@
 -- What the parties of an order are after some rows since a quiet journal, by what all logs record.
 use Rattle.std.proofs.Common.{◌≡◌, ℕ, false, true≢false, List, [], ◌∷◌, ◌++◌, Option, Some, None, ◌⊎◌, inl, inr, sym, ◌∙◌, ap, subst}
 use Rattle.sc_base.specs.Definitions.{Each}
-use Rattle.sc_node_table.specs.Values.{Draw, Seat, Body, Offer, Command, Split, Begin, RecordVote, Base, Coordinating, Free, Promised, Frozen, Heard, Flight}
+use Rattle.sc_node_table.specs.Values.{Draw, Seat, Body, Offer, Command, Begin, RecordVote, Base, Coordinating, Free, Promised, Frozen, Heard, Flight}
 use Rattle.sc_cmd.specs.declared.bodies.Body.TheVariants as At
 use Rattle.sc_cmd.specs.declared.votes.Vote.TheVariants as Vows
 use Rattle.sc_machine_table.specs.Definitions.{Group, frozen_of}

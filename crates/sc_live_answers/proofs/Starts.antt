@@ -1,6 +1,5 @@
 -- What a line of requests may begin with in a quiet journal.
-use Rattle.std.proofs.Common.{◌≡◌, ℕ, ◌+◌, ◌-◌, ◌||◌, eqb, Bool, true, false, cond, List, [], ◌∷◌, ◌++◌, Some, replicate, sum_by, inl, inr, refl, sym, ◌∙◌, ap, subst, arith}
-use Rattle.std.specs.Prelude.{is_some}
+use Rattle.std.proofs.Common.{◌≡◌, ℕ, eqb, Bool, true, false, cond, List, [], ◌∷◌, ◌++◌, Some, replicate, sum_by, inl, inr, refl, sym, ◌∙◌, ap, subst, arith}
 use Rattle.std.proofs.lemmas.Bool.{cond-true, cond-false, eq-eqb, cases_Bool}
 use Rattle.std.proofs.lemmas.List.Sums.{sum_by-cons}
 use Rattle.sc_base.specs.Definitions.{Among, same_draw, client_actor}
@@ -14,9 +13,8 @@ use Rattle.sc_scenario.specs.Definitions.{ValidScenariosAreBounded}
 use Rattle.sc_sound.specs.Definitions.{route_of, system_of, as_nodes}
 use Rattle.sc_live_orderly.specs.Definitions.{mail_with, is_born}
 use Rattle.sc_live_steps.specs.calm.Definitions.{IsAtRest, IsAnswered}
-use Rattle.sc_live_plain.specs.Definitions.{replicas_after, hints_left, Frame}
 use Rattle.sc_live_plain.proofs.Lemmas.{stage, node_number, replica_is, client_is}
-use Rattle.sc_live_answers.specs.Definitions.{QuietJournalsKnowOne, QuietJournalsHaveNoMail, QuietJournalsCountOnce, AreNamedOnce, QuietLeadersAreReached, command_token, flight_tokens, ready_tokens, replica_tokens}
+use Rattle.sc_live_answers.specs.Definitions.{QuietJournalsKnowOne, QuietJournalsHaveNoMail, QuietJournalsCountOnce, AreNamedOnce, command_token, flight_tokens, ready_tokens, replica_tokens}
 use Rattle.sc_live_answers.proofs.TokensIdle.{idle_once}
 use Rattle.sc_live_answers.proofs.Hinting.{no_append}
 
@@ -53,19 +51,6 @@ no_mail words scenario first rows q =
     none_with (λ (m : Mail). (system_of as_nodes words scenario).receiver m) (λ who. is_born (system_of as_nodes words scenario) who) (mails rows) (copies rows) q.none
 
 -- ---- ways
-
-none_left : (latest : ℕ) (r : ReplicaState) → r.running ≡ true → hints_left latest (Some r) ≡ 0
-none_left latest r e = ap (λ b. cond (b || is_some r.group.core.gone) 0 (1 + latest - r.top.round)) e
-
--- Each node that leads is reached, by the ways of the latest rounds.
-pub leaders_reached : QuietLeadersAreReached
-leaders_reached words scenario first rows frames latest most asks q s frame a =
-    let w = s.are frame a in
-    let lead = w.1.lead in
-    let here = w.1.newest.is_there in
-    let name : name_of lead ≡ w.0 = (q.kept w.0 lead.me lead here).name_is in
-    let there = ap (λ d. replicas_after scenario rows d lead.me) name ∙ here in
-    subst (λ (f : Frame). hints_left (latest f.core.id) (replicas_after scenario rows f.core.id f.lead) ≡ 0) w.2 (ap (hints_left (latest lead.group.core.id)) there ∙ none_left (latest lead.group.core.id) lead w.1.leads.running)
 
 -- ---- calls
 

@@ -11,7 +11,7 @@ use Rattle.sc_paxos_words.specs.declared.answers.PrepareAnswer.TheVariants as Pr
 use Rattle.sc_paxos_words.specs.declared.answers.AcceptAnswer.TheVariants as Asked
 use Rattle.sc_paxos_words.specs.Definitions.{prepared, accepted as accepted_by, AcceptorState, below, LeaderState, flight_at, promise_counted, counted, tallied, vote_at, voters_after, kept_voters}
 use Rattle.sc_paxos_words.proofs.Lemmas.{Each-append}
-use Rattle.sc_node_table.specs.Definitions.{has_act, act_queued, ended, stopped, saw, looked, executed, has_room, install_to, named, jumped, sent, pumped, ReplicaState, Place, Executed, childless, name_of, next, members, settled, set_at, last_slot, forgotten, born_replica, installed_replica, learn_row, looked_up, took_over, install_row, mailed, made_by, with_slot, asked_next, noted_outcome, standing_vote, sent_elsewhere, offered_by, offer_row, watched_by, watch_row, awaits_vote, awaits_watch, told_outcome, vote_met, vote_row, watch_met, watched_row, elsewhere_row, is_bound, outcome_row, hinted, promise_to, promised, prepare_row, accepted_to, took, accept_row, leads, promise_row, readied, vote_tallied, voted, accepted_row, nack_row}
+use Rattle.sc_node_table.specs.Definitions.{has_act, act_queued, ended, stopped, saw, looked, executed, has_room, install_to, named, jumped, sent, pumped, ReplicaState, Place, Executed, childless, name_of, next, members, settled, set_at, last_slot, forgotten, installed_replica, learn_row, looked_up, took_over, install_row, mailed, made_by, with_slot, asked_next, noted_outcome, standing_vote, sent_elsewhere, offered_by, offer_row, watched_by, watch_row, awaits_vote, awaits_watch, told_outcome, vote_met, vote_row, watch_met, watched_row, elsewhere_row, is_bound, outcome_row, hinted, promise_to, promised, prepare_row, accepted_to, took, accept_row, leads, promise_row, readied, vote_tallied, voted, accepted_row, nack_row}
 use Rattle.sc_law_walks.proofs.Lemmas.{either_way}
 use Rattle.sc_live_answers.proofs.Affairs.{Affair}
 use Rattle.sc_live_answers.proofs.WorkSaying.{one_sent, next_one_asked, vote_told, watch_told, outcome_said}
@@ -319,9 +319,6 @@ module _ (a : Affair) (g : Draw) where
   mailed_kids from _ r mails h f = tt
 
   -- ---- births, and a replica that is made of a state
-
-  born_held : (ahead me : ℕ) (base : Base) → base.core.id ≡ g → a.Is g base.core → Held a g (born_replica ahead me base)
-  born_held ahead me base named s = (named, refl, tt, tt, tt, s, (λ on. refl))
 
   installed_held : (me slot : ℕ) (base : Base) (sets : List (List ℕ)) → a.Is g base.core → Held a g (installed_replica me slot (named g base) sets)
   unfolding forgotten

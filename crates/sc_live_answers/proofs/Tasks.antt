@@ -147,9 +147,6 @@ module _ (group : Group) where
   left_were at child effect node is =
       among-member group.core.members node (among_take (staying group.core.members) group.core.members node (member-among (take (staying group.core.members) group.core.members) node is))
 
-  same_were : (x : Group × Effect) → x.0.core.members ≡ group.core.members → Were x
-  same_were x e node is = subst (λ (ms : List ℕ). is_member ms node ≡ true) e is
-
   stays_were : (effect : Effect) → Were (group, effect)
   stays_were effect node is = is
 

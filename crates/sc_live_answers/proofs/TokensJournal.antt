@@ -4,7 +4,7 @@ use Rattle.std.specs.List.{filter}
 use Rattle.std.specs.Option.{option_map}
 use Rattle.std.proofs.lemmas.List.Sums.{sum_by-append, sum_by-cons}
 use Rattle.sc_base.specs.Definitions.{Among, client_actor, same_draw}
-use Rattle.sc_node_table.specs.Values.{Draw, Op, Base, OrderLine, Mail, Answer, Node, Client, Seat, Event, Deliver, Tick, Go, Got, Row}
+use Rattle.sc_node_table.specs.Values.{Draw, Op, OrderLine, Mail, Answer, Node, Client, Seat, Event, Deliver, Tick, Go, Got, Row}
 use Rattle.sc_actor.specs.declared.rows.Input.TheVariants.{Go as GoInput}
 use Rattle.sc_actor.specs.Definitions.{mails, copies, counts_at, numbered, value, acted, input_of, System, row_of, are_apart, waiting, kth}
 use Rattle.sc_actor.proofs.PendingLemmas as pending
@@ -12,15 +12,14 @@ use Rattle.sc_actor.proofs.Lemmas.{value-snoc}
 use Rattle.sc_node_table.specs.Definitions.{NodeState, replica_of, with_replica, node_table, ReplicaState, name_of, mailed}
 use Rattle.sc_scenario.specs.declared.scenarios.Asks.{Asks}
 use Rattle.sc_scenario.specs.declared.scenarios.Scenario.{Scenario}
-use Rattle.sc_scenario.specs.Definitions.{ValidScenariosAreBounded}
 use Rattle.sc_sound.specs.Definitions.{Player, player_table, node_seat, client_seat, route_of, births, system_of, as_nodes}
 use Rattle.sc_live_orderly.specs.Definitions.{IsTidy, IsOrderly, IsInOrder, mail_with, is_born, Owing, under_way, owed, owed_by}
 use Rattle.sc_live_orderly.proofs.Lemmas.{delivered, filter_sum, after-row, is_born-from, one_changes}
 use Rattle.sc_live_plain.specs.Definitions.{IsAsking, AreFarFromLast, IsLinkedSetting, Setting, IsSetting, IsCalmNode, ComesInTime, IsBegun, Requests, IsPlainBody}
 use Rattle.sc_live_plain.proofs.AskingClients as clients_of
 use Rattle.sc_live_plain.proofs.AskingTurns as turns_of
-use Rattle.sc_live_plain.proofs.Lemmas.{IsStage, stage, Journal, of_player, unasked, Turns, step_is, aside_is, aside_answer, some_is, NodeRow, IsFor, for_node, mail_is, replica_row, mail_of}
-use Rattle.sc_live_answers.specs.Definitions.{body_token, mail_token, replica_tokens, player_token, token_owing, TokensNeverRise}
+use Rattle.sc_live_plain.proofs.Lemmas.{IsStage, Journal, of_player, unasked, Turns, step_is, aside_is, aside_answer, some_is, NodeRow, IsFor, for_node, mail_is, replica_row, mail_of}
+use Rattle.sc_live_answers.specs.Definitions.{body_token, mail_token, replica_tokens, player_token, token_owing}
 use Rattle.sc_live_answers.proofs.TokensClients.{got_tokens, go_tokens}
 use Rattle.sc_live_answers.proofs.TokensPump.{answer_token}
 use Rattle.sc_live_answers.proofs.TokensRows.{stay_row}
@@ -185,9 +184,3 @@ module _ (c : ℕ) (words : ℕ → ℕ → ℕ × ℕ) (scenario : Scenario) (b
         let born = subst (λ (seat : Seat Player). find (λ (other : Seat Player). eqb other.who seat.who) (births as_nodes scenario) ≡ Some seat) d.seat_is o.born in
         subst Falls (sym row_is) (client_falls d.asks d.is_asks born o.event (subst (λ (seat : Seat Player). IsInOrder sys rows seat.who o.event) d.seat_is o.in_order)))
   ]
-
-pub never_rise : ValidScenariosAreBounded → TokensNeverRise
-never_rise all_bounded words scenario set first others rows row c valid groups is linked t room j o =
-    let begins = stage scenario (all_bounded scenario valid) in
-    let same : first ≡ begins.first = (let e : first ∷ others ≡ begins.first ∷ begins.others = sym groups ∙ begins.groups_are in cc) in
-    falls c words scenario begins set is linked rows t (subst (λ (f : Base). IsAsking words scenario set f rows) same j) room row o

@@ -142,9 +142,6 @@ module _ (words : ℕ → ℕ → ℕ × ℕ) (scenario : Scenario) (begins : Is
 
     -- ---- what is counted
 
-    abbrev mine : List Mail
-    mine = rest (system_of as_nodes words scenario) rows (client_actor asks.client)
-
     rest_is : sum_by (mail_token asks.client) (rest (system_of as_nodes words scenario) rows (client_actor asks.client)) ≡ 1 + sum_by (mail_token asks.client) first.behind
     rest_is =
         let all = ap (sum_by (mail_token asks.client)) first.first in

@@ -8,9 +8,9 @@ use Rattle.sc_paxos_words.proofs.Lemmas.{Each-among, find_found}
 use Rattle.sc_machine_table.specs.Definitions.{applied}
 use Rattle.sc_node_table.specs.Definitions.{entered, executed_one, has_room, next_child, next_ready, ending, executed_ready, executed, pumped, ReplicaState, Place, Executed, childless, name_of, next, members, set_at, last_slot, forgotten, mailed, at_slot, with_slot, slots_ahead, leads, readied, vote_tallied, voted, accepted_row}
 use Rattle.sc_law_walks.proofs.Lemmas.{entered_next, cleared, either_way}
-use Rattle.sc_live_plain.specs.Definitions.{Frame, IsFrame, IsBegun, Requests, IsPlainCommand, IsPlainCall, IsPlainBody, IsPlainFlight, IsPlainReplica, IsPlainFollower, IsPlainVoter, IsPlainLeader, IsPlainAt, IsDue}
+use Rattle.sc_live_plain.specs.Definitions.{Frame, IsFrame, Requests, IsPlainCommand, IsPlainCall, IsPlainBody, IsPlainFlight, IsPlainReplica, IsPlainFollower, IsPlainVoter, IsPlainLeader, IsPlainAt, IsDue}
 use Rattle.sc_live_plain.proofs.Lemmas.{as_voter, learn_is, learnt_plain, learnt_follower, at_found, with_at, with_each, told_after, counted_call, call_is, leading_at, following_at, none_stops, IsServed, call_plain}
-use Rattle.sc_live_answers.specs.Definitions.{command_token, body_token, flight_tokens, ready_tokens, replica_tokens, place_tokens, TokensStay}
+use Rattle.sc_live_answers.specs.Definitions.{command_token, body_token, flight_tokens, ready_tokens, replica_tokens, place_tokens}
 use Rattle.sc_live_answers.proofs.Calls.{Goes, pumps, pump_kept, entry_goes, leaves_itself}
 use Rattle.sc_live_answers.proofs.RequestsTaking.{accept_takes}
 use Rattle.sc_live_answers.proofs.TokensPump.{IsFree, sent_token, others_token, answer_token, without_flight_tokens, taken_flight_tokens, with_voters_tokens, taken_slot_tokens, with_slot_tokens, pump_tokens, request_tokens}
@@ -221,7 +221,3 @@ module _ (c : ℕ) (begun : Requests) (frame : Frame) (is : IsFrame frame) (me f
       subst (λ (y : Command). Stay (Learn group slot y)) (sym x.3) (by_learn group slot x.0 x.1 x.2 follows.0 follows.1 plain due)
   stay_row (Answer group seq answer) k b due n = absurd (n b.1.client seq b.1.op b.1.is_begun b.1.to_is)
   stay_row _ k b due n = absurd b
-
--- While clients ask, no row of a replica raises how often a client's request is under way: as a request or an answer in mail, or as a queued request at the replica.
-pub tokens_stay : TokensStay
-tokens_stay scenario rows frame c me from body r is room k b due n = stay_row c (IsBegun scenario rows) frame is me from r room body k b due n

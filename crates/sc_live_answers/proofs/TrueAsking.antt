@@ -39,9 +39,6 @@ module _ (words : ℕ → ℕ → ℕ × ℕ) (scenario : Scenario) (first : Bas
     | inr new ↦ inr new
   ]
 
-  abbrev pub old_errands : Draw → List Errand
-  old_errands name = errands_for name (one.takes.before ++ one.takes.behind)
-
   pub errands_are : (name : Draw) → errands_for name (left_after (with_event rows seat (Deliver number))) ≡ errands_for name (one.takes.before ++ one.takes.behind) ++ errands_for name sent_now
   errands_are name = ap (errands_for name) after_is ∙ errands-append name (one.takes.before ++ one.takes.behind) sent_now
 
@@ -71,9 +68,6 @@ module _ (words : ℕ → ℕ → ℕ × ℕ) (scenario : Scenario) (first : Bas
 
     none_some : {X : Type 0} {x : X} → None ≡ Some x → ⊥
     none_some e = cc
-
-    some_same : (a b : ReplicaState) → Some a ≡ Some b → a ≡ b
-    some_same a b e = cc
 
     module _ (node : NodeState) (is : value player_table seat rows ≡ Node node) where
       found : replica_of name node.replicas ≡ Some r

@@ -75,9 +75,6 @@ module _ (tells : ReplicasTell) (words : ℕ → ℕ → ℕ × ℕ) (scenario :
 
   -- ---- what was executed
 
-  Fresh : Type 0
-  Fresh = (deal : Deal) (node host : ℕ) → stage ≡ Asks deal node → IsAt (Weighs deal host) after → Has (doer deal.asked host [])
-
   going : (later : Stage) → GoesBy rows (Deliver number) stage later → stage ≡ Still → ⊥
   going later goes still = goes.begins still
 

@@ -3,13 +3,13 @@ use Rattle.sc_live_answers.proofs.Told.{replicas_tell as replicas_tell_by, outco
 use Rattle.sc_scenario.proofs.Lemmas.{valid_scenarios_are_bounded}
 use Rattle.sc_law_groups.proofs.WholeProofs.Lemmas.{valid_scenarios_begin_well, valid_journals_are_sound, valid_entries_are_logs}
 use Rattle.sc_law_entries.proofs.NamesProofs.Lemmas.{orders_are_allowed_allowed, orders_are_allowed_wishes, orders_are_allowed_positions, names_have_one_owner_others, counters_part_names, drawn_names_are_new_drawn}
-use Rattle.sc_live_answers.specs.Definitions.{ReplicasTell, OutcomesAreTaken, MailComesUnsettled, AskedGroupsStood, TrueOrdersGoOn, TrueOrdersBegin, VotesAreTrue, RecordsAreTrue, FinishesAreTrue, EntriesAreTrue, SettledOrdersBegin, SettledOrdersGoOn, CoordinatorsAreSettled, HintedOrdersGoOn}
+use Rattle.sc_live_answers.specs.Definitions.{ReplicasTell, OutcomesAreTaken, MailComesUnsettled, AskedGroupsStood, TrueOrdersGoOn, TrueOrdersBegin, VotesAreTrue, RecordsAreTrue, EntriesAreTrue, SettledOrdersBegin, SettledOrdersGoOn, CoordinatorsAreSettled, HintedOrdersGoOn}
 use Rattle.sc_live_answers.proofs.Unsettled.{mail_unsettled}
 use Rattle.sc_live_answers.proofs.Took.{asked_groups_stood as asked_groups_stood_by, true_goes_on}
 use Rattle.sc_live_answers.proofs.TrueBeginning.{true_begins}
 use Rattle.sc_live_answers.proofs.TrueEntries.{votes_true}
 use Rattle.sc_live_answers.proofs.Records.{records_true}
-use Rattle.sc_live_answers.proofs.Finishes.{finishes_true, entries_true}
+use Rattle.sc_live_answers.proofs.Finishes.{entries_true}
 use Rattle.sc_live_answers.proofs.Settling.{settled_begin, settled_go_on, coordinators_settle}
 use Rattle.sc_live_answers.proofs.TrueHinted.{hinted_go_on}
 
@@ -50,10 +50,6 @@ votes_are_true = votes_true replicas_tell valid_journals_are_sound valid_entries
 -- So are the votes that a coordinator has in flight: a participant's Yes decides, or asks a watcher that is another group, and a watcher's vote decides.
 pub records_are_true : RecordsAreTrue
 records_are_true = records_true replicas_tell valid_journals_are_sound valid_entries_are_logs
-
--- So is an outcome that a party has in flight: it can be taken there.
-pub finishes_are_true : FinishesAreTrue
-finishes_are_true = finishes_true replicas_tell valid_journals_are_sound valid_entries_are_logs outcomes_are_taken
 
 -- Each command that a leader has in flight of an order since a quiet journal is true.
 pub entries_are_true : EntriesAreTrue

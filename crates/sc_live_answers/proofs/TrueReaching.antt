@@ -36,9 +36,6 @@ module _ (tells : ReplicasTell) (words : ℕ → ℕ → ℕ × ℕ) (scenario :
   abbrev next : Rows
   next = with_event rows seat (Deliver number)
 
-  abbrev Reaches : Draw → ℕ → Type 0
-  Reaches name n = HasReplica (replicas_after scenario quiet) name n
-
   pub true_flight : (name : Draw) (node : ℕ) (r : ReplicaState) → view_at (births as_nodes scenario) rows name node ≡ Some r → r.running ≡ true → (flight : Flight Command) → Among flight r.leader.flights → IsTrueEntry r.me r.group flight.value
   true_flight name node r has runs flight among = Each-among (λ (x : Flight Command). IsTrueEntry r.me r.group x.value) r.leader.flights flight (trues name node r has runs) among
 

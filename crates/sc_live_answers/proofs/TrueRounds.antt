@@ -107,9 +107,6 @@ module _ (at : Sets) (over : Ends) (by : Tellers) (words : ℕ → ℕ → ℕ �
       row_quiet (progress_at births rows base course) (progress_at births (with_event rows seat event) base later) seat.who _ _ _ _ (rows_are words births rows (row_of player_table seat rows event) base course later timely) none sends
 
   module _ (x : ReplicaState) (after : ReplicaState) (x_has : view_at births rows base.core.id seat.who ≡ Some x) (x_runs : x.running ≡ true) (is : view_at births (with_event rows seat event) base.core.id seat.who ≡ Some after) where
-    same_some : (a b : ReplicaState) → Some a ≡ Some b → a ≡ b
-    same_some a b e = cc
-
     here : host ≡ seat.who
     here = leads.1 ∙ sym (was.followed.given.gives seat.who x x_has x_runs).1
 

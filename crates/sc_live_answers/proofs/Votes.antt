@@ -107,9 +107,6 @@ module _ (words : ℕ → ℕ → ℕ × ℕ) (births : List (Seat Player)) (row
   abbrev g : IsGuided words births rows seat (Deliver number) base
   g = h.guided
 
-  abbrev name : Draw
-  name = base.core.id
-
   own_name : r.group.core.id ≡ base.core.id
   own_name = found_name base.core.id node.replicas r h.here
 

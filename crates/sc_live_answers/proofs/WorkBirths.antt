@@ -23,9 +23,6 @@ module _ (group : Group) where
   abbrev pub IsBirth : Group × Effect → Option Base → Type 0
   IsBirth x o = ((o ≡ None) × Same x) ⊎ ((at : ℕ) × (child : Draw) × (o ≡ Some (child_of group at child)) × (x.0.core.born ≡ group.core.born ++ child ∷ []))
 
-  none_born : (x : Group × Effect) (o : Option Base) → o ≡ None → Same x → IsBirth x o
-  none_born x o n s = inl (n, s)
-
   -- ---- a split
 
   ordered_birth : (gone : Option Route) (why : Option OrderRefusal) (at : ℕ) (child : Draw) (order : ℕ) → IsBirth (ordered gone why (split_group group at child order) group) (ordered_child gone why group at child)
@@ -175,18 +172,6 @@ module _ (group : Group) where
 -- it does
 abbrev pub HasBorn : Draw → List Draw → Type 0
 HasBorn name born = list_any (λ other. same_draw other name) born ≡ true
-
-or_left : (b c : Bool) → b ≡ true → b || c ≡ true
-or_left true c e = refl
-or_left false c e = absurd (true≢false (sym e))
-
-any_more_by : {X : Type 0} (b : Bool) (p : X → Bool) (xs ys : List X) → (list_any p xs ≡ true → list_any p (xs ++ ys) ≡ true) → b || list_any p xs ≡ true → b || list_any p (xs ++ ys) ≡ true
-any_more_by true p xs ys more e = refl
-any_more_by false p xs ys more e = more e
-
-any_last_by : {X : Type 0} (b : Bool) (p : X → Bool) (xs : List X) → list_any p xs ≡ true → b || list_any p xs ≡ true
-any_last_by true p xs k = refl
-any_last_by false p xs k = k
 
 or_nothing : (b : Bool) → b || false ≡ true → b ≡ true
 or_nothing true e = refl

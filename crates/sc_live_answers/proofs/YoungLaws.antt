@@ -2,8 +2,8 @@
 use Rattle.sc_live_answers.proofs.Staying.{groups_stay}
 use Rattle.sc_live_journals.proofs.GroupsProofs.Lemmas.{scenarios_are_well_born}
 use Rattle.sc_live_answers.proofs.LedLaws.{children_are_begun, replicas_run_logs, groups_are_taught}
-use Rattle.sc_live_answers.specs.Definitions.{YoungGroupsStay, GroupsAreQuietWhileYoung, ChildrenWereNowhere, ChildrenAreBorne}
-use Rattle.sc_live_answers.proofs.Children.{quiet_while_young, children_were}
+use Rattle.sc_live_answers.specs.Definitions.{YoungGroupsStay, ChildrenWereNowhere, ChildrenAreBorne}
+use Rattle.sc_live_answers.proofs.Children.{children_were}
 use Rattle.sc_live_journals.proofs.MailProofs.Lemmas.{replicas_last, slots_are_left}
 use Rattle.sc_live_answers.proofs.WorkLaws.{deliveries_keep_work}
 use Rattle.sc_live_answers.proofs.YoungMembers.{children_borne}
@@ -16,10 +16,6 @@ use Rattle.sc_live_steps.proofs.FollowingProofs.Lemmas.{quiet_members_know}
 -- A group that was nowhere in a quiet journal stays as it begins while an order is under way: once the order is given, and by each delivery.
 pub young_groups_stay : YoungGroupsStay
 young_groups_stay = groups_stay scenarios_are_well_born children_are_begun
-
--- While an order is under way, nothing of a group comes to a first member that has no replica of it yet.
-pub groups_are_quiet_while_young : GroupsAreQuietWhileYoung
-groups_are_quiet_while_young = quiet_while_young replicas_last
 
 -- Each child that a row makes then is of a group that was nowhere in the quiet.
 pub children_were_nowhere : ChildrenWereNowhere

@@ -1,8 +1,9 @@
 //! Calm scenarios are answered, at their budget or where no line was cut off. Definitions and laws, no logic.
 ghost use Rattle.sc_live_answers.specs.Answered.{CalmJournalsGoOn, CalmLinesSettle, CalmRequestsAreAnswered, SettledRequestsAreAnswered};
+ghost use Rattle.sc_live_plain.specs.Laws.{PlainRequestsAreAnswered};
 
 use sc_law_groups::valid_journals_are_sound;
-use sc_live_plain::{plain_journals_are_answered, plain_lines_end_quiet};
+use sc_live_plain::{plain_journals_are_light, plain_lines_end_quiet};
 use sc_scenario::valid_scenarios_are_bounded;
 
 /// Proves that a valid calm scenario at its budget that gives an order has charts as `AreCharted`
@@ -47,4 +48,16 @@ pub fn settled_requests_are_answered()
     valid_scenarios_are_bounded();
     valid_journals_are_sound();
     calm_journals_go_on();
+}
+
+/// Proves that in each whole lawful journal of a valid plain scenario at its budget every request
+/// is answered of a client whose `go` line is followed by a line of deliveries: the client kept a
+/// reply to each of its requests. A plain scenario is a calm one without orders, and at its budget
+/// none of its lines is cut off.
+pub fn plain_journals_are_answered()
+    ensures { PlainRequestsAreAnswered }
+{
+    plain_lines_end_quiet();
+    plain_journals_are_light();
+    settled_requests_are_answered();
 }

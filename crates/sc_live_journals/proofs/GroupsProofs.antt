@@ -10,7 +10,6 @@ pub mod Learns
 pub mod Mails
 pub mod Others
 pub mod Resting
-pub mod Rising
 pub mod Rows
 pub mod Sending
 pub mod SlotLists

@@ -9,5 +9,4 @@ pub mod Over
 pub mod Posting
 pub mod Walks
 pub mod PartWalks
-pub mod Works
 pub mod Lemmas

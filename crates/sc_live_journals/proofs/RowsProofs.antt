@@ -9,8 +9,6 @@ pub mod Leading
 pub mod Learning
 pub mod Mailing
 pub mod Marking
-pub mod Others
-pub mod Owning
 pub mod Scenes
 pub mod Silent
 pub mod Staying

@@ -1,9 +1,7 @@
 pub mod Asked
-pub mod Begun
 pub mod Counting
 pub mod Delivered
 pub mod Doing
-pub mod Fit
 pub mod Found
 pub mod Fresh
 pub mod Joining

@@ -39,14 +39,6 @@ module _ {M : Type 0} (test : M → Bool) where
   mail_with-ones [] = refl
   mail_with-ones (m ∷ sent) = ones_by (test m) m (mail_with test sent (replicate (length sent) 1)) (filter test sent) (mail_with-ones sent)
 
-  nothing : (b : Bool) (m : M) (xs : List M) → cond b (replicate 0 m) [] ++ xs ≡ xs
-  nothing true m xs = refl
-  nothing false m xs = refl
-
-  none_number : (b : Bool) (first : ℕ) (xs : List ℕ) → cond b (replicate 0 first) [] ++ xs ≡ xs
-  none_number true first xs = refl
-  none_number false first xs = refl
-
   behind : (first : ℕ) (m : M) (sent : List M) (c : ℕ) (counts : List ℕ) (number : ℕ) → cond (test m) (replicate c m) [] ≡ [] → Foremost test (suc first) sent counts number → Foremost test first (m ∷ sent) (c ∷ counts) number
   behind first m sent c counts number none f = record {
     place = suc f.place;
@@ -140,13 +132,6 @@ module _ {M : Type 0} (test : M → Bool) where
         by : (b : Bool) → length (mail_with test sent counts) ≤ sum_by owes (mail_with test sent counts) → length (cond b (replicate c m) [] ++ mail_with test sent counts) ≤ sum_by owes (cond b (replicate c m) [] ++ mail_with test sent counts)
         by true le = copies_count c m (mail_with test sent counts) all.0 le
         by false le = le
-
--- tests that agree pass the same mail, and the same numbers
-pub mail_with-agree : {M : Type 0} (p q : M → Bool) → ((m : M) → p m ≡ q m) → (sent : List M) (counts : List ℕ) → mail_with p sent counts ≡ mail_with q sent counts
-mail_with-agree p q agree [] counts = refl
-mail_with-agree p q agree (m ∷ sent) [] = refl
-mail_with-agree p q agree (m ∷ sent) (c ∷ counts) =
-    ap (λ b. cond b (replicate c m) [] ++ mail_with p sent counts) (agree m) ∙ ap (λ xs. cond (q m) (replicate c m) [] ++ xs) (mail_with-agree p q agree sent counts)
 
 pub numbers-agree : {M : Type 0} (p q : M → Bool) → ((m : M) → p m ≡ q m) → (first : ℕ) (sent : List M) (counts : List ℕ) → numbers p first sent counts ≡ numbers q first sent counts
 numbers-agree p q agree first [] counts = refl

@@ -1,5 +1,5 @@
 -- The induction over plain journals: how it begins, and what is owed at birth.
-use Rattle.std.proofs.Common.{◌≡◌, ℕ, zero, suc, ◌+◌, ◌-◌, ◌*◌, ◌<◌, ◌≤◌, ◌&&◌, not, ltb, eqb, true, false, cond, List, [], ◌∷◌, ◌++◌, length, map, filter, take, get_or, Option, Some, None, inl, inr, refl, sym, ◌∙◌, ap, subst, arith}
+use Rattle.std.proofs.Common.{◌≡◌, ℕ, zero, suc, ◌+◌, ◌-◌, ◌*◌, ◌<◌, ◌≤◌, ◌&&◌, not, ltb, eqb, true, false, cond, List, [], ◌∷◌, ◌++◌, length, map, filter, take, get_or, Some, None, inl, inr, refl, sym, ◌∙◌, ap, subst, arith}
 use Rattle.std.specs.List.{sum_by, All, AllPairs}
 use Rattle.std.specs.Ordering.{nat_cmp}
 use Rattle.std.specs.Cmp.Lexicographic.{slice_cmp}
@@ -250,9 +250,6 @@ module _ (scenario : Scenario) (bounded : IsBounded scenario) where
       omega (arith, within, product, most)
 
   -- ---- what stands in a group
-
-  abbrev first_replica : Frame → ℕ → Option ReplicaState
-  first_replica frame me = replica_at scenario [] frame.core.id me
 
   -- the replica of a node that votes in the group
   first_found : (frame : Frame) → Among frame (frames_of scenario) → (slot me : ℕ) → is_member (frame.at slot) me ≡ true → (b : Base) × (replica_at scenario [] frame.core.id me ≡ Some (born_replica slots_ahead me b))

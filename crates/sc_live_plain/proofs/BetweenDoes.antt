@@ -30,9 +30,6 @@ taken_once r one two a b = elim (cases_lt one two) [
         omega (arith, first, second, none, some))
 
 module _ (begun : Requests) (frame : Frame) (is : IsFrame frame) where
-  abbrev name : Draw
-  name = frame.core.id
-
   here : (group : Draw) (m : Mark) → group ≡ frame.core.id → cond (same_draw group frame.core.id) m Other ≡ m
   here group m e = cond-true (same_draw group frame.core.id) m Other (same_name group frame.core.id e)
 

@@ -14,7 +14,7 @@ use Rattle.sc_scenario.specs.declared.scenarios.Scenario.{Scenario}
 use Rattle.sc_sound.specs.Definitions.{Player, player_table, node_seat, births, system_of, as_nodes}
 use Rattle.sc_live_orderly.specs.Definitions.{IsTidy, IsOrderly, IsInOrder, rest, mail_for, taken, deliveries, owed, owed_at_birth, owed_by}
 use Rattle.sc_live_orderly.proofs.Lemmas.{IsPaid, pays, TakesFirst, takes_first, is_born-from, rest-row}
-use Rattle.sc_live_plain.specs.Definitions.{mark, marks_for, marks_at, next_in, replica_at, IsOther, player_owes, mail_owes, IsBegun, Requests, IsPlainMail}
+use Rattle.sc_live_plain.specs.Definitions.{mark, marks_for, marks_at, next_in, replica_at, IsOther, player_owes, mail_owes, IsBegun, IsPlainMail}
 use Rattle.sc_live_plain.proofs.BetweenAll.{owing_of, IsNodeAt, IsPlainJournal}
 use Rattle.sc_live_plain.proofs.BetweenBegun.{mail_more, node_more}
 use Rattle.sc_live_plain.proofs.BetweenGroups.{due, group_idle, group_after}
@@ -51,9 +51,6 @@ module _ (words : ℕ → ℕ → ℕ × ℕ) (scenario : Scenario) (stage : IsS
   -- ---- a node takes a mail
 
   module _ (rows : Journal) (t : IsTidy rows) (j : IsPlainJournal words scenario stage rows) (me : ℕ) (one : 1 ≤ me) (most : me ≤ scenario.nodes) (born : find (λ (other : Seat Player). eqb other.who me) (births as_nodes scenario) ≡ Some (node_seat as_nodes scenario.groups scenario.policy me)) where
-    abbrev begun : Requests
-    begun = IsBegun scenario rows
-
     pub n : IsNodeAt words scenario stage rows me
     n = j.nodes me one most
 

@@ -57,9 +57,6 @@ module _ (begun : Requests) (short : (client seq : ℕ) (op : Op) → begun clie
 
 -- ---- what rows count
 
-weigh : Mail → ℕ
-weigh mail = body_weight mail.body
-
 mails_low : (sent : List Mail) → Each (λ mail. body_weight mail.body ≤ 576) sent → sum_by (mail_bytes (λ mail. body_weight mail.body)) sent ≤ 832 * length sent
 mails_low [] e = omega arith
 mails_low (mail ∷ sent) e =

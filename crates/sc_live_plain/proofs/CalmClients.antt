@@ -51,15 +51,6 @@ set_each P group [] way p e = tt
 set_each P group (k ∷ ks) way p e =
     cond_both (same_draw group k.0) ((k.0, way) ∷ ks) (k ∷ set_value (same_draw group) ks way) (Each P) (λ t. (subst (λ d. P (d, way)) (draw_is group k.0 t) p, e.1)) (λ f. (e.0, set_each P group ks way p e.1))
 
-set_lookup : (group : Draw) (known : KnownGroups) (before way : Way) → way_to group known ≡ Some before → way_to group (set_value (same_draw group) known way) ≡ Some way
-set_lookup group [] before way e = cc
-set_lookup group (k ∷ ks) before way e =
-    elim (cases_Bool (same_draw group k.0)) [
-      | inl t ↦ ap (way_to group) (cond-true (same_draw group k.0) ((k.0, way) ∷ ks) (k ∷ set_value (same_draw group) ks way) t) ∙ cond-true (same_draw group k.0) (Some way) (way_to group ks) t
-      | inr f ↦ ap (way_to group) (cond-false (same_draw group k.0) ((k.0, way) ∷ ks) (k ∷ set_value (same_draw group) ks way) f)
-          ∙ (cond-false (same_draw group k.0) (Some k.1) (way_to group (set_value (same_draw group) ks way)) f ∙ set_lookup group ks before way (sym (cond-false (same_draw group k.0) (Some k.1) (way_to group ks) f) ∙ e))
-    ]
-
 push_each : (P : Draw × Way → Type 0) (known : KnownGroups) (entry : Draw × Way) → Each P known → P entry → Each P (known ++ entry ∷ [])
 push_each P [] entry e p = (p, tt)
 push_each P (k ∷ ks) entry e p = (e.0, push_each P ks entry e.1 p)

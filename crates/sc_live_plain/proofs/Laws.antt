@@ -1,20 +1,13 @@
 -- Laws that follow from lemmas of this crate and of those below.
 use Rattle.sc_live_plain.proofs.Ends.{ends_quiet}
 use Rattle.sc_scenario.proofs.Lemmas.{valid_scenarios_are_bounded}
-use Rattle.sc_live_plain.specs.Definitions.{PlainLinesEndQuiet, RequestsLower, RequestsGoOn, QuietJournalsAsk, LinesAreAnswered}
-use Rattle.sc_live_plain.proofs.CalmRows.{mail_lowers}
-use Rattle.sc_live_steps.proofs.CalmProofs.Lemmas.{asks_lower, answers_lower, learns_lower, call_votes_lower}
+use Rattle.sc_live_plain.specs.Definitions.{PlainLinesEndQuiet, RequestsGoOn, QuietJournalsAsk}
 use Rattle.sc_live_plain.proofs.AskingClients.{go_on}
 use Rattle.sc_live_plain.proofs.AskingBegins.{quiet_ask}
-use Rattle.sc_live_plain.proofs.AskingLines.{lines_answered}
 
 -- In each lawful journal of a valid plain scenario at its budget no line of deliveries is cut off: each ends with no mail pending, whatever the order in which threads deliver, as long as each actor takes its mail in ascending order of number, which lawful journals of such schedules do.
 pub plain_lines_end_quiet : PlainLinesEndQuiet
 plain_lines_end_quiet = ends_quiet valid_scenarios_are_bounded
-
--- The mail of requests lowers what is owed in a calm journal at each replica that takes it, also at one of a node that left, and at one that answers only whom to ask or where its group went.
-pub requests_lower : RequestsLower
-requests_lower = mail_lowers asks_lower answers_lower learns_lower call_votes_lower
 
 -- Between two orders, while clients ask alone, each row that comes in order keeps all of it: calm nodes and clients, calm mail, and what stands between the leader of each group and its nodes.
 pub requests_go_on : RequestsGoOn
@@ -23,7 +16,3 @@ requests_go_on = go_on valid_scenarios_are_bounded
 -- From a quiet journal on clients may ask: its replicas give the frames of all groups that stand, and all that holds while clients ask alone.
 pub quiet_journals_ask : QuietJournalsAsk
 quiet_journals_ask = quiet_ask valid_scenarios_are_bounded
-
--- Where clients ask alone, from a journal in which no request waits, and no mail is left at the end, no request waits then either: each client that has started has all replies.
-pub lines_are_answered : LinesAreAnswered
-lines_are_answered = lines_answered valid_scenarios_are_bounded

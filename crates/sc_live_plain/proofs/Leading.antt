@@ -140,9 +140,6 @@ early_taken r taken a = all r.ready (λ entry among. (let some = entry_counts r.
 
 -- ---- what is under way is no act
 
-abbrev NoAct : Command → Type 0
-NoAct c = is_act c ≡ false
-
 pub plain_acts : (begun : Requests) (frame : Frame) (c : Command) → IsPlainCommand begun frame c → is_act c ≡ false
 plain_acts begun frame (Call client seq op) p = refl
 plain_acts begun frame _ p = absurd p

@@ -37,5 +37,4 @@ pub use Rattle.sc_live_plain.proofs.AskingClients.{asking_row}
 pub use Rattle.sc_live_plain.proofs.AskingBegins.{quiet_ask}
 pub use Rattle.sc_live_plain.proofs.AskingSought.{AreSought, IsSought, sought_row}
 pub use Rattle.sc_live_plain.proofs.AskingLines.{lines_answered}
-pub use Rattle.sc_live_plain.proofs.HintsRise.{hints_rise as quiet_hints_rise}
-pub use Rattle.sc_live_plain.proofs.Laws.{plain_lines_end_quiet, requests_lower, requests_go_on, quiet_journals_ask, lines_are_answered}
+pub use Rattle.sc_live_plain.proofs.Laws.{plain_lines_end_quiet, requests_go_on, quiet_journals_ask}

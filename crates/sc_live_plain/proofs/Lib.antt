@@ -20,7 +20,6 @@ pub mod BetweenViews
 pub mod QuietAnswered
 pub mod QuietLeader
 pub mod QuietSought
-pub mod QuietSteps
 pub mod QuietTurns
 pub mod Counts
 pub mod Served
@@ -57,6 +56,5 @@ pub mod AskingClients
 pub mod AskingBegins
 pub mod AskingSought
 pub mod AskingLines
-pub mod HintsRise
 pub mod Laws
 pub mod Lemmas

@@ -94,9 +94,6 @@ module _ (begun : Requests) (frame : Frame) (is : IsFrame frame) (first free : â
     command : Command
     command = Call client seq op
 
-    flight : Flight Command
-    flight = record { slot = slot; value = Call client seq op; voters = None }
-
     body : MailBody
     body = Accept (name_of r) r.leader.ballot slot (Call client seq op)
 

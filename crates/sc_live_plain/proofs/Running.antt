@@ -27,15 +27,6 @@ module _ (begun : Requests) (frame : Frame) (is : IsFrame frame) (first free : �
   -- ---- the ready call of the next slot
 
   module _ (taken : ℕ) (r : ReplicaState) (mails : List Mail) (client seq : ℕ) (op : Op) (end : next r + (taken + 1) ≡ free) (ready : at_slot r.ready (next r) ≡ Some (Call client seq op)) (k : L (taken + 1) (r, mails)) where
-    abbrev n : ℕ
-    n = next r
-
-    abbrev command : Command
-    command = Call client seq op
-
-    abbrev e : ReplicaState
-    e = entered (Call client seq op) r
-
     abbrev after : ReplicaState
     after = (cleared (next r) (entered (Call client seq op) r, mails)).0
 

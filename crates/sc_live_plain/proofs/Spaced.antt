@@ -1,5 +1,5 @@
 -- Orders of a calm scenario stand alone between lines of deliveries.
-use Rattle.std.proofs.Common.{◌≡◌, ℕ, List, [], ◌∷◌, ◌++◌, ◌||◌, ◌&&◌, Bool, true, false, true≢false, map, refl, sym, ap, subst, arith, append_assoc, ◌⊎◌, inl, inr}
+use Rattle.std.proofs.Common.{◌≡◌, ℕ, List, [], ◌∷◌, ◌++◌, ◌||◌, ◌&&◌, Bool, true, false, true≢false, map, refl, sym, ap, subst, arith, ◌⊎◌, inl, inr}
 use Rattle.std.specs.List.{list_any}
 use Rattle.sc_base.specs.Definitions.{Each}
 use Rattle.sc_node_table.specs.Values.{OrderLine}
@@ -118,6 +118,14 @@ none_given budget [] after (Told node order) plain gives = plain.0
 none_given budget [] after _ plain gives = absurd (true≢false (sym gives))
 none_given budget (line ∷ before) after one plain gives = none_given budget before after one plain.1 gives
 
+none_first : (budget : ℕ) (before between after : List SchedLine) (one : SchedLine) → Each (AllowsDeliveries budget) (before ++ one ∷ between ++ after) → gives_order one ≡ true → ⊥
+none_first budget [] between after one plain gives = none_given budget [] (between ++ after) one plain gives
+none_first budget (line ∷ before) between after one plain gives = none_first budget before between after one plain.1 gives
+
+none_second : (budget : ℕ) (before between after : List SchedLine) (one other : SchedLine) → Each (AllowsDeliveries budget) (before ++ one ∷ between ++ other ∷ after) → gives_order other ≡ true → ⊥
+none_second budget [] between after one other plain gives = none_given budget between after other plain.1 gives
+none_second budget (line ∷ before) between after one other plain gives = none_second budget before between after one other plain.1 gives
+
 -- so none of two that are parted
 parted_gives : (one other : SchedLine) → are_parted one other ≡ true → (gives_order one ≡ true) ⊎ (gives_order other ≡ true)
 parted_gives one other parted = by (gives_order one) (gives_order other) (starts one) (starts other) parted
@@ -137,8 +145,8 @@ roomy_calm = record {
     parted = λ before between after one other e parted. (
         let all = subst (Each (AllowsDeliveries (budget_of scenario))) e plain in
         elim (parted_gives one other parted) [
-          | inl gives ↦ absurd (none_given (budget_of scenario) before (between ++ other ∷ after) one all gives)
-          | inr gives ↦ absurd (none_given (budget_of scenario) (before ++ one ∷ between) after other (subst (Each (AllowsDeliveries (budget_of scenario))) (sym (append_assoc before (one ∷ between) (other ∷ after))) all) gives)
+          | inl gives ↦ absurd (none_first (budget_of scenario) before between (other ∷ after) one all gives)
+          | inr gives ↦ absurd (none_second (budget_of scenario) before between after one other all gives)
         ]);
   };
 }

@@ -1,4 +1,4 @@
-//! Plain scenarios are answered within their budget. Each delivery lowers a potential, an upper
+//! Plain scenarios end quiet within their budget. Each delivery lowers a potential, an upper
 //! bound of the deliveries that are still to come, by at least one; so no line of deliveries ends
 //! with mail pending. Definitions and laws, no logic.
 //!
@@ -8,7 +8,7 @@
 //! no mail pending, from which on clients may ask.
 #![tactic(auto)]
 
-ghost use Rattle.sc_live_plain.specs.Laws.{MadeScenariosAreAtBudget, PlainJournalsAreLight, PlainLinesEndQuiet, PlainRequestsAreAnswered};
+ghost use Rattle.sc_live_plain.specs.Laws.{MadeScenariosAreAtBudget, PlainJournalsAreLight, PlainLinesEndQuiet};
 
 use sc_scenario::valid_scenarios_are_bounded;
 
@@ -18,16 +18,6 @@ use sc_scenario::valid_scenarios_are_bounded;
 pub fn plain_lines_end_quiet()
     ensures { PlainLinesEndQuiet }
 {}
-
-/// Proves that in each whole lawful journal of a valid plain scenario at its budget every request
-/// is answered of a client whose `go` line is followed by a line of deliveries: the client kept a
-/// reply to each of its requests.
-pub fn plain_journals_are_answered()
-    ensures { PlainRequestsAreAnswered }
-{
-    valid_scenarios_are_bounded();
-    plain_lines_end_quiet();
-}
 
 /// Proves that no lawful journal of a valid plain scenario at its budget counts more than 2^30
 /// bytes, the limit of journals. A line has room for at most 1,000,000 deliveries, so the journal

@@ -23,7 +23,6 @@ pub mod Nodes
 pub mod Offers
 pub mod Ordered
 pub mod Orderly
-pub mod Own
 pub mod OwnMarks
 pub mod Owning
 pub mod Polled
@@ -31,5 +30,4 @@ pub mod Spoken
 pub mod TableHints
 pub mod Taught
 pub mod Voted
-pub mod Laws
 pub mod Lemmas

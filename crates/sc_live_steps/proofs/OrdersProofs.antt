@@ -2,7 +2,6 @@ pub mod Begun
 pub mod Decided
 pub mod Errands
 pub mod Filing
-pub mod Following
 pub mod InQuiet
 pub mod Lists
 pub mod Moves

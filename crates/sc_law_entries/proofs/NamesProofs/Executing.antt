@@ -111,9 +111,6 @@ module _ (K : Draw → Type 0) where
   unfolding left
   left_names (r, mails) f = either_way F r.running (left_gone r.group.core.gone (r, mails)) (r, mails) (left_gone_names r.group.core.gone (r, mails) f.0.core.gone f) f
 
-  hinted_names : (r : ReplicaState) (hint : Option ℕ) → R r → R (record r { hint = hint })
-  hinted_names r hint k = k
-
   looked_for_names : (gone : Option Route) (place : Place) → F place → F (looked_for gone place)
   looked_for_names (Some into) place f = f
   looked_for_names None (r, mails) f =

@@ -11,7 +11,7 @@ pub use Rattle.sc_law_groups.proofs.WholeProofs.Growing.{grown}
 pub use Rattle.sc_law_groups.proofs.WholeProofs.Journals.{holds}
 pub use Rattle.sc_law_groups.proofs.WholeProofs.Members.{members_stay_rosters}
 pub use Rattle.sc_law_groups.proofs.WholeProofs.Scheduled.{orders_allowed}
-pub use Rattle.sc_law_groups.proofs.WholeProofs.Seats.{all_apart, all_numbered}
+pub use Rattle.sc_law_groups.proofs.WholeProofs.Seats.{all_apart}
 pub use Rattle.sc_law_groups.proofs.WholeProofs.Sound.{lawful_journals_decide_in_turn, fewer_orders}
 pub use Rattle.sc_law_groups.proofs.WholeProofs.Speaking.{stands_heard, stands_offer, stands_watch}
 pub use Rattle.sc_law_groups.proofs.WholeProofs.Starts.{bases_from, first_and_others}

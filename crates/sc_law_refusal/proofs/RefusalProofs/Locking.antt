@@ -127,10 +127,6 @@ module _ (group : Group) where
 
   -- ---- what a coordinator decides
 
-  committed_turns : (plan : Plan) (tx : Draw) → ((g : Group) (o : Outcome) → plan ≡ Some (g, o) → g.core.id ≡ group.core.id) → T (committed plan group tx)
-  committed_turns None tx f = same _
-  committed_turns (Some (g, o)) tx f = record { name = f g o refl; lock = inl refl }
-
   -- a plan that is carried out keeps the name
   planned : (b : Bool) (g : Group) (o : Outcome) (tx : Draw) → g.core.id ≡ group.core.id → T (committed (cond b (Some (g, o)) None) group tx)
   planned true g o tx e = record { name = e; lock = inl refl }
@@ -178,10 +174,6 @@ module _ (group : Group) where
   watch_turns (Coordinating locked body order heard) tx vote = either_turns _ _ _ (either_turns _ _ _ (watched_turns vote body heard tx) (same _)) (same _)
 
   -- ---- what a party takes over
-
-  settled_turns : (o : Option Group) (tx : Draw) (outcome : Outcome) → ((g : Group) → o ≡ Some g → g.core.id ≡ group.core.id) → T (settled_in o group tx outcome)
-  settled_turns None tx outcome f = same _
-  settled_turns (Some g) tx outcome f = record { name = f g refl; lock = inl refl }
 
   -- an arc or a member that changes keeps the name
   maybe_turns : (b : Bool) (g : Group) (tx : Draw) (outcome : Outcome) → g.core.id ≡ group.core.id → T (settled_in (cond b (Some g) None) group tx outcome)

@@ -231,7 +231,3 @@ module _ (at : Sets) (over : Ends) (by : Tellers) (words : ℕ → ℕ → ℕ �
 pub events_go_on : EventsGoOn
 events_go_on at over by words births journal base wb one so rows seat event course row born calm timely was =
     by_player at over by words births journal base wb one so rows seat course born was (value player_table seat rows) event refl row calm timely
-
--- So each event of a player in a calm journal leaves a group well led whose log is one, and whose mail is sent so.
-pub events_keep_led : EventsKeepLed
-events_keep_led at over by words births journal base wb one so rows seat event course row born calm timely was = (let step = events_go_on at over by words births journal base wb one so rows seat event course row born calm timely was in (step.later, step.led))

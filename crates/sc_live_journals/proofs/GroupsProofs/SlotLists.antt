@@ -47,14 +47,6 @@ each_polled n slot voters (f ∷ fs) k = either_way (Each (λ (f : Flight Comman
 pub fly_polled : (n slot : ℕ) (voters : Option (List ℕ)) (fs : List (Flight Command)) → FlyFrom n fs → FlyFrom n (with_voters slot voters fs)
 fly_polled n slot voters fs k = (each_polled n slot voters fs k.0, apart_polled slot voters fs k.1)
 
-push_none : (slot : ℕ) (new : Flight Command) (fs : List (Flight Command)) → (new.slot ≡ slot → ⊥) → flight_at slot fs ≡ None → flight_at slot (fs ++ new ∷ []) ≡ None
-push_none slot new [] ne e = ap (λ b. cond b (Some new) None) (ne_eqb new.slot slot ne)
-push_none slot new (f ∷ fs) ne e = by (eqb f.slot slot) e (λ rest. push_none slot new fs ne rest)
-  where
-    by : (b : Bool) → cond b (Some f) (flight_at slot fs) ≡ None → (flight_at slot fs ≡ None → flight_at slot (fs ++ new ∷ []) ≡ None) → cond b (Some f) (flight_at slot (fs ++ new ∷ [])) ≡ None
-    by true bad more = cc
-    by false rest more = more rest
-
 -- one more begins to fly
 pub fly_pushed : (n : ℕ) (new : Flight Command) (fs : List (Flight Command)) → n ≤ new.slot → flight_at new.slot fs ≡ None → FlyFrom n fs → FlyFrom n (fs ++ new ∷ [])
 fly_pushed n new fs from none k = (Each-append (λ f. n ≤ f.slot) fs (new ∷ []) k.0 (from, tt), apart_pushed fs new k.1 none)

@@ -108,13 +108,6 @@ module _ (me : ℕ) where
   born_all [] = tt
   born_all (base ∷ groups) = either_way (λ (bases : List Base). All (map (λ b. born_replica slots_ahead me b) bases)) (is_member base.core.members me) _ _ (born_well me base, born_all groups) (born_all groups)
 
--- In any journal what each replica of a node has in flight and ready is at slots that are not executed, one command at a slot, and nothing that is ready is to be executed now.
-pub nodes_keep : NodesKeepSlots
-nodes_keep seat rows born node is well e =
-    let plays : Plays born.me seat.actor = subst (Plays born.me) (sym is) (refl, well) in
-    let after : Plays born.me (Node node) = subst (Plays born.me) e (replay_well born.me seat.who rows seat.actor [] plays) in
-    after.1
-
 -- So it is of each replica that is made at the birth of groups.
 pub nodes_born : NodesAreBornSlotted
 nodes_born me groups policy = born_all me groups

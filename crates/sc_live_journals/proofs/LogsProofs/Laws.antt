@@ -27,7 +27,7 @@ use Rattle.sc_live_journals.proofs.LogsProofs.Journals.{part, roster, fronts, se
 use Rattle.sc_live_journals.proofs.LogsProofs.Nodes.{slots_have_nodes}
 use Rattle.sc_live_journals.proofs.LogsProofs.Nodes as so
 use Rattle.sc_paxos_words.proofs.Lemmas.{Each-weaker}
-use Rattle.sc_live_journals.proofs.LogsProofs.UpToNodes.{up_to_node, brings, has}
+use Rattle.sc_live_journals.proofs.LogsProofs.UpToNodes.{up_to_node, has}
 
 -- what the laws under this one say of valid scenarios
 module _ (bounded : ValidScenariosAreBounded) (begin : ValidScenariosBeginWell) (allowed : TakenOrdersAreAllowed) (wishes : TakenWishesAreAllowed) (positions : WishesAreAtPositions) (free : OtherNamesAreFree) where
@@ -74,15 +74,9 @@ module _ (bounded : ValidScenariosAreBounded) (begin : ValidScenariosBeginWell) 
     begins_up : so.HasNodes (IsUpTo scenario.nodes) base.core
     begins_up = begins_nodes sources ahead words scenario route well journal orders group.lawful (bounded scenario group.valid) base group.stands
 
-    begins : HasNodes base.core
-    begins = has scenario.nodes (bounded scenario group.valid).nodes.1 base.core begins_up
-
     -- and each entry of its log brings nodes
     entries_up : Each (so.BringsNodes (IsUpTo scenario.nodes)) all
     entries_up = brings_nodes sources ahead words scenario route well journal orders group.lawful (bounded scenario group.valid) base group.stands
-
-    entries_are : Each BringsNodes all
-    entries_are = Each-weaker (so.BringsNodes (IsUpTo scenario.nodes)) BringsNodes (λ command k. brings scenario.nodes (bounded scenario group.valid).nodes.1 command k) all entries_up
 
     -- ---- mail
 
@@ -172,9 +166,6 @@ module _ (bounded : ValidScenariosAreBounded) (begin : ValidScenariosBeginWell) 
 
   pub states_are_logged : StatesAreLogged
   states_are_logged = state_logged
-
-  pub entries_bring_nodes : EntriesBringNodes
-  entries_bring_nodes = record { begins = begins; entries = entries_are }
 
   pub members_are_nodes : MembersAreNodes
   members_are_nodes ahead words scenario journal base group = λ slot node m. up_to_node scenario.nodes node (bounded scenario group.valid).nodes.1 (slots_have_nodes (IsUpTo scenario.nodes) ahead base journal (begins_up ahead words scenario journal base group) (entries_up ahead words scenario journal base group) slot node m)

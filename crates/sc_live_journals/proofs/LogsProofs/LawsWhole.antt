@@ -1,5 +1,5 @@
 -- Laws that follow from lemmas of this part of the crate and of those that it stands on.
-use Rattle.sc_live_journals.proofs.LogsProofs.Laws.{slots_have_rosters as slots_have_rosters_by, replicas_are_logged as replicas_are_logged_by, commands_come_next as commands_come_next_by, states_are_logged as states_are_logged_by, entries_bring_nodes as entries_bring_nodes_by, members_are_nodes as members_are_nodes_by}
+use Rattle.sc_live_journals.proofs.LogsProofs.Laws.{slots_have_rosters as slots_have_rosters_by, replicas_are_logged as replicas_are_logged_by, commands_come_next as commands_come_next_by, states_are_logged as states_are_logged_by, members_are_nodes as members_are_nodes_by}
 use Rattle.sc_scenario.proofs.Lemmas.{valid_scenarios_are_bounded}
 use Rattle.sc_law_groups.proofs.WholeProofs.Lemmas.{valid_scenarios_begin_well}
 use Rattle.sc_law_entries.proofs.NamesProofs.Lemmas.{orders_are_allowed_allowed, orders_are_allowed_wishes, orders_are_allowed_positions, names_have_one_owner_others}
@@ -20,10 +20,6 @@ commands_come_next = commands_come_next_by valid_scenarios_are_bounded valid_sce
 -- A state that is sent is the group's after the entries up to its slot, with the members of the slots that are open then.
 pub states_are_logged : StatesAreLogged
 states_are_logged = states_are_logged_by valid_scenarios_are_bounded valid_scenarios_begin_well orders_are_allowed_allowed orders_are_allowed_wishes orders_are_allowed_positions names_have_one_owner_others
-
--- A group of the journal begins with nodes, and each entry of its log brings nodes.
-pub entries_bring_nodes : EntriesBringNodes
-entries_bring_nodes = entries_bring_nodes_by valid_scenarios_are_bounded valid_scenarios_begin_well orders_are_allowed_allowed orders_are_allowed_wishes orders_are_allowed_positions names_have_one_owner_others
 
 -- So the members of each of its slots are nodes.
 pub members_are_nodes : MembersAreNodes

@@ -4,4 +4,4 @@ pub use Rattle.sc_live_journals.proofs.LogsProofs.Counting.{counted_learnt, each
 pub use Rattle.sc_live_journals.proofs.LogsProofs.Journals.{part, roster, fronts, sent_in, along, opens, flying, whole, front, found, stay}
 pub use Rattle.sc_live_journals.proofs.LogsProofs.Nodes.{nodes_stay_nodes, slots_have_nodes}
 pub use Rattle.sc_live_journals.proofs.LogsProofs.Views.{views_are_replicas}
-pub use Rattle.sc_live_journals.proofs.LogsProofs.LawsWhole.{slots_have_rosters, replicas_are_logged, commands_come_next, states_are_logged, entries_bring_nodes, members_are_nodes}
+pub use Rattle.sc_live_journals.proofs.LogsProofs.LawsWhole.{slots_have_rosters, replicas_are_logged, commands_come_next, states_are_logged, members_are_nodes}

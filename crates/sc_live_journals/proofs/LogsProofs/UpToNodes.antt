@@ -29,16 +29,6 @@ module _ (nodes : ℕ) (few : nodes ≤ most_nodes) where
   moves Abort k = tt
   moves _ k = tt
 
-  hands : (vote : Vote) → so.HandsNodes Up vote → HandsNodes vote
-  hands (Says.Yes frozen) k = all frozen.members k
-  hands (Says.No why) k = tt
-
-  pub brings : (command : Command) → so.BringsNodes Up command → BringsNodes command
-  brings (Join node order) k = up_to_node nodes node few k
-  brings (RecordVote tx vote by) k = hands vote k
-  brings (Finish tx outcome) k = moves outcome k
-  brings _ k = tt
-
   heard : (o : Option Heard) → so.HeardNodes Up o → HeardNodes o
   heard None k = tt
   heard (Some h) k = all h.frozen.members k

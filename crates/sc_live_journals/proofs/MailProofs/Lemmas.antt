@@ -4,8 +4,7 @@ pub use Rattle.sc_live_journals.proofs.MailProofs.FewJournals.{journals_few as j
 pub use Rattle.sc_live_journals.proofs.MailProofs.FewLists.{reports_more}
 pub use Rattle.sc_live_journals.proofs.MailProofs.FewWalks.{entered_up, installed_up}
 pub use Rattle.sc_live_journals.proofs.MailProofs.Lasting.{replicas_last}
-pub use Rattle.sc_live_journals.proofs.MailProofs.Over.{entries_over as entries_leave_over, over_stays}
-pub use Rattle.sc_live_journals.proofs.MailProofs.Posting.{mail_posted as mail_is_posted, rows_post as rows_post_their_own, mail_comes as mail_may_come, desks_apart as desks_are_not_born, mail_comes, clients_stay, mail_posted, desks_apart}
+pub use Rattle.sc_live_journals.proofs.MailProofs.Over.{entries_over as entries_leave_over}
+pub use Rattle.sc_live_journals.proofs.MailProofs.Posting.{mail_posted as mail_is_posted, mail_comes as mail_may_come, desks_apart as desks_are_not_born, mail_comes, clients_stay, mail_posted, desks_apart}
 pub use Rattle.sc_live_journals.proofs.MailProofs.PartWalks.{takes_mail, orders, looks_up, Hears, Sends, AreSaid}
 pub use Rattle.sc_live_journals.proofs.MailProofs.Walks.{PartWalk, Part, part, next_in, IsReported, named_in, entered_part, jumped_part}
-pub use Rattle.sc_live_journals.proofs.MailProofs.Works.{filed_work as filed_is_work}

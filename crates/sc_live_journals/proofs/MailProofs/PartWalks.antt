@@ -174,9 +174,6 @@ module _ (w : PartWalk) where
       let l = row_parts.looks part_walk (r, mails) (to_walk w.Early r k.0, k.1) in
       either_way After (is_member (members r) from) (record r { hint = Some from }, mails) (looked (r, mails)) ((k.0.0, w.late (part r) k.0.1), k.1) (from_walk w.Late (looked (r, mails)).0 l.0, l.1)
 
-  pub bears : PartBirths w → (base : Base) → LateAt (born_replica slots_ahead w.me base)
-  bears b base = from_walk w.Late (born_replica slots_ahead w.me base) (rows.bears part_walk (part_births b) base)
-
   -- ---- nodes
 
   module _ (b : PartBirths w) where

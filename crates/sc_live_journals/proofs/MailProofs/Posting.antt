@@ -110,17 +110,6 @@ clients_stay words scenario rows timely seat client born is =
     by (Node node) e k = cc
     by (Client other) e k = (k.0, k.1)
 
--- Each mail of a row is from the player whose row it is.
-pub rows_post : RowsPostTheirOwn
-rows_post words scenario rows row timely =
-    let born : List (Seat Player) = births as_nodes scenario in
-    let law : Law born = posting_law born in
-    let calm = (last_in_time (players words born) rows row timely).0 in
-    let holds : Holds born law rows = journals_hold scenario law words rows (in_time_before (players words born) rows row timely) in
-    let spoken = row_speaks born law words rows calm.seat calm.event calm.born calm.calm holds in
-    subst (λ (r : Row Mail _). Each (λ mail. mail.from ≡ r.who) r.sent) (sym calm.row_is)
-    (Each-weaker (Speaks (posting calm.seat.who) calm.seat) (λ mail. mail.from ≡ calm.seat.who) (λ mail s. (posts born calm.seat mail s).0) (row_of player_table calm.seat rows calm.event).sent spoken)
-
 -- ---- the numbers of a scenario's players
 
 numbers_in : (from more : ℕ) → Each (λ n. (from ≤ n) × (n + 1 ≤ from + more)) (numbers_from from more)

@@ -234,53 +234,8 @@ module _ (scenario : Scenario) (bounded : IsBounded scenario) (base : Base) (a :
       let born = born_is scenario bounded base a in
       born_leads sets base now (λ slot low. refl) born.roster born.first born.stands refl (next_born base.core.first ∙ cond-true (is_member base.core.members base.core.first) 1 0 born.first) (promise_born base.core.first)
 
-  led_by : (node : ℕ) (o : Option ReplicaState) (r : ReplicaState) → o ≡ own_replica node base → o ≡ Some r → r.running ≡ true → IsLeadOf sets now r × (node ≡ base.core.first)
-  led_by node o r is e runs =
-      let there : cond (is_member base.core.members node) (Some (born_replica slots_ahead node base)) None ≡ Some r = sym is ∙ e in
-      elim (cases_Bool (is_member base.core.members node)) [
-        | inr f ↦ absurd (none_some (sym (cond-false (is_member base.core.members node) (Some (born_replica slots_ahead node base)) None f) ∙ there))
-        | inl t ↦ (let some : Some (born_replica slots_ahead node base) ≡ Some r = sym (cond-true (is_member base.core.members node) (Some (born_replica slots_ahead node base)) None t) ∙ there in
-            let same : born_replica slots_ahead node base ≡ r = cc in
-            let first : base.core.first ≡ node = eqb-true base.core.first node (ap (λ (x : ReplicaState). x.running) same ∙ runs) in
-            (subst (IsLeadOf sets now) (ap (λ n. born_replica slots_ahead n base) first ∙ same) gives, sym first))
-      ]
-
-  course_is : IsCourseOf sets (births as_nodes scenario) [] base (begun_course base)
-  course_is = record {
-    gives = λ node r e runs. led_by node (view_at (births as_nodes scenario) [] base.core.id node) r (view_born node) e runs;
-    runs = λ _. subst (IsLedBy base (begun_course base))
-        (sym (view_born base.core.first ∙ cond-true (is_member base.core.members base.core.first) (Some (born_replica slots_ahead base.core.first base)) None (born_is scenario bounded base a).first))
-        (eq-eqb base.core.first base.core.first refl);
-  }
-
 -- what a group of a scenario begins with
 pub born_facts : (scenario : Scenario) → IsBounded scenario → (base : Base) → Among base scenario.groups → IsRoster base.core.members × (is_member base.core.members base.core.first ≡ true) × (base.core.gone ≡ None)
 born_facts scenario bounded base a = (let born = born_is scenario bounded base a in (born.roster, born.first, born.stands))
 
 -- ---- where all are as at the birth
-
--- a group whose nodes are all where they begin, and none of whose mail is under way
-pub born_follows : (base : Base) (now : Progress) (marks : ℕ → List Mark) → is_member base.core.members base.core.first ≡ true → ((who : ℕ) → now.next who ≡ (begun base.core.members (first_ballot base.core)).next who)
-    → ((who : ℕ) → now.promise who ≡ first_ballot base.core) → now.course ≡ begun_course base → ((who : ℕ) → marks who ≡ []) → IsFollowing (λ slot. base.core.members) now marks
-born_follows base now marks first nexts promises course none =
-    idle-keeps (λ slot. base.core.members) (begun base.core.members (first_ballot base.core)) now 0 None (λ who. []) (λ who. []) marks
-    (record { left = []; takes = refl; own = none 0; others = λ who ne. none who; next = λ who ne. nexts who; promise = λ who ne. promises who })
-    (record { takes = refl; next = nexts 0; promise = promises 0; course = course; sends = λ who. refl }) (begins (λ slot. base.core.members) (first_ballot base.core) (λ slot low. refl) first)
-
--- Each group of a scenario begins with a replica at each member's node and its first member leading, so each that decides an open slot follows it.
-pub scenarios_begin : ScenariosBeginFollowing
-scenarios_begin words scenario base bounded a = record {
-  follows = born_follows base (progress_at (births as_nodes scenario) [] base (begun_course base)) (marks_at (players words (births as_nodes scenario)) [] base.core.id) (born_is scenario bounded base a).first
-      (next_born scenario bounded base a) (promise_born scenario bounded base a) refl (λ who. refl);
-  given = course_is scenario bounded base a;
-}
-
--- So does the child of a split, before any node has a replica of it: each of its members is where the child begins, as it will be once it has learnt of the split.
-pub children_begin : ChildrenBeginFollowing
-children_begin words seats rows base first unborn none = record {
-  follows = born_follows base (progress_at seats rows base (begun_course base)) (marks_at (players words seats) rows base.core.id) first (λ who. ap (next_in base who) (unborn who)) (λ who. ap (promise_in base) (unborn who)) refl none;
-  given = record {
-    gives = λ node r e runs. absurd (none_some (sym (unborn node) ∙ e));
-    runs = λ _. subst (IsLedBy base (begun_course base)) (sym (unborn base.core.first)) refl;
-  };
-}

@@ -12,21 +12,3 @@ module _ (at : Sets) (words : ℕ → ℕ → ℕ × ℕ) (births : List (Seat P
   -- after these rows, if they begin the journal
   abbrev Begin : Rows → Type 0
   Begin rows = (more : Rows) → journal ≡ rows ++ more → FollowsOn at words births rows base
-
-  -- one row more
-  after_row : (rows : Rows) (row : Row Mail OrderLine) → AreInTime (players words births) (rows ++ row ∷ []) → Begin rows → Begin (rows ++ row ∷ [])
-  after_row rows row timely was more is =
-      let calm = (last_in_time (players words births) rows row timely).0 in
-      let old = was (row ∷ more) (is ∙ append_assoc rows (row ∷ []) more) in
-      subst (λ (r : Row Mail OrderLine). FollowsOn at words births (rows ++ r ∷ []) base) (sym calm.row_is)
-      (keep rows more calm.seat calm.event old.0 (is ∙ ap (λ (r : Row Mail OrderLine). (rows ++ r ∷ []) ++ more) calm.row_is) calm.born calm.calm
-      (subst (λ (r : Row Mail OrderLine). AreInTime (players words births) (rows ++ r ∷ [])) calm.row_is timely) old.1)
-
-  -- the first rows of a journal in time come in time
-  before_in_time : AreInTime (players words births) journal → (rows more : Rows) → journal ≡ rows ++ more → AreInTime (players words births) rows
-  before_in_time timely rows more is = λ before row after e. timely before row (after ++ more) (is ∙ (ap (λ rs. rs ++ more) e ∙ append_assoc before (row ∷ after) more))
-
--- A group follows its leader through a journal whose rows come in time, if it does so at first and each event keeps it so.
-pub follow_through : GroupsFollowThrough
-follow_through at words births journal base timely first keep rows more is =
-    by_time (players words births) (Begin at words births journal base keep) (λ all e. first) (after_row at words births journal base keep) rows (before_in_time at words births journal base keep timely rows more is) more is

@@ -105,12 +105,6 @@ module _ (me : ℕ) where
   pub replay_well : (who : ℕ) (rows : List (Row Mail OrderLine)) (player : Player) (sent : List Mail) → Plays player → Plays (replay player_table who player sent rows)
   replay_well who rows player sent k = players.replays me (λ r. Stands r) (parts me) (begins me) (λ r. IsWellKept me r) (to me) (from me) who rows player sent k
 
--- Each replica of a node stays so after any rows.
-pub nodes_stay : NodesStayWellKept
-nodes_stay seat rows born node is well e =
-    let after = players.stays born.me (λ r. Stands r) (parts born.me) (begins born.me) (λ r. IsWellKept born.me r) (to born.me) (from born.me) seat rows born node is (refl, well) e in
-    (subst (λ m. Each (IsWellKept m) node.replicas) (sym after.0) after.1, after.0)
-
 -- So is each replica of a node that is created.
 pub nodes_born : NodesAreBornWellKept
 nodes_born me groups policy = players.born me (λ r. Stands r) (parts me) (begins me) (λ r. IsWellKept me r) (to me) (from me) groups

@@ -16,13 +16,12 @@ use Rattle.sc_live_steps.proofs.OrdersProofs.Lemmas.{tables-file, errands-none}
 use Rattle.sc_live_journals.specs.rows.Definitions.{IsSeat, with_event}
 use Rattle.sc_live_journals.specs.scenes.Definitions.{IsAsking, IsWaiting, Expects, IsOrdered, LeaderFinds, BesideFinds, FindsReplica, AtLeader, AtAnother, NodeFinds, FindsFlight, Late, Leaves, Changed, Opened, Voted, Aborted, Decided, Heard, Ended, FindsQuiet, ByLeader, ByAnother, FindsOrder, FoundOrdersStep, FoundOrdersKeep, FoundOrdersGoThrough, KeepsStage, ComesTo, ComesToLeader, ComesBeside, ComesToNone, scene_at, IsTaking}
 use Rattle.sc_live_journals.proofs.ScenesProofs.Asked.{asked_keep}
-use Rattle.sc_live_journals.proofs.ScenesProofs.Begun.{scenarios_still}
 use Rattle.sc_live_journals.proofs.ScenesProofs.Counting.{votes_keep, orders_keep}
 use Rattle.sc_live_journals.proofs.ScenesProofs.Joining.{states_keep}
 use Rattle.sc_live_journals.proofs.ScenesProofs.Keeping.{row_of_comes, leaders_keep, asides_keep, lead_rests, lead_takes, aside_rests}
 use Rattle.sc_live_journals.proofs.ScenesProofs.Left.{takes_one}
 use Rattle.sc_live_journals.proofs.ScenesProofs.Others.{others_keep}
-use Rattle.sc_live_journals.proofs.ScenesProofs.Over.{begin_in_quiet, go_through}
+use Rattle.sc_live_journals.proofs.ScenesProofs.Over.{begin_in_quiet}
 use Rattle.sc_live_journals.proofs.ScenesProofs.Reaching.{errand_among, answers_reach}
 use Rattle.sc_live_journals.proofs.ScenesProofs.Turning.{calm_is}
 use Rattle.sc_live_journals.proofs.ScenesProofs.Viewing.{tell}
@@ -244,12 +243,3 @@ found_keeps words births rows seat event born timely finds = player_keeps words 
 -- A row that finds what `FindsOrder` says, by the mail that it takes or the order that it gives, leaves the stage of an order, or is a step of its group to one that follows.
 pub found_step : FoundOrdersStep
 found_step words births rows seat event born timely finds stage a = found_keeps words births rows seat event born timely finds (stage, a)
-
--- So it keeps an order under way.
-pub found_keep : FoundOrdersKeep
-found_keep words births rows seat event born timely finds under = (let to = found_keeps words births rows seat event born timely finds under in (to.0, to.1))
-
--- So an order stays under way through a journal of a bounded scenario that comes in time, if each of its rows finds that.
-pub found_through : FoundOrdersGoThrough
-found_through words scenario journal bounded timely finds =
-    go_through words (births as_nodes scenario) journal timely (scenarios_still scenario bounded) (λ rows seat event born t. found_keeps words (births as_nodes scenario) rows seat event born t (finds rows seat event born t))

@@ -141,14 +141,3 @@ begin_in_quiet words births rows seat line node r o leads unbound goes rests und
     subst (StageAfter births rows seat (Told line)) (sym (still-only (scene_at births rows) under.0 under.1 still))
     (orders_keep.led words births rows seat line node r o leads
     (record { running = leads.running; unbound = unbound; idle = nothing_works r (rests (group_of_order line.order) seat.who r leads.is_there leads.running) }) still)
-
--- An order stays under way through a journal whose rows come in time, if each row keeps it so.
-pub go_through : OrdersGoThrough
-go_through words births journal timely still keeps =
-    by_time (players words births) (λ rows. IsUnderWay (scene_at births rows)) (Still, still)
-    (λ rows row t under.
-    let calm = (last_in_time (players words births) rows row t).0 in
-    let is = calm.row_is in
-    let t' : AreInTime (players words births) (with_event rows calm.seat calm.event) = subst (λ (x : Row Mail OrderLine). AreInTime (players words births) (rows ++ x ∷ [])) is t in
-    subst (λ (x : Row Mail OrderLine). IsUnderWay (scene_at births (rows ++ x ∷ []))) (sym is) (let to = keeps rows calm.seat calm.event calm.born t' under in (to.0, to.1)))
-    journal timely

@@ -22,9 +22,6 @@ use Rattle.sc_live_journals.specs.scenes.Definitions.{errand_in, errand_taken, B
 
 -- ---- the group of an errand
 
-errand_named : (a : Draw) (e : Errand) (entry : Draw × Errand) → Some (a, e) ≡ Some entry → Some a ≡ Some entry.0
-errand_named a e entry is = (let same : (a, e) ≡ entry = cc in ap (λ (p : Draw × Errand). Some p.0) same)
-
 -- an errand is for the group of its mail
 pub errand_group : (from to : ℕ) (body : MailBody) (entry : Draw × Errand) → errand_by from to body ≡ Some entry → group_of_mail body ≡ Some entry.0
 errand_group from to (TxPrepare tx offer) entry e = ap (option_map (λ (p : Draw × Errand). p.0)) e

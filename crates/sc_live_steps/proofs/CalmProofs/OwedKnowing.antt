@@ -140,19 +140,6 @@ told_one ways groups group arc succ client bounded a none =
     after : ClientState
     after = record client { known = told_not_mine group arc succ client.known }
 
--- An answer that a key is another group's teaches its client one group, and what it sends then owes no more than the answer did and what a group owes that is asked in vain.
-pub not_mine_teaches : NotMineTeaches
-not_mine_teaches ways groups from seq group arc succ client bounded told = by (waits_for client.waiting seq) refl (was_asked client.asked from group) refl
-  where
-    after : ClientState
-    after = record client { known = told_not_mine group arc succ client.known }
-
-    by : (b : Bool) → waits_for client.waiting seq ≡ b → (c : Bool) → was_asked client.asked from group ≡ c →
-        (cond {A = ClientStep} b (cond c (request_sent after) (client, [])) (client, []) ≡ (client, [])) ⊎ IsToldOne ways groups group arc succ client (cond {A = ClientStep} b (cond c (request_sent after) (client, [])) (client, []))
-    by true waits true asked = let both = told waits asked in inr (told_one ways groups group arc succ client bounded both.0 both.1)
-    by true waits false asked = inl refl
-    by false waits c asked = inl refl
-
 -- ---- an answer that the group is gone
 
 pub gone_known : (group : Draw) (into : Route) (way : Way) (known : KnownGroups) → known ≡ (group, way) ∷ [] → told_gone group into known ≡ (into.group, new_way into.lo into.members) ∷ []
@@ -169,16 +156,3 @@ gone_one ways group into way client bounded is =
   where
     after : ClientState
     after = record client { known = told_gone group into client.known }
-
--- An answer that a group went into another sends a client that knows no other on to that one.
-pub gone_sends_on : GoneSendsOn
-gone_sends_on ways from seq group into way client bounded is = by (waits_for client.waiting seq) (was_asked client.asked from group)
-  where
-    after : ClientState
-    after = record client { known = told_gone group into client.known }
-
-    by : (b c : Bool) →
-        (cond {A = ClientStep} b (cond c (request_sent after) (client, [])) (client, []) ≡ (client, [])) ⊎ IsSentOn ways group into client (cond {A = ClientStep} b (cond c (request_sent after) (client, [])) (client, []))
-    by true true = inr (gone_one ways group into way client bounded is)
-    by true false = inl refl
-    by false c = inl refl

@@ -84,9 +84,3 @@ module _ (ways : Ways) where
 pub led_learns : LedLearnsLower
 unfolding mailed
 led_learns = λ ways from group slot command r is. learn_led ways from slot command r is
-
--- where the group is gone, none is looked for
-pub ends_leave_none : EndsLeaveNone
-ends_leave_none command into r off none goes =
-    learnt_ends near (λ p. p.0.running ≡ false) command (r, []) off none
-    (λ q more learns. ap (λ (p : Place). p.0.running) (looked_gone near into q more learns.stopped (ap (λ (g : Group). g.core.gone) learns.group ∙ goes)) ∙ learns.stopped)

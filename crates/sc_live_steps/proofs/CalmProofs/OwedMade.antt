@@ -7,10 +7,6 @@ use Rattle.sc_live_steps.specs.calm.Definitions.{BornReplicasOwe, MadeReplicasOw
 use Rattle.sc_live_steps.proofs.CalmProofs.OwedInstalls.{looks_up}
 use Rattle.sc_live_steps.proofs.CalmProofs.OwedEnds.{looked_gone}
 
--- A replica that is made at its group's birth, as the child of a split is, owes nothing but what a group owes in which none runs.
-pub born_owe : BornReplicasOwe
-born_owe ways ahead me base = omega arith
-
 -- one that is made of a state waits for nothing, and does not run
 pub installed_idle : (most me slot : ℕ) (base : Base) (sets : List (List ℕ)) →
     (replica_owes most (installed_replica me slot base sets) ≡ 0) × ((installed_replica me slot base sets).running ≡ false) × ((installed_replica me slot base sets).group.core.gone ≡ base.core.gone)

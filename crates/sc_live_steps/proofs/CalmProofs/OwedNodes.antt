@@ -81,13 +81,6 @@ taken_owes most from group body r node is =
     let put = put_owes most group after.0.0 r node.replicas is.found in
     omega (arith, same, born, put)
 
--- A mail changes what a node owes as it changes what its replica of the mail's group owes, and sends what that replica sends: the others keep what they owe, and a child that is created owes nothing by itself.
-pub as_replicas : NodesOweAsReplicas
-as_replicas = record {
-  owes = taken_owes;
-  sends = λ from group body r node is. ap (λ (turn : NodeState × List Mail). turn.1) (taken_turn from group body r node is);
-}
-
 -- ---- what lowers it
 
 -- each mail that is delivered owes one at least

@@ -140,13 +140,3 @@ module _ (births : List (Seat Player)) (apart : are_apart births ≡ true) (rows
       let before = groups_split births apart rows seat born groups in
       let after = groups_after groups in
       omega (arith, sums, before, after)
-
--- A row of a node changes what all nodes and groups owe as it changes what the node owes among the others, where a group is led elsewhere if its replica runs or is gone at another node.
-pub totals_change : TotalsChangeAsParties
-totals_change ways groups births rows seat event before after apart born was is =
-    let all = players_change births apart rows seat event born (node_part ways.most) groups in
-    let part_was = ap (node_part ways.most) was in
-    let part_is = ap (node_part ways.most) is in
-    let idle_was = ap (idle_part (led_elsewhere births rows seat.who) groups) was ∙ node_idles (led_elsewhere births rows seat.who) groups before in
-    let idle_is = ap (idle_part (led_elsewhere births rows seat.who) groups) is ∙ node_idles (led_elsewhere births rows seat.who) groups after in
-    omega (arith, all, part_was, part_is, idle_was, idle_is)

@@ -59,34 +59,3 @@ leads_on command r k c stands = (let s = applied_same r.group command k in recor
   stands = s.0 ∙ stands;
   stays = ap (λ l. is_member l r.me) s.1 ∙ c.mine;
 })
-
-leaves_few : (command : Command) (r : ReplicaState) → KeepsMembers command → length (members r) ≤ 9 → LeavesFew command r
-unfolding entered forgotten
-leaves_few command r k few = (let s = ap length (applied_same r.group command k).1 in omega (arith, s, few))
-
-paid : (command : Command) (r : ReplicaState) → KeepsMembers command → LeadsOn command r → IsPaid command r
-paid (Begin tx body order) r k l = l
-paid (Prepared tx offer) r k l = l
-paid (Watched tx watch) r k l = l
-paid _ r k l = absurd k
-
--- A leader at which the begin of a transaction or a vote in one is in flight, alone, may count a vote of its nodes: the entry is paid for.
-pub lone-entries-count : LoneEntriesCount
-lone-entries-count slot flight r lone may few mine stands k = inr (inr (
-  flight,
-  record {
-    flights = lone.flights;
-    ready = lone.ready;
-    may = may;
-    paid = λ e. paid flight.value (readied_at slot flight.value r) k (leads_on flight.value (readied_at slot flight.value r) k (counting e) stands);
-    leaves = λ e. leaves_few flight.value (readied_at slot flight.value r) k few;
-  },
-))
-  where
-    counting : slot ≡ next r → IsCounting flight.value (readied_at slot flight.value r)
-    counting e = record {
-      running = lone.running;
-      few = few;
-      mine = mine;
-      ready = ap (λ l. at_slot (with_slot l slot flight.value) (next r)) lone.ready ∙ ap (λ b. cond b (Some flight.value) None) (eq-eqb slot (next r) e);
-    }

@@ -178,16 +178,3 @@ unfolding mailed
 elections_lead at now from slot command r fit off none low may name m = told_is (ElectsInto at now slot r) from slot command r fit.1 low (executed_into at now command r off none slot fit.1 may name m)
 
 -- ---- a mail that is taken
-
--- A row that is as its mark says, of a replica that is where its group's progress says, is that of a node that takes the mail.
-pub steps_take : StepsTake
-steps_take at now mark r after next_is promise_is s counts waits = record {
-  mark = mark;
-  takes = refl;
-  next = cond-true (eqb r.me r.me) (next after.0) (now.next r.me) (eq-eqb r.me r.me refl) ∙ (s.reaches ∙ ap (λ n. next_by n mark) (sym next_is));
-  promise = cond-true (eqb r.me r.me) after.0.acceptor.promised (now.promise r.me) (eq-eqb r.me r.me refl) ∙ (s.promises ∙ ap (λ p. promise_by p mark) (sym promise_is));
-  course = refl;
-  sends = λ who. s.answers who ∙ ap (λ p. answered r.me p mark who) (sym promise_is);
-  counts = counts;
-  waits = λ off stands mine. subst (λ n. n < now.course.newest) (sym (cond-true (eqb r.me r.me) (next after.0) (now.next r.me) (eq-eqb r.me r.me refl))) (waits off stands mine);
-}

@@ -7,7 +7,7 @@ pub use Rattle.sc_live_steps.proofs.FollowingProofs.Counted.{entries_lead, told_
 pub use Rattle.sc_live_steps.proofs.FollowingProofs.Dated.{slots_are_kept, prepares_are_known, nothing}
 pub use Rattle.sc_live_steps.proofs.FollowingProofs.DatedTables.{elections_ask_next}
 pub use Rattle.sc_live_steps.proofs.FollowingProofs.Elected.{tables_elect}
-pub use Rattle.sc_live_steps.proofs.FollowingProofs.Electing.{elections_lead, steps_take, among_numbers}
+pub use Rattle.sc_live_steps.proofs.FollowingProofs.Electing.{elections_lead, among_numbers}
 pub use Rattle.sc_live_steps.proofs.FollowingProofs.Elects.{elects-keeps as elections_keep_following, elects-keeps, last_promise}
 pub use Rattle.sc_live_steps.proofs.FollowingProofs.Entries.{entries_tell, with_state, with_both}
 pub use Rattle.sc_live_steps.proofs.FollowingProofs.Executed.{executions_lead, stays_led, ready_of, ready_leads, are_push, are_next, entered_sets}
@@ -24,11 +24,9 @@ pub use Rattle.sc_live_steps.proofs.FollowingProofs.Nodes.{states as states_make
 pub use Rattle.sc_live_steps.proofs.FollowingProofs.Offers.{pumps_offer}
 pub use Rattle.sc_live_steps.proofs.FollowingProofs.Ordered.{order_is_kept}
 pub use Rattle.sc_live_steps.proofs.FollowingProofs.Orderly.{apart_without, apart_polled, apart_pushed}
-pub use Rattle.sc_live_steps.proofs.FollowingProofs.Own.{own_rows_keep}
 pub use Rattle.sc_live_steps.proofs.FollowingProofs.Owning.{own_is_kept, leaders_count_own}
 pub use Rattle.sc_live_steps.proofs.FollowingProofs.Polled.{with_kept}
 pub use Rattle.sc_live_steps.proofs.FollowingProofs.Spoken.{announced_keeps, spoken_same, turned_kept, spoken_kept, ended_kept, announced_kept}
 pub use Rattle.sc_live_steps.proofs.FollowingProofs.TableHints.{hints_follow, heirs_elect, leaders_leave_last}
 pub use Rattle.sc_live_steps.proofs.FollowingProofs.Taught.{taught_is_kept, quiet_members_know}
 pub use Rattle.sc_live_steps.proofs.FollowingProofs.Voted.{vote_row}
-pub use Rattle.sc_live_steps.proofs.FollowingProofs.Laws.{idle_rows_keep_following, takers_keep_following}

@@ -156,10 +156,6 @@ votes-leave = record {
 
 -- ---- what a coordinator records
 
-before_succ : (lock : Lock) (core : Core) → (before_in lock core).succ ≡ core.succ
-before_succ Free core = refl
-before_succ _ core = refl
-
 module _ (me : ℕ) (before : Before) (tx : Draw) (by : ℕ) where
   -- a decision is sent to the party that brought the vote
   decided_leaves : (frozen : Frozen) (asked : Draw) (made : Group) (outcome : Outcome) → before.succ.group ≡ asked → Leaves Unbound (results tx asked First by) (RecordVote tx (Says.Yes frozen) by) me before (decided made tx outcome)

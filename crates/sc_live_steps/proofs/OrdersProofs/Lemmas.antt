@@ -3,7 +3,6 @@ pub use Rattle.sc_live_steps.proofs.OrdersProofs.Begun.{first, second, changed-s
 pub use Rattle.sc_live_steps.proofs.OrdersProofs.Decided.{aborted-step, decided-step, heard-step, ended-step}
 pub use Rattle.sc_live_steps.proofs.OrdersProofs.Errands.{errands-none}
 pub use Rattle.sc_live_steps.proofs.OrdersProofs.Filing.{tables-file as leaders_file_orders, tables-pass as tables_pass_questions, tables-ask-on as tables_ask_on, right_none, tables-file, tables-ask-on, offer_is, watch_row_is, tables-pass, left_none}
-pub use Rattle.sc_live_steps.proofs.OrdersProofs.Following.{rows-step as rows_step, orders-begin as orders_begin_alone, rests-keep as idle_rows_keep_orders, questions-keep as questions_keep_orders, files-keep as takings_keep_orders, entries-keep as entries_keep_orders}
 pub use Rattle.sc_live_steps.proofs.OrdersProofs.InQuiet.{quiet-still as quiet_orders_are_over, still-only, quiet-still}
 pub use Rattle.sc_live_steps.proofs.OrdersProofs.Lists.{among-left, among-right, cases-draw, found, tagged, tokens}
 pub use Rattle.sc_live_steps.proofs.OrdersProofs.Moves.{closing-errand, errands_of, no-errand, closing-work, no-work, work_of}
