@@ -22,10 +22,12 @@ use sc_law_refusal::{
     nodes_have_causes, queues_keep_one_call, refusals_have_causes, running_replicas_take_requests,
     steps_keep_one_call, valid_journals_refuse_with_cause,
 };
-use sc_live_answers::{calm_lines_settle, calm_requests_are_answered};
+use sc_live_answers::{
+    calm_lines_settle, calm_requests_are_answered, plain_journals_are_answered,
+    settled_requests_are_answered,
+};
 use sc_live_plain::{
-    made_scenarios_are_at_budget, plain_journals_are_answered, plain_journals_are_light,
-    plain_lines_end_quiet,
+    made_scenarios_are_at_budget, plain_journals_are_light, plain_lines_end_quiet,
 };
 use sc_paxos_law::{
     a_lawful_history, acceptors_are_lawful, leaders_are_lawful, one_log, one_value_per_slot,
@@ -139,6 +141,7 @@ fn the_laws_of_queues_are_called() {
 fn the_laws_of_plain_scenarios_are_called() {
     plain_lines_end_quiet();
     plain_journals_are_answered();
+    settled_requests_are_answered();
     plain_journals_are_light();
     made_scenarios_are_at_budget();
 }

@@ -2,9 +2,10 @@
 ghost use Rattle.sc_run.specs.Budgets.{BudgetsSuffice};
 
 use sc_live_answers::{
-    calm_lines_settle, calm_requests_are_answered, settled_requests_are_answered,
+    calm_lines_settle, calm_requests_are_answered, plain_journals_are_answered,
+    settled_requests_are_answered,
 };
-use sc_live_plain::{plain_journals_are_answered, plain_journals_are_light, plain_lines_end_quiet};
+use sc_live_plain::{plain_journals_are_light, plain_lines_end_quiet};
 
 /// In each lawful journal of a valid scenario within its budget, plain or calm, no line is cut off
 /// with mail pending; in each whole one every request of a client whose `go` line is followed by a
