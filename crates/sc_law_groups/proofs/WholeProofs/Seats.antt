@@ -62,6 +62,28 @@ clients_rise_any : (groups : List Base) (clients : List Asks) → All (λ (asks 
 clients_rise_any [] clients above rising = tt
 clients_rise_any (base ∷ groups) clients above rising = clients_rise (route_of base) 0 clients above rising
 
+within_on : (top : ℕ) (xs ys : List (Seat Player)) → Within top xs → Within top ys → Within top (xs ++ ys)
+within_on top [] ys w v = v
+within_on top (x ∷ xs) ys w v = (w.0, within_on top xs ys w.1 v)
+
+clients_within : (first : Route) (clients : List Asks) → All IsBoundedClient clients → Within most_actor (map (client_seat first) clients)
+clients_within first [] all = tt
+clients_within first (asks ∷ clients) all = (
+  omega (arith, (all 0 asks (omega arith)).0.1),
+  clients_within first clients (λ k d lt. all (suc k) d (omega (arith, lt))),
+)
+
+clients_within_any : (groups : List Base) (clients : List Asks) → All IsBoundedClient clients → Within most_actor (client_seats groups clients)
+clients_within_any [] clients all = tt
+clients_within_any (base ∷ groups) clients all = clients_within (route_of base) clients all
+
+-- those that rise from above a number and are not above another lie between
+between : (low top : ℕ) (seats : List (Seat Player)) → Rises low seats → Within top seats → All (λ (seat : Seat Player). (low < seat.who) × (seat.who ≤ top)) seats
+between low top [] r w = All-nil (λ (seat : Seat Player). (low < seat.who) × (seat.who ≤ top))
+between low top (seat ∷ seats) r w =
+    All-cons (λ (seat : Seat Player). (low < seat.who) × (seat.who ≤ top)) seat seats (r.0, w.0)
+    (between low top seats (lower low seat.who seats (omega (arith, r.0)) r.1) w.1)
+
 -- the births of a bounded scenario rise
 births_rise : (scenario : Scenario) → IsBounded scenario → Rises 0 (births as_nodes scenario)
 births_rise scenario bounded =
@@ -73,3 +95,10 @@ births_rise scenario bounded =
 -- so they have different numbers
 pub all_apart : (scenario : Scenario) → IsBounded scenario → are_apart (births as_nodes scenario) ≡ true
 all_apart scenario bounded = apart_rising 0 (births as_nodes scenario) (births_rise scenario bounded)
+
+-- and numbers from 1 to 96
+pub all_numbered : (scenario : Scenario) → IsBounded scenario → All (λ (seat : Seat Player). (0 < seat.who) × (seat.who ≤ most_actor)) (births as_nodes scenario)
+all_numbered scenario bounded =
+    let clients : Within most_actor (client_seats scenario.groups scenario.clients) = clients_within_any scenario.groups scenario.clients bounded.clients in
+    between 0 most_actor (births as_nodes scenario) (births_rise scenario bounded)
+    (within_on most_actor _ (client_seats scenario.groups scenario.clients) (nodes_within scenario.groups scenario.policy most_actor 1 scenario.nodes (omega (arith, bounded.nodes.1))) clients)
