@@ -1,25 +1,14 @@
 -- What an invariant of replicas and of the mail that they send needs: what holds before a row and after it, and that each part of a row keeps it. The theorems of the walk carry it through all rows of a replica's table.
 use Rattle.std.proofs.Common.{◌≡◌, ℕ, ◌+◌, ◌-◌, ◌<◌, ◌≤◌, nat_le, cond, true, false, List, [], ◌∷◌, ◌++◌, length, Option, Some, None, refl}
-use Rattle.sc_node_table.specs.Values.{Ballot, Draw, Op, Offer, Watch, Command, Noop, Call, Base, ToldResult, Outcome, Past, Vote, AnswerBody, Mail, MailBody, Request, Answer, Prepare, Promise, Accept, Accepted, Nack, Learn, Ask, Install, TxPrepare, TxVote, TxOutcome, TxElsewhere, TxWatch, TxWatched, Told, Chosen, Report}
+use Rattle.sc_node_table.specs.Values.{Ballot, Draw, Op, Offer, Watch, Command, Noop, Call, Base, ToldResult, Outcome, Past, Vote, AnswerBody, Mail, MailBody, Answer, Prepare, Promise, Accept, Accepted, Nack, Learn, Ask, Install, TxPrepare, TxVote, TxOutcome, TxElsewhere, TxWatch, TxWatched, Told, Chosen, Report}
 use Rattle.sc_base.specs.Definitions.{Each, client_actor}
 use Rattle.sc_paxos_words.specs.declared.answers.Must.TheVariants.{Value}
 use Rattle.sc_machine_table.specs.Definitions.{base_of}
-use Rattle.sc_paxos_words.specs.Definitions.{IsAtLeast, reports_from, after_promise, after_accept, may_promise, may_accept, new_leader, promise_counted, with_flight_at, without_flight_at, entry_at, counted, must, below}
+use Rattle.sc_paxos_words.specs.Definitions.{IsAtLeast, reports_from, after_promise, after_accept, may_promise, may_accept, promise_counted, with_flight_at, without_flight_at, entry_at, counted, must, below}
 use Rattle.sc_node_table.specs.Definitions.{entered, named, jumped, ReplicaState, Place, Executed, name_of, next, slots_ahead, at_slot, with_slot, without_slot, put_back, call_of, without_call, has_act, born_replica, installed_replica, flying}
 use Rattle.sc_law_walks.specs.Definitions.{GoesOn, IsFiled, IsOrder, IsKept}
-
--- a replica that ran with the next ballot of its own, and one that runs no longer
-abbrev pub elected_replica : ReplicaState → ReplicaState
-elected_replica r =
-    let ballot : Ballot = record { round = r.top.round + 1; node = r.me } in
-    record r { top = ballot; hint = Some r.me; running = true; leader = new_leader ballot (next r); ready = []; waits = 0 }
-
-abbrev pub ended_replica : Option ℕ → ReplicaState → ReplicaState
-ended_replica hint r = record r { running = false; leader = new_leader r.leader.ballot (next r); ready = []; acts = []; calls = []; hint = hint }
-
--- a report of a ballot, and of a command at a slot, that hold
-abbrev pub IsReported : (Ballot → Type 0) → (ℕ → Command → Type 0) → Report Command → Type 0
-IsReported Round Entry report = Round report.ballot × Entry report.slot report.value
+pub use Rattle.sc_law_walks.proofs.PlaceWalks.{elected_replica, ended_replica, IsReported}
+use Rattle.sc_law_walks.proofs.PlaceWalks.{PlaceFacts, Hears as HearsAt}
 
 -- What holds of the node's replicas: early in a row, before one elects itself, and late; of what they say to whom; of the ballots, the commands at slots, the slots of votes and the states that they receive; of a ballot that they are asked to promise, and of a slot that they learn before its own; and of a command that is offered.
 pub record Facts : Type 1 where
@@ -134,6 +123,21 @@ unsaid f all = record {
   sends_on = λ to tx coord hint. all to (TxElsewhere tx coord hint);
 }
 
+-- the facts of replicas with their mails, where Q holds of the mails
+abbrev pub place_facts : (f : Facts) (Q : List Mail → Type 0) → PlaceFacts
+place_facts f Q = record {
+  me = f.me;
+  Early = λ place. f.Early place.0 × Q place.1;
+  Late = λ place. f.Late place.0 × Q place.1;
+  Round = λ ballot. f.Round ballot;
+  Entry = λ slot command. f.Entry slot command;
+  Voted = λ slot. f.Voted slot;
+  State = λ slot base. f.State slot base;
+  Polled = λ ballot. f.Polled ballot;
+  Learnt = λ slot command. f.Entry slot command;
+  Behind = λ slot. f.Behind slot;
+}
+
 module _ (w : Walk) where
   -- a mail of the node that it may send, and some mail
   abbrev pub Sends : Mail → Type 0
@@ -160,28 +164,9 @@ module _ (w : Walk) where
   abbrev pub AfterAll : Executed → Type 0
   AfterAll step = After step.0
 
-  pub on_late : (place : Place) → Before place → After place
-  on_late place k = ((k.0.0, w.states.late place.0 k.0.1), k.1)
-
-  -- what a mail says, as the invariant speaks of it: ballots, commands at slots and states
+  -- what a mail says, as the invariant speaks of it
   abbrev pub Hears : MailBody → Type 0
-  Hears (Prepare group ballot from_slot) = w.facts.Round ballot × w.facts.Polled ballot
-  Hears (Promise group ballot reports) = Each (IsReported w.facts.Round w.facts.Entry) reports
-  Hears (Accept group ballot slot command) = w.facts.Round ballot × w.facts.Entry slot command
-  Hears (Accepted group ballot slot) = w.facts.Voted slot
-  Hears (Nack group promised) = w.facts.Round promised
-  Hears (Learn group slot command) = w.facts.Entry slot command × w.facts.Behind slot
-  Hears (Install group slot base sets) = w.facts.State slot base × w.facts.State slot (named group base)
-  Hears (Ask group from_slot) = Unit {0}
-  Hears (Request group client seq op) = Unit {0}
-  Hears (Answer group seq answer) = Unit {0}
-  Hears (TxPrepare tx offer) = Unit {0}
-  Hears (TxVote tx coord part vote) = Unit {0}
-  Hears (TxOutcome tx part outcome) = Unit {0}
-  Hears (TxElsewhere tx coord hint) = Unit {0}
-  Hears (TxWatch tx watch) = Unit {0}
-  Hears (TxWatched tx coord part vote) = Unit {0}
-  Hears (Told order result) = Unit {0}
+  Hears body = HearsAt (place_facts w.facts AreSaid) body
 
   -- where all is good, all mail is heard
   all_reported : ((ballot : Ballot) → w.facts.Round ballot) → ((slot : ℕ) (command : Command) → w.facts.Entry slot command) → (reports : List (Report Command)) → Each (IsReported w.facts.Round w.facts.Entry) reports
