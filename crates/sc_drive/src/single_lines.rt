@@ -1,5 +1,5 @@
 //! Lines of one row.
-ghost use Rattle.std.specs.Prelude.{◌≡◌, ◌+◌, [], ◌∷◌, OnOk, IsErrOf};
+ghost use Rattle.std.specs.Prelude.{◌≡◌, ◌+◌, ◌<◌, ◌^◌, [], ◌∷◌, OnOk, IsOk, IsErrOf};
 ghost use Rattle.sc_actor.specs.Walk.{Once, line_row};
 ghost use Rattle.sc_drive.specs.Numbers.{is_in};
 ghost use Rattle.sc_drive.specs.Goings.{IsCalm};
@@ -13,12 +13,13 @@ use sc_base::Dup;
 use std::alloc::Global;
 use std::sync::Wait;
 
-// One line more that made no row. Without room to count it that is a want of memory.
+// Counts one more line that made no row. Out of memory only where that count is 2^64 or more.
 fn skip(score: &mut Score) -> Result<(), Stop>
     ensures skipped { OnOk result (score.new.skipped ≡ score.old.skipped + 1) }
     ensures kept { (score.new.unsettled ≡ score.old.unsettled)
         × (score.new.gone.items ≡ score.old.gone.items) }
     ensures why { IsErrOf result Stop.Full → ⊥ }
+    ensures fits { score.old.skipped + 1 < 2 ^ 64 → IsOk result }
 {
     let Some(count) = score.skipped.checked_add(1) else {
         return Err(Stop::OutOfMemory);
