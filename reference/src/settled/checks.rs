@@ -175,6 +175,6 @@ pub fn holds(m: &Making, kind: Kind, end: &End, seen: &mut Seen) -> Result<(), S
 
 /// Returns whether a client goes behind the last line of deliveries.
 fn late_goes(m: &Making) -> bool {
-    let behind = m.lines.iter().rev().take_while(|l| !delivers(l));
-    behind.into_iter().any(|l| matches!(l, SchedLine::Go { .. }))
+    let mut behind = m.lines.iter().rev().take_while(|l| !delivers(l));
+    behind.any(|l| matches!(l, SchedLine::Go { .. }))
 }
