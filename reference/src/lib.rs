@@ -19,6 +19,7 @@ pub mod recover;
 pub mod replica;
 pub mod report;
 pub mod scenario;
+pub mod settled;
 pub mod sound;
 pub mod text;
 pub mod values;

@@ -9,4 +9,5 @@ mod run;
 mod seen;
 mod transactions;
 
+pub use orders::{calm_order, some_mood, Mood};
 pub use run::calm;

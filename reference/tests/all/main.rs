@@ -6,3 +6,4 @@ mod parser;
 mod replica;
 mod rows;
 mod scenarios;
+mod settled;
