@@ -12,6 +12,7 @@ pub mod explain;
 pub mod machine;
 pub mod mail;
 pub mod node;
+pub mod orders;
 pub mod plain;
 pub mod program;
 pub mod random;

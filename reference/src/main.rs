@@ -3,7 +3,7 @@
 use reference::program::{self, Done};
 use reference::text::MOST_STORED;
 use reference::values::{read_number, Dials};
-use reference::{batch, budget, calm, plain, random, recover, settled};
+use reference::{batch, budget, calm, orders, plain, random, recover, settled};
 use std::io::{Read, Write};
 
 /// Reads up to so many bytes of standard input.
@@ -54,6 +54,7 @@ fn searched(word: &str, (seed, count): (u64, u64), dials: &Dials) -> Done {
         "recover" => Done::check(recover::recover(seed, count, dials)),
         "settled" => Done::check(settled::settled(seed, count, dials)),
         "budget" => Done::check(budget::budget(seed, count, dials)),
+        "orders" => Done::check(orders::orders(seed, count)),
         _ => Done::usage(),
     }
 }

@@ -9,7 +9,7 @@ use crate::{audit, explain, report, sound, text};
 pub const USAGE: &str =
     "usage: reference [--dials UNIT PATIENCE CROWD HEAP] run | journal | make N S | audit \
     | explain | sound | batch | gen SEED | fuzz SEED COUNT | budget SEED COUNT | plain SEED COUNT | calm SEED COUNT \
-    | recover SEED COUNT | settled SEED COUNT";
+    | recover SEED COUNT | settled SEED COUNT | orders SEED COUNT";
 /// The most bytes of a scenario that are read: one more than it may have.
 pub const SCENARIO_BYTES: u64 = 16_777_217;
 

@@ -1,6 +1,7 @@
 //! Random scenarios, drawn by a seed.
 
 mod dice;
+mod drawn;
 mod fuzz;
 mod heads;
 mod lines;
@@ -9,6 +10,7 @@ mod seen;
 mod shrink;
 
 pub use dice::*;
+pub use drawn::*;
 pub use fuzz::*;
 pub use heads::*;
 pub use lines::*;

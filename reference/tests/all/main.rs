@@ -2,6 +2,7 @@
 
 mod chacha;
 mod machine;
+mod orders;
 mod parser;
 mod replica;
 mod rows;

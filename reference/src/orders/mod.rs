@@ -1,0 +1,16 @@
+//! What is reported of orders, where queued orders stand, and when a coordinator gives up: what holds at each row of
+//! random runs.
+
+mod causes;
+mod marks;
+mod patience;
+mod queue;
+mod results;
+mod rows;
+mod run;
+mod told;
+
+pub use causes::*;
+pub use marks::*;
+pub use rows::{check, Checker, Step};
+pub use run::orders;
