@@ -5,7 +5,7 @@ use Rattle.clap.specs.Simple.{on_top}
 use Rattle.sc_lines.specs.Words.{same}
 use Rattle.sc_command_line.specs.Subcommands.{make_of, scan_of}
 use Rattle.sc_command_line.specs.declared.subcommands.Subcommand.{Subcommand}
-use Rattle.sc_command_line.specs.declared.subcommands.Subcommand.TheVariants.{Run, Journal, Audit, Pool}
+use Rattle.sc_command_line.specs.declared.subcommands.Subcommand.TheVariants.{Run, Journal, Audit, Pool, Explain}
 
 -- a word that must be there, by its name
 abbrev pub word_rule : Text → Rule
@@ -31,9 +31,9 @@ bare_app = on_top (λ s. record s { no_binary_name = true }) (new_app (codes "sc
 abbrev pub with_word : App → Text → App
 with_word app name = with_subcommand app (new_app name).top
 
--- `scatter`, with the subcommands of one word: `run`, `journal`, `audit` and `pool`
+-- `scatter`, with the subcommands of one word: `run`, `journal`, `audit`, `pool` and `explain`
 abbrev pub words_app : App
-words_app = with_word (with_word (with_word (with_word bare_app (codes "run")) (codes "journal")) (codes "audit")) (codes "pool")
+words_app = with_word (with_word (with_word (with_word (with_word bare_app (codes "run")) (codes "journal")) (codes "audit")) (codes "pool")) (codes "explain")
 
 -- `scatter`, with all its subcommands: these, `make` and `scan`
 abbrev pub scatter_app : App
@@ -62,6 +62,7 @@ subcommand_as count name rows =
     else if (count == 1) && same name (codes "journal") then Some Journal
     else if (count == 1) && same name (codes "audit") then Some Audit
     else if (count == 1) && same name (codes "pool") then Some Pool
+    else if (count == 1) && same name (codes "explain") then Some Explain
     else if (count == 3) && same name (codes "make") then make_in rows
     else if (count == 5) && same name (codes "scan") then scan_in rows
     else None

@@ -1,4 +1,4 @@
--- What the words behind a program's name ask for: `run`, `journal`, `audit`, `pool`, `make N S`, or `scan LO LEN R MOST`.
+-- What the words behind a program's name ask for: `run`, `journal`, `audit`, `pool`, `explain`, `make N S`, or `scan LO LEN R MOST`.
 use Rattle.std.specs.Prelude.{ℕ, ⊤, ◌≤◌, ◌==◌, ◌&&◌, ◌||◌, not, get_or, Bool, true, false, List, length, codes, Option, Some, None, if◌then◌else◌, option_and_then}
 use Rattle.std.specs.List.{list_any}
 use Rattle.std.specs.Option.{option_map}
@@ -6,7 +6,7 @@ use Rattle.sc_base.specs.Limits.{most_requests}
 use Rattle.sc_base.specs.Number.{number_of}
 use Rattle.sc_lines.specs.Words.{same, nth, count_in}
 use Rattle.sc_command_line.specs.declared.subcommands.Subcommand.{Subcommand}
-use Rattle.sc_command_line.specs.declared.subcommands.Subcommand.TheVariants.{Run, Journal, Audit, Pool, Scan, Make}
+use Rattle.sc_command_line.specs.declared.subcommands.Subcommand.TheVariants.{Run, Journal, Audit, Pool, Explain, Scan, Make}
 
 -- the one word `run`
 abbrev pub is_run : List (List ℕ) → Bool
@@ -23,6 +23,10 @@ is_audit words = (length words == 1) && same (nth words 0) (codes "audit")
 -- the one word `pool`
 abbrev pub is_pool : List (List ℕ) → Bool
 is_pool words = (length words == 1) && same (nth words 0) (codes "pool")
+
+-- the one word `explain`
+abbrev pub is_explain : List (List ℕ) → Bool
+is_explain words = (length words == 1) && same (nth words 0) (codes "explain")
 
 -- the word `make` and two others
 abbrev pub is_make : List (List ℕ) → Bool
@@ -71,6 +75,7 @@ subcommand_by words =
     else if is_journal words then Some Journal
     else if is_audit words then Some Audit
     else if is_pool words then Some Pool
+    else if is_explain words then Some Explain
     else if is_make words then make_of (nth words 1) (nth words 2)
     else if is_scan words then scan_of (nth words 1) (nth words 2) (nth words 3) (nth words 4)
     else None
@@ -81,6 +86,7 @@ is_on_input Run = true
 is_on_input Journal = true
 is_on_input Audit = true
 is_on_input Pool = true
+is_on_input Explain = true
 is_on_input (Scan sight) = true
 is_on_input (Make n seed) = false
 
@@ -99,6 +105,7 @@ IsInRange Run = ⊤
 IsInRange Journal = ⊤
 IsInRange Audit = ⊤
 IsInRange Pool = ⊤
+IsInRange Explain = ⊤
 IsInRange (Scan sight) = (1 ≤ sight.most) × (sight.most ≤ most_pairs)
 IsInRange (Make n seed) = (1 ≤ n) × (n ≤ most_requests)
 
@@ -106,10 +113,10 @@ IsInRange (Make n seed) = (1 ≤ n) × (n ≤ most_requests)
 abbrev pub has_dash : List ℕ → Bool
 has_dash word = get_or word 0 0 == 45
 
--- whether a word is a first word: `run`, `journal`, `audit`, `pool`, `make` or `scan`
+-- whether a word is a first word: `run`, `journal`, `audit`, `pool`, `explain`, `make` or `scan`
 abbrev pub is_known : List ℕ → Bool
-is_known word = same word (codes "run") || (same word (codes "journal") || (same word (codes "audit") || (same word (codes "pool") || (same word (codes "make") || same word (codes "scan")))))
+is_known word = same word (codes "run") || (same word (codes "journal") || (same word (codes "audit") || (same word (codes "pool") || (same word (codes "explain") || (same word (codes "make") || same word (codes "scan"))))))
 
--- the first word is one of the six, and no word begins with a dash
+-- the first word is one of the seven, and no word begins with a dash
 abbrev pub is_plain : List (List ℕ) → Bool
 is_plain words = is_known (nth words 0) && not (list_any has_dash words)

@@ -6,10 +6,10 @@ ghost use Rattle.sc_lines.specs.Words.{count_in, nth};
 ghost use Rattle.clap.specs.Words.{app_of, first_of, found_of, kind_of, rows_of, subcommand_rows_of};
 ghost use Rattle.clap.specs.declared.builder.command.Command.TheViews.{out-Command};
 ghost use Rattle.sc_command_line.specs.Subcommands.{has_dash, is_known, is_plain, make_of, subcommand_by, IsInRange};
-ghost use Rattle.sc_command_line.specs.Subcommands.{is_run, is_journal, is_audit, is_pool, reads_input, is_on_input, scan_of, whole_circle};
+ghost use Rattle.sc_command_line.specs.Subcommands.{is_run, is_journal, is_audit, is_pool, is_explain, reads_input, is_on_input, scan_of, whole_circle};
 ghost use Rattle.sc_command_line.specs.Commands.{make_app, arc_app, scan_app, bare_app, with_word, words_app, scatter_app};
 ghost use Rattle.sc_command_line.specs.Commands.{make_in, scan_in, subcommand_as, subcommand_in};
-ghost use Rattle.sc_command_line.specs.declared.subcommands.Subcommand.TheVariants.{Run, Journal, Audit, Pool};
+ghost use Rattle.sc_command_line.specs.declared.subcommands.Subcommand.TheVariants.{Run, Journal, Audit, Pool, Explain};
 
 use crate::subcommands::{Sight, Subcommand};
 use clap::error::ErrorKind;
@@ -59,7 +59,7 @@ fn have_dash(words: &[String]) -> bool
     any_dash(words)
 }
 
-// Whether a word is one of the six first words.
+// Whether a word is one of the seven first words.
 fn is_known(word: &[u8]) -> bool
     ensures { result ≡ is_known word.now }
 {
@@ -67,11 +67,12 @@ fn is_known(word: &[u8]) -> bool
         || is_text(word, b"journal")
         || is_text(word, b"audit")
         || is_text(word, b"pool")
+        || is_text(word, b"explain")
         || is_text(word, b"make")
         || is_text(word, b"scan")
 }
 
-// Whether the first word is one of the six, and no word begins with a dash.
+// Whether the first word is one of the seven, and no word begins with a dash.
 fn is_plain(words: &[String]) -> bool
     ensures { result ≡ is_plain (map string_bytes words.now) }
 {
@@ -129,7 +130,8 @@ fn words_command<'a>(alloc: Global) -> Result<Command<'a>, AllocError>
     let run = with_word(alloc, bare_command(alloc), "run")?;
     let journal = with_word(alloc, run, "journal")?;
     let audit = with_word(alloc, journal, "audit")?;
-    with_word(alloc, audit, "pool")
+    let pool = with_word(alloc, audit, "pool")?;
+    with_word(alloc, pool, "explain")
 }
 
 fn command<'a>(alloc: Global) -> Result<Command<'a>, AllocError>
@@ -231,6 +233,9 @@ fn subcommand_as(count: usize, name: &str, matches: &ArgMatches) -> Option<Subco
     if count == 1 && is_text(name.as_bytes(), b"pool") {
         return Some(Subcommand::Pool);
     }
+    if count == 1 && is_text(name.as_bytes(), b"explain") {
+        return Some(Subcommand::Explain);
+    }
     if count == 3 && is_text(name.as_bytes(), b"make") {
         return make_in(matches);
     }
@@ -270,11 +275,12 @@ fn parsed(alloc: Global, words: &[String]) -> Result<Option<Subcommand>, OutOfMe
     }
 }
 
-/// What the words behind a program's name ask for: `run`, `journal`, `audit`, `pool`, `make N S` with
-/// N from 1 to 1,000 and S from 0 to 2^64 - 1, or `scan LO LEN R MOST` with LO and R from 0 to
-/// 2^32 - 1, LEN from 1 to 2^32 and MOST from 1 to 1,000,000. None where they are none of these.
+/// Returns what the words behind a program's name ask for: `run`, `journal`, `audit`, `pool`,
+/// `explain`, `make N S` with N from 1 to 1,000 and S from 0 to 2^64 - 1, or `scan LO LEN R MOST`
+/// with LO and R from 0 to 2^32 - 1, LEN from 1 to 2^32 and MOST from 1 to 1,000,000. None where
+/// they are none of these.
 ///
-/// Words of which the first is none of the six, or of which one begins with a dash, are refused
+/// Words of which the first is none of the seven, or of which one begins with a dash, are refused
 /// as they are; all others are parsed by clap.
 pub fn subcommand_by(alloc: Global, words: &[String]) -> Result<Option<Subcommand>, OutOfMemory>
     ensures asked { IfOk result (λ asked. asked ≡ subcommand_by (map string_bytes words.now)) }
@@ -287,6 +293,8 @@ pub fn subcommand_by(alloc: Global, words: &[String]) -> Result<Option<Subcomman
         (λ asked. asked ≡ Some Audit → is_audit (map string_bytes words.now) ≡ true) }
     ensures pool { IfOk result
         (λ asked. asked ≡ Some Pool → is_pool (map string_bytes words.now) ≡ true) }
+    ensures explain { IfOk result
+        (λ asked. asked ≡ Some Explain → is_explain (map string_bytes words.now) ≡ true) }
     ensures reads { IfOk result (λ asked. IfSome asked
         (λ what. is_on_input what ≡ reads_input (map string_bytes words.now))) }
 {

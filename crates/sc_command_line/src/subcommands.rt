@@ -23,6 +23,8 @@ pub enum Subcommand {
     Audit,
     /// `pool`: a run of the scenario on the input, by a pool of workers.
     Pool,
+    /// `explain`: what each row of the journal on the input decided, if it is lawful.
+    Explain,
     /// `scan LO LEN R MOST`: a run of the scenario on the input, of which an arc is shown.
     Scan(Sight),
     /// `make N S`: a run of the made scenario with N requests a client and the seed S.

@@ -182,8 +182,8 @@ fn after_acceptance(
     })
 }
 
-// One more row.
-fn after_row(
+/// Takes one more row, and adds the entries that it decides.
+pub(crate) fn after_row(
     alloc: Global,
     entries: &mut Vec<LogEntry>,
     bases: &[Base],

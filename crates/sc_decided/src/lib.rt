@@ -4,6 +4,8 @@
 #![tactic(auto)]
 
 mod births;
+mod deciding;
 mod entries;
 
+pub use deciding::{DecidingRow, deciding_rows};
 pub use entries::{entries_of, log_at};

@@ -76,6 +76,7 @@ read_answered Shows scenario other said text same within comes =
 says_answered : (what : Option Subcommand) (source : SourceUse) (scenario : Scenario) (said : Said) (text : Text) → IsAskedFor what source scenario → IsWithinBudget scenario → (Rose source.faults_before source.faults_after → ⊥) → SaysFor what source said text → IsOver scenario said text
 says_answered None source scenario said text asked within still says = absurd asked
 says_answered (Some ask.Audit) source scenario said text asked within still says = absurd asked
+says_answered (Some ask.Explain) source scenario said text asked within still says = absurd asked
 says_answered (Some ask.Run) source scenario said text asked within still (inl refuses) = absurd (not_refused source scenario said text asked still refuses)
 says_answered (Some ask.Run) source scenario said text asked within still (inr plays) =
     read_answered ShowsReport scenario plays.scenario said text (same_text source scenario plays.scenario asked plays.read.read) within plays.comes

@@ -27,6 +27,7 @@ IsAskedFor (Some ask.Run) source scenario = IsText source scenario
 IsAskedFor (Some ask.Journal) source scenario = IsText source scenario
 IsAskedFor (Some ask.Audit) source scenario = ⊥
 IsAskedFor (Some ask.Pool) source scenario = IsText source scenario
+IsAskedFor (Some ask.Explain) source scenario = ⊥
 IsAskedFor (Some (ask.Scan sight)) source scenario = IsText source scenario
 IsAskedFor (Some (ask.Make n seed)) source scenario = scenario ≡ made_scenario n seed
 

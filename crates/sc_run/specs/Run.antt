@@ -12,6 +12,7 @@ use Rattle.sc_scenario.specs.Made.{made_scenario}
 use Rattle.sc_scenario.specs.Valid.{IsValid}
 use Rattle.sc_actor.specs.Counted.{journal_bytes}
 use Rattle.sc_scenario.specs.declared.scenarios.Scenario.{Scenario}
+use Rattle.sc_explain.specs.Explained.{explained}
 use Rattle.sc_report.specs.Report.{report_lines}
 use Rattle.sc_row_text.specs.RowText.{IsHeld}
 use Rattle.sc_journal_file.specs.Stored.{file_lines, IsBadFile}
@@ -40,7 +41,7 @@ use Rattle.sc_lines.specs.declared.reasons.Reason.{Reason}
 
 -- the text for other words
 abbrev pub usage : List ℕ
-usage = codes "usage: scatter run | scatter make N S | scatter journal | scatter audit | scatter scan LO LEN R MOST | scatter pool"
+usage = codes "usage: scatter run | scatter make N S | scatter journal | scatter audit | scatter scan LO LEN R MOST | scatter pool | scatter explain"
 
 -- the one line of a text that is about no journal
 pub record TellsLine (message : List ℕ) (text : Text) : Type 0 where
@@ -178,6 +179,27 @@ pub record ReadsAndAudits (source : SourceUse) (said : Said) (text : Text) : Typ
   pub read : ReadsFile source.left scenario rows
   pub audits : AuditsAs scenario rows said text
 
+-- Rows are a lawful journal of a scenario, of which each prefix is sound and each refusal has its cause, and the lines of the text are what each row decided.
+pub record ExplainsLawful (scenario : Scenario) (rows : List (Row Mail OrderLine)) (said : Said) (text : Text) : Type 0 where
+  pub lawful : Lawful as_nodes two_words scenario rows
+  pub sound : IsSoundThroughout as_nodes scenario rows
+  pub refuses : RefusesWithCause as_nodes scenario rows
+  pub lines : text.lines ≡ explained as_nodes scenario.groups rows
+  pub journal_is : text.journal ≡ Some rows
+  pub parties : text.parties ≡ []
+  pub said_is : said ≡ Yes
+
+-- what a text explains of a scenario and rows that are stored: where they are not lawful, it is what an audit prints
+abbrev pub ExplainsAs : Scenario → List (Row Mail OrderLine) → Said → Text → Type 0
+ExplainsAs scenario rows said text = ExplainsLawful scenario rows said text ⊎ HoldsUnlawful scenario rows said text
+
+-- the input stores a journal, and the text is what its rows decided, or names the first that is not lawful
+pub record ReadsAndExplains (source : SourceUse) (said : Said) (text : Text) : Type 0 where
+  pub scenario : Scenario
+  pub rows : List (Row Mail OrderLine)
+  pub read : ReadsFile source.left scenario rows
+  pub explains : ExplainsAs scenario rows said text
+
 -- What a text says that was begun after the word `run`, or after `pool`, and its cause.
 abbrev pub Reads : SourceUse → Said → Text → Type 0
 Reads source said text = Refuses IsBadText source said text ⊎ ReadsAndPlays source said text
@@ -194,6 +216,10 @@ Scans sight source said text = Refuses IsBadText source said text ⊎ ReadsAndSc
 abbrev pub Audits : SourceUse → Said → Text → Type 0
 Audits source said text = Refuses IsBadFile source said text ⊎ ReadsAndAudits source said text
 
+-- The same after the word `explain`.
+abbrev pub Explains : SourceUse → Said → Text → Type 0
+Explains source said text = Refuses IsBadFile source said text ⊎ ReadsAndExplains source said text
+
 -- the same of a made scenario, which is plain and at its budget, without a look at the source
 pub record PlaysMade (scenario : Scenario) (said : Said) (text : Text) : Type 0 where
   pub valid : IsValid scenario
@@ -207,6 +233,7 @@ SaysFor (Some ask.Run) source said text = Reads source said text
 SaysFor (Some ask.Journal) source said text = Keeps source said text
 SaysFor (Some ask.Audit) source said text = Audits source said text
 SaysFor (Some ask.Pool) source said text = Reads source said text
+SaysFor (Some ask.Explain) source said text = Explains source said text
 SaysFor (Some (ask.Scan sight)) source said text = Scans sight source said text
 SaysFor (Some (ask.Make n seed)) source said text = PlaysMade (made_scenario n seed) said text
 

@@ -22,8 +22,8 @@ use sc_scenario::Scenario;
 use sc_world::{ReplayFault, replay_rows};
 use std::alloc::Global;
 
-// The first row that is not lawful, from 1, if there is one.
-fn bad_row(
+/// Returns the first row that is not lawful, from 1, if there is one.
+pub(crate) fn bad_row(
     alloc: Global,
     scenario: &Scenario,
     rows: &Journal<Mail, OrderLine>,

@@ -73,8 +73,9 @@ fn say_and_print<S: Source, K: Sink, G: Gate, R: Threads + Wait + Sync>(
 /// behind it; or reads a stored journal and prints whether it is lawful.
 ///
 /// The words are those behind the program's name. Each line of output is one call of the sink, and
-/// the source is called 16,777,218 times at most, after the word `audit` 268,435,458 times. A write
-/// error overrides the text's status. The gate is passed before each row that delivers a mail.
+/// the source is called 16,777,218 times at most, after the words `audit` and `explain` 268,435,458
+/// times. A write error overrides the text's status. The gate is passed before each row that
+/// delivers a mail.
 ///
 /// Where the scenario that is read or made is plain and at its budget, no line is cut off, the
 /// journal is not full, and every request of a client whose `go` line is followed by a line of

@@ -6,11 +6,12 @@ ghost use Rattle.sc_scenario.specs.Made.{made_scenario};
 ghost use Rattle.sc_command_line.specs.Inputs.{most_takes};
 ghost use Rattle.sc_command_line.specs.Subcommands.{reads_input};
 ghost use Rattle.sc_command_line.specs.declared.said.Said.TheVariants.{Usage};
-ghost use Rattle.sc_run.specs.Run.{usage, Audits, Keeps, PlaysMade, Reads, Says, Scans, TellsLine};
+ghost use Rattle.sc_run.specs.Run.{usage, Audits, Explains, Keeps, PlaysMade, Reads, Says, Scans, TellsLine};
 ghost use Rattle.sc_run.specs.Refusals.{TellsFault};
 
 use crate::auditing::audit;
 use crate::done::Text;
+use crate::explaining::explain_stored;
 use crate::reporting::{report, store};
 use crate::showing::show;
 use crate::telling::tells;
@@ -52,7 +53,7 @@ fn tell_usage(alloc: Global) -> Result<(Said, Text), OutOfMemory>
     let text = tells(
         alloc,
         b"usage: scatter run | scatter make N S | scatter journal | scatter audit \
-        | scatter scan LO LEN R MOST | scatter pool",
+        | scatter scan LO LEN R MOST | scatter pool | scatter explain",
     )?;
     Ok((Said::Usage, text))
 }
@@ -135,6 +136,21 @@ fn audit_input<S: Source>(alloc: Global, input: &mut S) -> Result<(Said, Text), 
     }
 }
 
+// What the rows decided of the journal that the input stores, if it is lawful.
+fn explain_input<S: Source>(alloc: Global, input: &mut S) -> Result<(Said, Text), OutOfMemory>
+    ensures says { IfOk result (λ begun. Explains (record {
+      left = S.left input.old;
+      faults_before = S.faults input.old;
+      faults_after = S.faults input.new;
+    }) begun.0 begun.1) }
+    ensures takes { S.calls input.new ≤ S.calls input.old + (most_file_bytes + 2) }
+{
+    match file_in(alloc, input) {
+        Ok((scenario, rows)) => explain_stored(alloc, &scenario, rows),
+        Err(fault) => refuse(alloc, fault),
+    }
+}
+
 // What comes of a made scenario, of 1 to 1,000 requests a client.
 fn report_made<G: Gate, R: Threads + Wait + Sync>(
     rt: &R,
@@ -152,7 +168,7 @@ fn report_made<G: Gate, R: Threads + Wait + Sync>(
 }
 
 /// The text for what the words ask for. The input is read only after one of the words `run`,
-/// `journal`, `audit` and `pool` alone, and after `scan` with its four numbers.
+/// `journal`, `audit`, `pool` and `explain` alone, and after `scan` with its four numbers.
 pub(crate) fn say<S: Source, G: Gate, R: Threads + Wait + Sync>(
     rt: &R,
     alloc: Global,
@@ -176,6 +192,7 @@ pub(crate) fn say<S: Source, G: Gate, R: Threads + Wait + Sync>(
         Some(Subcommand::Pool) => report_input(rt, alloc, Way::Queue, input, gate),
         Some(Subcommand::Journal) => store_input(rt, alloc, input, gate),
         Some(Subcommand::Audit) => audit_input(alloc, input),
+        Some(Subcommand::Explain) => explain_input(alloc, input),
         Some(Subcommand::Scan(sight)) => show_input(rt, alloc, input, sight, gate),
         Some(Subcommand::Make { n, seed }) => report_made(rt, alloc, n, seed, gate),
     }

@@ -31,7 +31,7 @@ pub const FIRST_REPORT: &[u8] =
         rows 9\nmail 8\ndelivered 8\nskipped 0\nquiet yes\n";
 
 const USAGE: &[u8] = b"usage: scatter run | scatter make N S | scatter journal | scatter audit \
-        | scatter scan LO LEN R MOST | scatter pool\n";
+        | scatter scan LO LEN R MOST | scatter pool | scatter explain\n";
 
 /// A run that is cut off with mail pending.
 pub const CUT_SHORT: &[u8] =

@@ -26,7 +26,7 @@ use std::sync::Wait;
 use std::thread::Threads;
 
 const USAGE: &[u8] = b"usage: scatter run | scatter make N S | scatter journal | scatter audit \
-        | scatter scan LO LEN R MOST | scatter pool\n";
+        | scatter scan LO LEN R MOST | scatter pool | scatter explain\n";
 
 // Three pairs of one group.
 const THREE: &[u8] = b"scatter 1\nnodes 1\ngroup 0 1\nclient 1\nput a x\nput m y\nput z w\nend\n\

@@ -8,6 +8,7 @@ ghost use Rattle.sc_machine_table.specs.Logs.{entry_of};
 ghost use Rattle.sc_log_entries.specs.Effective.{is_commit, effective, effective_by, after_outcome};
 ghost use Rattle.sc_log_entries.specs.Rings.{HaveArcs, ring_after};
 ghost use Rattle.sc_log_entries.specs.Worlds.{CoverThroughout, first_world, named_group, told, with_result, world_of};
+ghost use Rattle.sc_store_world.specs.Effects.{effect_in};
 ghost use Rattle.sc_store_world.specs.Places.{IsFirstNamed};
 ghost use Rattle.sc_store_world.specs.declared.faults.TellFault.TheVariants.{NoArc};
 
@@ -54,10 +55,10 @@ fn note(
     alloc: Global,
     history: &mut Vec<Entry>,
     command: &Command,
-    effect: Effect,
+    effect: &Effect,
 ) -> Result<(), OutOfMemory>
     ensures { OnOk result (history.new.items ≡
-        history.old.items ++ entry_of command.now effect) }
+        history.old.items ++ entry_of command.now effect.now) }
 {
     match command {
         Command::Call { client, seq, op } => {
@@ -66,7 +67,7 @@ fn note(
                     client: *client,
                     seq: *seq,
                     op: op.dup(alloc)?,
-                    reply,
+                    reply: reply.dup(alloc)?,
                 })?;
             }
             Ok(())
@@ -118,17 +119,34 @@ impl StoreWorld {
         ensures { MatchResult result (λ _. self.new ≡ told self.old entry.now)
             (λ fault. fault ≡ NoArc → HaveArcs (told self.old entry.now).ring → ⊥) }
     {
-        match place_of(self.groups.as_slice(), entry.group) {
-            None => Ok(()),
-            Some(at) => self.execute(entry.group, at, &entry.command),
+        match self.take(entry) {
+            Ok(_effect) => Ok(()),
+            Err(fault) => Err(fault),
         }
     }
 
-    fn execute(&mut self, name: Draw, at: usize, command: &Command) -> Result<(), TellFault>
+    /// Takes one more entry, as `tell` does, and returns its effect where its group was born.
+    pub fn take(&mut self, entry: &LogEntry) -> Result<Option<Effect>, TellFault>
+        ensures { MatchResult result
+            (λ effect. (self.new ≡ told self.old entry.now) ×
+            (effect ≡ effect_in self.old entry.now))
+            (λ fault. fault ≡ NoArc → HaveArcs (told self.old entry.now).ring → ⊥) }
+    {
+        match place_of(self.groups.as_slice(), entry.group) {
+            None => Ok(None),
+            Some(at) => match self.execute(entry.group, at, &entry.command) {
+                Ok(effect) => Ok(Some(effect)),
+                Err(fault) => Err(fault),
+            },
+        }
+    }
+
+    fn execute(&mut self, name: Draw, at: usize, command: &Command) -> Result<Effect, TellFault>
         requires { IsFirstNamed name self.old.groups at }
         ensures { MatchResult result
-            (λ _. (group : Group) → named_group name self.old.groups ≡ Some group →
-            self.new ≡ with_result self.old group command.now (applied group command.now))
+            (λ effect. (group : Group) → named_group name self.old.groups ≡ Some group →
+            (self.new ≡ with_result self.old group command.now (applied group command.now)) ×
+            (effect ≡ (applied group command.now).1))
             (λ fault. fault ≡ NoArc →
             (group : Group) → named_group name self.old.groups ≡ Some group →
             HaveArcs (with_result self.old group command.now (applied group command.now)).ring →
@@ -140,8 +158,15 @@ impl StoreWorld {
             Ok(()) => {}
             Err(fault) => return Err(fault),
         }
-        note(self.alloc, &mut self.history, command, effect)?;
-        Ok(())
+        note(self.alloc, &mut self.history, command, &effect)?;
+        Ok(effect)
+    }
+
+    /// All groups that were born, in the order of their births, each as its own log makes it.
+    pub fn groups(&self) -> &[Machine]
+        ensures { result.now ≡ self.now.groups }
+    {
+        self.groups.as_slice()
     }
 
     /// The decided ring.

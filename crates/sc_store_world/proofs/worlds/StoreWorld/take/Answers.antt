@@ -6,7 +6,7 @@ use Rattle.sc_log_entries.specs.Rings.{HaveArcs}
 use Rattle.sc_log_entries.specs.Worlds.{StoreWorld, named_group, after_command, with_result}
 use Rattle.sc_store_world.specs.Places.{IsFirstNamed}
 use Rattle.sc_store_world.proofs.Executing.{item-at}
-use Rattle.sc_store_world.proofs.worlds.StoreWorld.tell.Goals as goal
+use Rattle.sc_store_world.proofs.worlds.StoreWorld.take.Goals as goal
 
 pub returns-in-None : goal.returns-in-None
 returns-in-None c =

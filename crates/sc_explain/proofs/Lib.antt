@@ -1,0 +1,6 @@
+mod Calls
+mod Changed
+mod Counted
+mod Following
+mod Rows
+mod Takings

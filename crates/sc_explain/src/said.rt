@@ -1,0 +1,98 @@
+//! What was said last of a world, and the lines of what is said after a row.
+ghost use Rattle.std.specs.Prelude.{◌≡◌, ◌++◌, List, drop, IfOk, OnOk};
+ghost use Rattle.sc_log_entries.specs.declared.LogEntry.{LogEntry};
+ghost use Rattle.sc_log_entries.specs.Worlds.{StoreWorld};
+ghost use Rattle.sc_explain.specs.Explained.{entry_lines, no_world, ring_groups_in, row_lines};
+ghost use Rattle.sc_explain.specs.Said.{IsSaidOf};
+
+use crate::adding::{add_all, add_births, add_history, add_records, add_ring, add_ring_groups};
+use crate::changes::{changed_groups, changed_records};
+use crate::groups::records_in;
+use sc_base::OutOfMemory;
+use sc_facts::{GroupRecord, RingGroup};
+use sc_log_entries::Cut;
+use sc_report::ReportLine;
+use sc_store_world::StoreWorld;
+use std::alloc::Global;
+
+/// What was said last of a world.
+#[derive(Drop)]
+pub(crate) struct Said {
+    /// How many groups were born.
+    pub births: usize,
+    /// How many entries the history has.
+    pub history: usize,
+    /// Each group by its own log.
+    pub records: Vec<GroupRecord>,
+    /// Each group of the ring, by its effective record.
+    pub groups: Vec<RingGroup>,
+    /// The ring.
+    pub ring: Vec<Cut>,
+}
+
+/// Returns what was said before the beginning: nothing.
+pub(crate) fn nothing(alloc: Global) -> Said
+    ensures { IsSaidOf no_world result }
+{
+    Said {
+        births: 0,
+        history: 0,
+        records: Vec::new(alloc),
+        groups: Vec::new(alloc),
+        ring: Vec::new(alloc),
+    }
+}
+
+/// Returns what is said of a world, where this is said of the groups of its ring.
+pub(crate) fn said_of(
+    alloc: Global,
+    world: &StoreWorld,
+    groups: Vec<RingGroup>,
+) -> Result<Said, OutOfMemory>
+    ensures { IfOk result
+        (λ said. groups.items ≡ ring_groups_in world.now → IsSaidOf world.now said) }
+{
+    Ok(Said {
+        births: world.groups().len(),
+        history: world.history().len(),
+        records: records_in(alloc, world)?,
+        groups,
+        ring: Vec::from_slice(alloc, world.ring())?,
+    })
+}
+
+// What is behind so many items, or nothing where there are fewer.
+fn behind<T>(items: &[T], count: usize) -> &[T]
+    ensures { result.now ≡ drop count items.now }
+{
+    if count <= items.len() {
+        &items[count..]
+    } else {
+        &[]
+    }
+}
+
+/// Adds the lines of a row, by what was said before it, the lines of its entries, and what is said
+/// of the world after it.
+pub(crate) fn add_row(
+    alloc: Global,
+    lines: &mut Vec<ReportLine>,
+    row: u64,
+    before: &Said,
+    entries: Vec<ReportLine>,
+    world: &StoreWorld,
+    after: &Said,
+) -> Result<(), OutOfMemory>
+    ensures { OnOk result ((was : StoreWorld) (decided : List LogEntry) → IsSaidOf was before.now →
+        IsSaidOf world.now after.now → entries.items ≡ entry_lines row was decided →
+        lines.new.items ≡ lines.old.items ++ row_lines row was decided world.now) }
+{
+    add_births(alloc, lines, row, behind(world.groups(), before.births))?;
+    add_all(lines, entries)?;
+    add_history(alloc, lines, row, behind(world.history(), before.history))?;
+    let records = changed_records(alloc, before.records.as_slice(), after.records.as_slice())?;
+    add_records(alloc, lines, row, records.as_slice())?;
+    let groups = changed_groups(alloc, before.groups.as_slice(), after.groups.as_slice())?;
+    add_ring_groups(alloc, lines, row, groups.as_slice())?;
+    add_ring(alloc, lines, row, before.ring.as_slice(), world.ring())
+}
