@@ -9,12 +9,12 @@ use Rattle.sc_sound.specs.GroupsOf.{entries_by_row}
 use Rattle.sc_sound.specs.Players.{Ahead}
 use Rattle.sc_decided.specs.declared.deciding.DecidingRow.{DecidingRow}
 
--- a row with its entries, if it decides any
+-- a row with the entries that it decides; no row where it decides none
 abbrev pub with_entries : ℕ → List LogEntry → List DecidingRow
 with_entries row [] = []
 with_entries row (entry ∷ entries) = record { row = row; entries = entry ∷ entries } ∷ []
 
--- those of later rows that decide entries, behind the rows before
+-- those of some rows that decide entries, where these rows were before them
 abbrev pub deciding_from : Ahead → List Base → List (Row Mail OrderLine) → List (Row Mail OrderLine) → List DecidingRow
 deciding_from ahead bases before [] = []
 deciding_from ahead bases before (row ∷ rows) =

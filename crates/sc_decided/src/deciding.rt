@@ -1,4 +1,4 @@
-//! The rows that decide entries of logs.
+//! The rows that decide entries of logs, each with its entries.
 ghost use Rattle.std.specs.Prelude.{◌≡◌, ◌++◌, [], IfOk, OnOk};
 ghost use Rattle.sc_sound.specs.Players.{as_nodes};
 ghost use Rattle.sc_decided.specs.Deciding.{deciding_from, with_entries};
@@ -13,12 +13,12 @@ use sc_log_entries::LogEntry;
 use sc_mail::Mail;
 use std::alloc::Global;
 
-/// A row that decides entries.
+/// A row that decides entries of logs.
 #[derive(Drop)]
 pub struct DecidingRow {
     /// Its number, from 1.
     pub row: u64,
-    /// The entries that it decides, one at least, by slot.
+    /// The entries that it decides, at least one, by group and then by slot.
     pub entries: Sequence<LogEntry>,
 }
 
@@ -42,7 +42,7 @@ fn add_row(
 }
 
 /// Returns the rows that decide entries of logs, in their order, each with its number and its
-/// entries. Refused only where it runs out of memory.
+/// entries. Fails only where it runs out of memory.
 pub fn deciding_rows(
     alloc: Global,
     bases: &[Base],

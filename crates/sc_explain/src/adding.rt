@@ -1,4 +1,4 @@
-//! The lines of each kind of fact, added to lines.
+//! Adds the lines of each kind of fact to the lines so far.
 ghost use Rattle.std.specs.Prelude.{◌≡◌, ◌++◌, ◌∷◌, [], map, OnOk};
 ghost use Rattle.sc_facts.specs.Facts.{history_line, record_line, ring_group_line};
 ghost use Rattle.sc_explain.specs.Explained.{birth_of_group, ring_lines};
@@ -14,7 +14,7 @@ use sc_machine::Machine;
 use sc_report::ReportLine;
 use std::alloc::Global;
 
-/// Adds one line.
+/// Adds a line.
 pub(crate) fn add_line(lines: &mut Vec<ReportLine>, line: ReportLine) -> Result<(), OutOfMemory>
     ensures { OnOk result (lines.new.items ≡ lines.old.items ++ line ∷ []) }
 {
@@ -22,7 +22,7 @@ pub(crate) fn add_line(lines: &mut Vec<ReportLine>, line: ReportLine) -> Result<
     Ok(())
 }
 
-/// Adds all of some lines.
+/// Adds some lines.
 pub(crate) fn add_all(
     lines: &mut Vec<ReportLine>,
     mut more: Vec<ReportLine>,
@@ -33,7 +33,7 @@ pub(crate) fn add_all(
     Ok(())
 }
 
-/// Adds the lines of births.
+/// Adds the lines of the creation of these groups.
 pub(crate) fn add_births(
     alloc: Global,
     lines: &mut Vec<ReportLine>,
@@ -51,7 +51,7 @@ pub(crate) fn add_births(
     Ok(())
 }
 
-/// Adds the lines of entries of the history.
+/// Adds the lines of these entries of the history.
 pub(crate) fn add_history(
     alloc: Global,
     lines: &mut Vec<ReportLine>,
@@ -68,7 +68,7 @@ pub(crate) fn add_history(
     Ok(())
 }
 
-/// Adds the lines of records.
+/// Adds the lines of these records.
 pub(crate) fn add_records(
     alloc: Global,
     lines: &mut Vec<ReportLine>,
@@ -85,7 +85,7 @@ pub(crate) fn add_records(
     Ok(())
 }
 
-/// Adds the lines of groups of the ring.
+/// Adds the lines of these groups of the ring.
 pub(crate) fn add_ring_groups(
     alloc: Global,
     lines: &mut Vec<ReportLine>,
@@ -102,7 +102,7 @@ pub(crate) fn add_ring_groups(
     Ok(())
 }
 
-/// Adds the line of the ring, where it is another than before.
+/// Adds the line of the ring, where the ring is another than before.
 pub(crate) fn add_ring(
     alloc: Global,
     lines: &mut Vec<ReportLine>,

@@ -1,4 +1,4 @@
-//! What changed of what is said.
+//! What is said of groups after a row, and was not said before it.
 ghost use Rattle.std.specs.Prelude.{◌≡◌, IfOk};
 ghost use Rattle.std.specs.List.{list_any};
 ghost use Rattle.sc_facts.specs.Sameness.{same_record, same_ring_group};
@@ -8,7 +8,7 @@ use sc_base::OutOfMemory;
 use sc_facts::{GroupRecord, RingGroup, same_record, same_ring_group};
 use std::alloc::Global;
 
-// Whether a record was said before; mostly at the same place.
+// Returns whether a record was said before. It is looked for at its own place first.
 fn was_said(record: &GroupRecord, before: &[GroupRecord], at: usize) -> bool
     ensures { result ≡ list_any (same_record record.now) before.now }
 {
@@ -35,7 +35,8 @@ pub(crate) fn changed_records(
     Ok(new)
 }
 
-// Whether the same was said of a group of the ring before; mostly at the same place.
+// Returns whether the same was said of a group of the ring before. It is looked for at its own
+// place first.
 fn was_in_ring(group: &RingGroup, before: &[RingGroup], at: usize) -> bool
     ensures { result ≡ list_any (same_ring_group group.now) before.now }
 {

@@ -1,4 +1,4 @@
-//! How many pairs a group has after an operation.
+//! The number of pairs of a group after an operation, by the reply of the operation.
 ghost use Rattle.std.specs.Prelude.{◌≡◌, map, IfOk};
 ghost use Rattle.sc_explain.specs.Counts.{count_after, one_more, one_less, recounted};
 
@@ -27,7 +27,7 @@ fn one_less(old: &Option<Value>, count: u64) -> u64
     }
 }
 
-// How many pairs there are after an operation that replied this.
+// Returns the number of pairs after an operation with this reply, where there were `count` before.
 fn count_after(op: &Op, reply: &Reply, count: u64) -> Result<u64, OutOfMemory>
     ensures { IfOk result (λ after. after ≡ count_after op.now reply.now.old count) }
 {
@@ -58,8 +58,8 @@ fn recounted(
     })
 }
 
-/// Returns what is said of the groups of the ring, with the pairs of the group with a name counted
-/// after an operation that replied this.
+/// Returns what is said of the groups of the ring after the group with a name carried out an
+/// operation with this reply: the number of its pairs is counted on, and all else stays.
 pub(crate) fn recount(
     alloc: Global,
     groups: &[RingGroup],

@@ -28,7 +28,7 @@ fn copy_of(alloc: Global, groups: &[RingGroup]) -> Result<Vec<RingGroup>, OutOfM
     Ok(Vec::from_slice(alloc, groups)?)
 }
 
-// What is said of a world after the entries of a row, with the row's lines.
+// Adds the lines of a row whose entries the world has taken. Returns what is said of the world.
 fn say(
     alloc: Global,
     lines: &mut Vec<ReportLine>,
@@ -48,7 +48,8 @@ fn say(
     Ok(after)
 }
 
-// Takes the entries of a row, and adds its lines. Returns what is said of the world then.
+// Takes the entries of a row, and adds the lines of the row. Returns what is said of the world
+// then.
 fn explain_row(
     alloc: Global,
     lines: &mut Vec<ReportLine>,
@@ -84,7 +85,7 @@ fn explain_row(
     }
 }
 
-// Adds the lines of the beginning. Returns what is said of it.
+// Adds the lines of the beginning. Returns what is said of the world then.
 fn begin(
     alloc: Global,
     lines: &mut Vec<ReportLine>,
@@ -98,7 +99,7 @@ fn begin(
     say(alloc, lines, 0, &none, Vec::new(alloc), world, groups)
 }
 
-// The lines of the beginning and of these rows.
+// Returns the lines of the beginning and of these rows.
 fn explain_rows(
     alloc: Global,
     bases: &[Base],
@@ -123,8 +124,8 @@ fn explain_rows(
     Ok(lines)
 }
 
-/// Returns what each row of a journal decided, line by line, where the ring covers after each of its
-/// entries. Refused only where it runs out of memory.
+/// Returns what each row of a journal decided, line by line, where the ring covers the circle after
+/// each of its entries. Fails only where it runs out of memory.
 pub fn explain(
     alloc: Global,
     bases: &[Base],

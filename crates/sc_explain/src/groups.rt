@@ -1,4 +1,5 @@
-//! What is said of the groups of a world.
+//! What is said of the groups of a world, all of them by their own logs, and those of the ring by
+//! their effective records.
 ghost use Rattle.std.specs.Prelude.{◌≡◌, ◌++◌, IfOk, OnOk};
 ghost use Rattle.std.specs.Option.{option_map, option_to_list};
 ghost use Rattle.sc_facts.specs.Facts.{ring_group_of};
@@ -15,7 +16,7 @@ use sc_log_entries::LogEntry;
 use sc_store_world::StoreWorld;
 use std::alloc::Global;
 
-/// Returns what is said of each group that was born, by its own log.
+/// Returns what is said of each group that was created, by its own log.
 pub(crate) fn records_in(alloc: Global, world: &StoreWorld) -> Result<Vec<GroupRecord>, OutOfMemory>
     ensures { IfOk result (λ records. records.items ≡ records_in world.now) }
 {
@@ -27,7 +28,7 @@ pub(crate) fn records_in(alloc: Global, world: &StoreWorld) -> Result<Vec<GroupR
     Ok(records)
 }
 
-// What is said of the group with a name, by its effective record.
+// Returns what is said of the group with a name by its effective record, if it was created.
 fn ring_group_in(world: &StoreWorld, name: Draw) -> Result<Option<RingGroup>, OutOfMemory>
     ensures { IfOk result (λ group. group ≡
         option_map (ring_group_of name) (effective world.now name)) }
@@ -72,8 +73,8 @@ pub(crate) fn ring_groups_in(
     Ok(groups)
 }
 
-/// Brings what is said of the groups of the ring up to an entry, which the world has taken with this
-/// effect.
+/// Brings what is said of the groups of the ring up to an entry that the world has just taken, with
+/// this effect.
 pub(crate) fn follow(
     alloc: Global,
     world: &StoreWorld,

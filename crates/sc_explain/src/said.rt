@@ -1,4 +1,4 @@
-//! What was said last of a world, and the lines of what is said after a row.
+//! What was said last of a world, and the lines of a row.
 ghost use Rattle.std.specs.Prelude.{◌≡◌, ◌++◌, List, drop, IfOk, OnOk};
 ghost use Rattle.sc_log_entries.specs.declared.LogEntry.{LogEntry};
 ghost use Rattle.sc_log_entries.specs.Worlds.{StoreWorld};
@@ -18,13 +18,13 @@ use std::alloc::Global;
 /// What was said last of a world.
 #[derive(Drop)]
 pub(crate) struct Said {
-    /// How many groups were born.
+    /// The number of groups that were created.
     pub births: usize,
-    /// How many entries the history has.
+    /// The number of entries of the history.
     pub history: usize,
-    /// Each group by its own log.
+    /// What was said of each group, by its own log.
     pub records: Vec<GroupRecord>,
-    /// Each group of the ring, by its effective record.
+    /// What was said of each group of the ring, by its effective record.
     pub groups: Vec<RingGroup>,
     /// The ring.
     pub ring: Vec<Cut>,
@@ -43,7 +43,7 @@ pub(crate) fn nothing(alloc: Global) -> Said
     }
 }
 
-/// Returns what is said of a world, where this is said of the groups of its ring.
+/// Returns what is said of a world, with this of the groups of its ring.
 pub(crate) fn said_of(
     alloc: Global,
     world: &StoreWorld,
@@ -61,7 +61,7 @@ pub(crate) fn said_of(
     })
 }
 
-// What is behind so many items, or nothing where there are fewer.
+// Returns the items behind the first `count`, or none where there are fewer.
 fn behind<T>(items: &[T], count: usize) -> &[T]
     ensures { result.now ≡ drop count items.now }
 {
@@ -72,8 +72,8 @@ fn behind<T>(items: &[T], count: usize) -> &[T]
     }
 }
 
-/// Adds the lines of a row, by what was said before it, the lines of its entries, and what is said
-/// of the world after it.
+/// Adds the lines of a row, by what was said before it, the lines of its entries, the world after
+/// it, and what is said of that world.
 pub(crate) fn add_row(
     alloc: Global,
     lines: &mut Vec<ReportLine>,

@@ -1,4 +1,4 @@
-//! The entries of a row, taken one after another.
+//! The entries of a row, which a world takes one after another.
 ghost use Rattle.std.specs.Prelude.{◌≡◌, ◌∷◌, ◌++◌, [], IfOk, MatchResult};
 ghost use Rattle.sc_explain.specs.Said.{HasTaken, HaveArcsThroughout};
 ghost use Rattle.sc_store_world.specs.declared.faults.TellFault.TheVariants.{NoArc};
@@ -18,14 +18,14 @@ use sc_report::ReportLine;
 use sc_store_world::{StoreWorld, TellFault};
 use std::alloc::Global;
 
-/// The lines of the entries of a row, and what is said of the groups of the ring after them.
+/// The lines of entries, and what is said of the groups of the ring after these entries.
 #[derive(Drop)]
 pub(crate) struct Taken {
     pub lines: Vec<ReportLine>,
     pub groups: Vec<RingGroup>,
 }
 
-// One more entry, which the world has taken with this effect.
+// Adds the line of an entry that the world has just taken, with this effect.
 fn after_entry(
     alloc: Global,
     row: u64,
@@ -48,7 +48,7 @@ fn after_entry(
     Ok(Taken { lines, groups })
 }
 
-// Takes one entry.
+// Lets the world take an entry, and adds the line of the entry.
 fn take_one(
     alloc: Global,
     row: u64,
@@ -70,8 +70,8 @@ fn take_one(
     }
 }
 
-/// Takes the entries of a row. Refused where it runs out of memory, and where an entry would leave a
-/// cut that is no arc; then the world may only be dropped.
+/// Lets the world take the entries of a row, and returns their lines. Fails where it runs out of
+/// memory, and where an entry would leave a cut that is no arc; then the world may only be dropped.
 pub(crate) fn take_all(
     alloc: Global,
     row: u64,

@@ -13,7 +13,7 @@ use Rattle.sc_row_text.specs.Outcomes.{outcome_json, FitsOutcome}
 use Rattle.sc_row_text.specs.Sets.{arc_json}
 use Rattle.sc_row_text.specs.Votes.{past_json, FitsPast}
 
--- an effect
+-- the JSON of an effect: its variant's name, or an object from that name to the content
 unfoldable pub effect_json : Effect → Data
 effect_json (TheEffect.Done reply) = variant (codes "Done") (reply_json reply)
 effect_json (TheEffect.Again reply) = variant (codes "Again") (reply_json reply)
@@ -27,7 +27,7 @@ effect_json (TheEffect.Voted vote) = variant (codes "Voted") (past_json vote)
 effect_json (TheEffect.Decided outcome) = variant (codes "Decided") (outcome_json outcome)
 effect_json (TheEffect.Refused why) = variant (codes "Refused") (order_refusal_json why)
 
--- each part of it is as it is to be
+-- the numbers in an effect are in the ranges of their types
 unfoldable pub FitsEffect : Effect → Type 0
 FitsEffect (TheEffect.Done reply) = FitsReply reply
 FitsEffect (TheEffect.Again reply) = FitsReply reply

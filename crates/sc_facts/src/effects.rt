@@ -13,7 +13,7 @@ use sc_to_json::ToJson;
 use serde_json::{Map, Value as Json};
 use std::alloc::Global;
 
-// A variant whose content is an object of one member.
+// Returns a variant whose content is an object of one member.
 fn variant_one<T: ToJson>(
     alloc: Global,
     name: &str,

@@ -1,4 +1,4 @@
-//! What is said of a group.
+//! What the lines say of a group.
 ghost use Rattle.std.specs.Prelude.{◌≡◌};
 ghost use Rattle.std.specs.Option.{option_map};
 ghost use Rattle.sc_facts.specs.Facts.{hold_of, record_of};
@@ -6,7 +6,7 @@ ghost use Rattle.sc_facts.specs.Facts.{hold_of, record_of};
 use sc_base::{Draw, Members, RingArc};
 use sc_cmd::{Core, Lock, Route};
 
-/// What a lock binds a group to, by the transaction alone.
+/// How a group's lock binds it, with the transaction alone.
 #[derive(Clone, Copy)]
 pub enum Hold {
     Free,
@@ -15,14 +15,14 @@ pub enum Hold {
     Watching(Draw),
 }
 
-/// What is said of a group by its own log.
+/// What a `record` line says of a group: its record by its own log.
 #[derive(Clone, Copy)]
 pub struct GroupRecord {
-    /// Its positions.
+    /// Its arc of the circle.
     pub arc: RingArc,
     /// The group that took it over, if one did.
     pub gone: Option<Draw>,
-    /// What its lock binds it to.
+    /// How its lock binds it.
     pub lock: Hold,
     /// Its members.
     pub members: Members,
@@ -34,14 +34,14 @@ pub struct GroupRecord {
     pub succ: Draw,
 }
 
-/// What is said of a group of the ring, by its effective record.
+/// What a `group` line says of a group of the ring: its effective record, in short.
 #[derive(Clone, Copy)]
 pub struct RingGroup {
-    /// Its positions.
+    /// Its arc of the circle.
     pub arc: RingArc,
     /// Its name.
     pub name: Draw,
-    /// How many pairs it has.
+    /// The number of its pairs.
     pub pairs: u64,
     /// The group before it on the circle.
     pub pred: Draw,
@@ -49,7 +49,7 @@ pub struct RingGroup {
     pub succ: Draw,
 }
 
-/// Returns what a lock binds a group to.
+/// Returns how a lock binds a group.
 pub fn hold_of(lock: &Lock) -> Hold
     ensures { result ≡ hold_of lock.now }
 {
@@ -70,7 +70,7 @@ fn gone_of(gone: &Option<Route>) -> Option<Draw>
     }
 }
 
-/// Returns what is said of a group with this record, by its own log.
+/// Returns what a `record` line says of a group with this record.
 pub fn record_of(core: &Core) -> GroupRecord
     ensures { result ≡ record_of core.now }
 {

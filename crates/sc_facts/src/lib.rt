@@ -1,5 +1,5 @@
-//! The facts that rows of a journal decide: what is said of a group, and each fact as a line of
-//! JSON.
+//! The facts that rows of a journal decide, each as a line of JSON: births, entries of logs,
+//! entries of the history, records of groups, groups of the ring, and the ring.
 #![tactic(auto)]
 
 mod effects;

@@ -24,7 +24,7 @@ use sc_to_json::ToJson;
 use serde_json::{Map, Value as Json};
 use std::alloc::Global;
 
-// The JSON of a birth, with its row.
+// Returns the JSON of the line of a birth.
 fn birth_json(alloc: Global, row: u64, name: Draw, members: &Members) -> Result<Json, OutOfMemory>
     ensures json { IfOk result (λ json. view json ≡ fields
         ((codes "birth", birth_json name members.now) ∷ (codes "row", number_json row) ∷ [])) }
@@ -39,7 +39,8 @@ fn birth_json(alloc: Global, row: u64, name: Draw, members: &Members) -> Result<
     Ok(Json::Object(line))
 }
 
-/// Returns the line of a birth, which the row of this number decided.
+/// Returns the line of the creation of a group with these members, which the row of this number
+/// decided. Row 0 stands for the beginning.
 pub fn birth_line(
     alloc: Global,
     row: u64,
@@ -62,7 +63,7 @@ fn effect_if_any(alloc: Global, effect: Option<&Effect>) -> Result<Json, OutOfMe
     }
 }
 
-// The JSON of an entry of a log, with its row.
+// Returns the JSON of the line of an entry of a log.
 fn entry_json(
     alloc: Global,
     row: u64,
@@ -87,7 +88,8 @@ fn entry_json(
     Ok(Json::Object(line))
 }
 
-/// Returns the line of an entry of a log, with its effect where its group was born.
+/// Returns the line of an entry of a log, which the row of this number decided, with the effect of
+/// the entry, or `null` where there is none.
 pub fn entry_line(
     alloc: Global,
     row: u64,
@@ -100,7 +102,7 @@ pub fn entry_line(
     line_of(alloc, &json)
 }
 
-// The JSON of an entry of the history, with its row.
+// Returns the JSON of the line of an entry of the history.
 fn history_json(alloc: Global, row: u64, entry: &Entry) -> Result<Json, OutOfMemory>
     ensures json { IfOk result (λ json. view json ≡ fields
         ((codes "history", history_json entry.now) ∷ (codes "row", number_json row) ∷ [])) }
@@ -118,7 +120,7 @@ fn history_json(alloc: Global, row: u64, entry: &Entry) -> Result<Json, OutOfMem
     Ok(Json::Object(line))
 }
 
-/// Returns the line of an entry of the history.
+/// Returns the line of an entry of the history, which the row of this number decided.
 pub fn history_line(alloc: Global, row: u64, entry: &Entry) -> Result<ReportLine, OutOfMemory>
     ensures { IfOk result (λ line. line ≡ history_line row entry.now) }
 {
@@ -138,7 +140,7 @@ fn hold_json(alloc: Global, lock: &Hold) -> Result<Json, OutOfMemory>
     }
 }
 
-// The JSON of what is said of a group by its own log, with its row.
+// Returns the JSON of the line of a group's record.
 fn record_json(alloc: Global, row: u64, group: &GroupRecord) -> Result<Json, OutOfMemory>
     ensures json { IfOk result (λ json. view json ≡ fields
         ((codes "record", record_json group.now) ∷ (codes "row", number_json row) ∷ [])) }
@@ -160,7 +162,7 @@ fn record_json(alloc: Global, row: u64, group: &GroupRecord) -> Result<Json, Out
     Ok(Json::Object(line))
 }
 
-/// Returns the line of what is said of a group by its own log.
+/// Returns the line of a group's record by its own log, as the row of this number left it.
 pub fn record_line(alloc: Global, row: u64, group: &GroupRecord) -> Result<ReportLine, OutOfMemory>
     ensures { IfOk result (λ line. line ≡ record_line row group.now) }
 {
@@ -168,7 +170,7 @@ pub fn record_line(alloc: Global, row: u64, group: &GroupRecord) -> Result<Repor
     line_of(alloc, &json)
 }
 
-// The JSON of what is said of a group of the ring, with its row.
+// Returns the JSON of the line of a group of the ring.
 fn ring_group_json(alloc: Global, row: u64, group: &RingGroup) -> Result<Json, OutOfMemory>
     ensures json { IfOk result (λ json. view json ≡ fields
         ((codes "group", ring_group_json group.now) ∷ (codes "row", number_json row) ∷ [])) }
@@ -187,7 +189,7 @@ fn ring_group_json(alloc: Global, row: u64, group: &RingGroup) -> Result<Json, O
     Ok(Json::Object(line))
 }
 
-/// Returns the line of what is said of a group of the ring.
+/// Returns the line of a group of the ring, as the row of this number left it.
 pub fn ring_group_line(
     alloc: Global,
     row: u64,
@@ -221,7 +223,7 @@ fn cuts_json(alloc: Global, ring: &[Cut]) -> Result<Json, OutOfMemory>
     Ok(Json::Array(cuts))
 }
 
-// The JSON of the whole ring, with its row.
+// Returns the JSON of the line of the ring.
 fn ring_json(alloc: Global, row: u64, ring: &[Cut]) -> Result<Json, OutOfMemory>
     ensures json { IfOk result (λ json. view json ≡ fields
         ((codes "ring", list_json cut_json ring.now) ∷ (codes "row", number_json row) ∷ [])) }
@@ -233,7 +235,7 @@ fn ring_json(alloc: Global, row: u64, ring: &[Cut]) -> Result<Json, OutOfMemory>
     Ok(Json::Object(line))
 }
 
-/// Returns the line of the whole ring.
+/// Returns the line of the whole ring, as the row of this number left it.
 pub fn ring_line(alloc: Global, row: u64, ring: &[Cut]) -> Result<ReportLine, OutOfMemory>
     ensures { IfOk result (λ line. line ≡ ring_line row ring.now) }
 {

@@ -1,4 +1,4 @@
-//! Whether the same is said of a group, and whether two rings are the same.
+//! Whether two lines would say the same of a group, and whether two rings are the same.
 ghost use Rattle.std.specs.Prelude.{◌≡◌};
 ghost use Rattle.sc_facts.specs.Sameness.{same_arc, same_if_any, same_hold, same_record, same_ring_group, same_cut, same_ring};
 
@@ -34,7 +34,7 @@ fn same_hold(a: Hold, b: Hold) -> bool
     }
 }
 
-/// Returns whether the same is said of the same group by its own log.
+/// Returns whether two records of a group by its own log are the same.
 pub fn same_record(a: &GroupRecord, b: &GroupRecord) -> bool
     ensures { result ≡ same_record a.now b.now }
 {
@@ -46,7 +46,7 @@ pub fn same_record(a: &GroupRecord, b: &GroupRecord) -> bool
                         && (same_draw(a.pred, b.pred) && same_draw(a.succ, b.succ))))))
 }
 
-/// Returns whether the same is said of the same group of the ring.
+/// Returns whether what is said of two groups of the ring is the same.
 pub fn same_ring_group(a: &RingGroup, b: &RingGroup) -> bool
     ensures { result ≡ same_ring_group a.now b.now }
 {

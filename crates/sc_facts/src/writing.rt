@@ -12,7 +12,7 @@ use sc_to_json::ToJson;
 use serde_json::{Map, Value as Json};
 use std::alloc::Global;
 
-/// Adds a member, of which this is the JSON, to those of an object.
+/// Adds a member with this JSON to the members of an object.
 pub(crate) fn put(
     members: &mut Map<String, Json>,
     alloc: Global,
@@ -26,7 +26,7 @@ pub(crate) fn put(
     Ok(())
 }
 
-/// Adds a member to those of an object.
+/// Adds a member with the JSON of a value to the members of an object.
 pub(crate) fn add<T: ToJson>(
     members: &mut Map<String, Json>,
     alloc: Global,
@@ -42,14 +42,14 @@ pub(crate) fn add<T: ToJson>(
     Ok(())
 }
 
-/// Returns a variant without content.
+/// Returns the JSON of a variant without content.
 pub(crate) fn unit(alloc: Global, name: &str) -> Result<Json, OutOfMemory>
     ensures { IfOk result (λ json. view json ≡ string name.now) }
 {
     Ok(Json::try_from_str(alloc, name)?)
 }
 
-/// Returns a variant with this content.
+/// Returns the JSON of a variant with this content.
 pub(crate) fn wrapped(alloc: Global, name: &str, content: Json) -> Result<Json, OutOfMemory>
     ensures { IfOk result (λ json. view json ≡ variant name.now (view content)) }
 {
@@ -58,7 +58,7 @@ pub(crate) fn wrapped(alloc: Global, name: &str, content: Json) -> Result<Json, 
     Ok(Json::Object(members))
 }
 
-/// Returns a variant whose content is one value.
+/// Returns the JSON of a variant whose content is one value.
 pub(crate) fn variant_of<T: ToJson>(
     alloc: Global,
     name: &str,
@@ -71,7 +71,7 @@ pub(crate) fn variant_of<T: ToJson>(
     wrapped(alloc, name, json)
 }
 
-/// Returns the line of a JSON without floats.
+/// Returns the line of a JSON without floats: its compact text and a line feed.
 pub(crate) fn line_of(alloc: Global, json: &Json) -> Result<ReportLine, OutOfMemory>
     requires { has_float (view json.now) ≡ false }
     ensures { IfOk result (λ line. line ≡ with_line_feed (compact_text (view json.now))) }
