@@ -307,7 +307,7 @@ read_back X words n app found app_is counted plain matches =
     ∙ ap (subcommand_in (length words)) ((matches (ap is_simple app_is ∙ simple)).1 ∙ ap (λ a. subcommand_of a words) app_is)
     ∙ given_back words plain
 
--- words at which a parse failed, not for want of memory, ask for nothing
+-- words at which a parse failed, but not by running out of memory, ask for nothing
 pub not_taken : (words : List Text) (app : App) (kind : ErrorKind) → app ≡ scatter_app → is_plain words ≡ true
     → (takes app words ≡ true → kind ≡ OutOfMemory) → (kind ≡ OutOfMemory → ⊥) → subcommand_by words ≡ None
 not_taken words app kind app_is plain passes other =

@@ -94,7 +94,7 @@ says_answered (Some ask.Journal) source scenario said text asked within still (i
     read_answered (λ s. ShowsFile plays.bytes) scenario plays.scenario said text same within plays.comes
 says_answered (Some (ask.Make n seed)) source scenario said text asked within still says = read_answered ShowsReport scenario (made_scenario n seed) said text (sym asked) within says.comes
 
--- so a run of such a scenario answers all, or has a status that may come of a full journal, or of a want of memory
+-- so a run of such a scenario answers all, or has a status that may come of a full journal, or of running out of memory
 module _ (words : List (List ℕ)) (source : SourceUse) (sink : SinkUse) (done : Done) where
   answers_where : (IsSuch : Scenario → Type 0) → ((scenario : Scenario) → IsSuch scenario → IsWithinBudget scenario) → (May : ℕ → Type 0) → May 8
       → ((scenario : Scenario) (said : Said) (text : Text) → IsSuch scenario → PlaysUntilFull scenario said text → May (status_of said))

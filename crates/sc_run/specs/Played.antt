@@ -17,7 +17,7 @@ use Rattle.sc_chance.specs.Words.{two_words}
 use Rattle.sc_budget_law.specs.Budget.{IsAtBudget, AreAnswered}
 use Rattle.sc_run.specs.Budgets.{IsWithinBudget}
 
--- what a mail weighs
+-- the weight of a mail
 abbrev pub mail_weight : Mail → ℕ
 mail_weight mail = body_weight mail.body
 

@@ -4,9 +4,10 @@ ghost use Rattle.sc_run.specs.Budgets.{BudgetsSuffice};
 use sc_budget_law::{plain_journals_are_answered, plain_journals_are_light, plain_lines_end_quiet};
 use sc_calm_answers_law::{calm_lines_settle, calm_requests_are_answered};
 
-/// In each lawful journal of a valid scenario within its budget, plain or calm, no line is cut off
-/// with mail pending; in each whole one every request of a client whose `go` line is followed by a
-/// line of deliveries is answered; and no journal of a plain one counts more than 2^30 bytes.
+/// Says that in each lawful journal of a valid scenario within its budget, plain or calm, no line
+/// is cut off with mail pending; in each whole one every request of a client whose `go` line is
+/// followed by a line of deliveries is answered; and no journal of a plain one counts more than
+/// 2^30 bytes.
 pub(crate) fn budgets_suffice()
     ensures { BudgetsSuffice }
 {

@@ -16,9 +16,10 @@ use sc_mail::Mail;
 use sc_scenario::Scenario;
 use std::alloc::Global;
 
-/// Returns what each row decided, line by line, where rows are a lawful journal of a scenario, and
-/// else the first row that is not lawful, as an audit does. The scenario is one that some text is, or
-/// that is made, and rows and their mails are fewer than 2^31 each.
+/// Returns the text of what each row decided, line by line, where rows are a lawful journal of a
+/// scenario, or else the text that names the first that is not lawful, as an audit does. The
+/// scenario is one that some text is, or that is made, and there are fewer than 2^31 rows and fewer
+/// than 2^31 mails. Fails only where it runs out of memory.
 pub fn explain_stored(
     alloc: Global,
     scenario: &Scenario,

@@ -1,5 +1,5 @@
-//! A run, from the words and bytes that come in to the bytes that go out. The program has nothing
-//! else but its real input and output.
+//! A run, from the arguments and bytes that come in to the bytes that go out. The program has
+//! nothing else but its real input and output.
 #![tactic(auto)]
 
 mod answering;

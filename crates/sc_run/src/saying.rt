@@ -1,4 +1,4 @@
-//! Which text is begun, by what the words ask for and what the input is.
+//! Which text is begun, by what the arguments ask for and what the input is.
 ghost use Rattle.std.specs.Prelude.{◌≡◌, ◌≤◌, ◌+◌, false, map, string_bytes, IfOk};
 ghost use Rattle.sc_journal_file.specs.Stored.{most_file_bytes};
 ghost use Rattle.sc_lines.specs.Lines.{most_bytes};
@@ -28,7 +28,7 @@ use std::alloc::Global;
 use std::sync::Wait;
 use std::thread::Threads;
 
-// The text about an input that is not what was asked for.
+// Returns the text about an input that is not what was asked for.
 fn refuse(alloc: Global, fault: InputFault) -> Result<(Said, Text), OutOfMemory>
     ensures { IfOk result (λ begun. TellsFault fault begun.0 begun.1) }
 {
@@ -46,7 +46,7 @@ fn refuse(alloc: Global, fault: InputFault) -> Result<(Said, Text), OutOfMemory>
     }
 }
 
-// The usage line.
+// Returns the text of the usage line.
 fn tell_usage(alloc: Global) -> Result<(Said, Text), OutOfMemory>
     ensures { IfOk result (λ begun. (begun.0 ≡ Usage) × TellsLine usage begun.1) }
 {
@@ -58,7 +58,8 @@ fn tell_usage(alloc: Global) -> Result<(Said, Text), OutOfMemory>
     Ok((Said::Usage, text))
 }
 
-// What comes of the scenario that the input is.
+// Returns the report of the scenario that the input is, or the text about the input where it is
+// none.
 fn report_input<S: Source, G: Gate, R: Threads + Wait + Sync>(
     rt: &R,
     alloc: Global,
@@ -79,7 +80,8 @@ fn report_input<S: Source, G: Gate, R: Threads + Wait + Sync>(
     }
 }
 
-// What is stored of the scenario that the input is.
+// Returns the stored journal of the scenario that the input is, or the text about the input where
+// it is none.
 fn store_input<S: Source, G: Gate, R: Threads + Wait + Sync>(
     rt: &R,
     alloc: Global,
@@ -99,7 +101,8 @@ fn store_input<S: Source, G: Gate, R: Threads + Wait + Sync>(
     }
 }
 
-// What an arc holds in a run of the scenario that the input is.
+// Returns what an arc holds in a run of the scenario that the input is, or the text about the input
+// where it is none.
 fn show_input<S: Source, G: Gate, R: Threads + Wait + Sync>(
     rt: &R,
     alloc: Global,
@@ -121,7 +124,8 @@ fn show_input<S: Source, G: Gate, R: Threads + Wait + Sync>(
     }
 }
 
-// Whether the journal is lawful that the input stores.
+// Returns the text that says whether the journal is lawful that the input stores, or the text about
+// the input where it stores none.
 fn audit_input<S: Source>(alloc: Global, input: &mut S) -> Result<(Said, Text), OutOfMemory>
     ensures says { IfOk result (λ begun. Audits (record {
       left = S.left input.old;
@@ -136,7 +140,8 @@ fn audit_input<S: Source>(alloc: Global, input: &mut S) -> Result<(Said, Text), 
     }
 }
 
-// What the rows decided of the journal that the input stores, if it is lawful.
+// Returns what the rows decided of the journal that the input stores, if it is lawful, and else the
+// text that an audit of the input has.
 fn explain_input<S: Source>(alloc: Global, input: &mut S) -> Result<(Said, Text), OutOfMemory>
     ensures says { IfOk result (λ begun. Explains (record {
       left = S.left input.old;
@@ -151,7 +156,7 @@ fn explain_input<S: Source>(alloc: Global, input: &mut S) -> Result<(Said, Text)
     }
 }
 
-// What comes of a made scenario, of 1 to 1,000 requests a client.
+// Returns the report of a made scenario, of 1 to 1,000 requests a client.
 fn report_made<G: Gate, R: Threads + Wait + Sync>(
     rt: &R,
     alloc: Global,
@@ -167,8 +172,9 @@ fn report_made<G: Gate, R: Threads + Wait + Sync>(
     report(rt, alloc, Way::Runs, &scenario, gate)
 }
 
-/// The text for what the words ask for. The input is read only after one of the words `run`,
-/// `journal`, `audit`, `pool` and `explain` alone, and after `scan` with its four numbers.
+/// Returns the text that the arguments ask for. The input is read only after `run`, `journal`,
+/// `audit`, `pool` or `explain` alone, and after `scan` with its four numbers. Fails only where it
+/// runs out of memory.
 pub(crate) fn say<S: Source, G: Gate, R: Threads + Wait + Sync>(
     rt: &R,
     alloc: Global,
