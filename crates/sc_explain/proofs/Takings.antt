@@ -2,8 +2,8 @@
 use Rattle.std.proofs.Common.{◌≡◌, ℕ, suc, ◌+◌, ◌<◌, ◌≤◌, List, [], ◌∷◌, ◌++◌, length, get_or, take, drop, refl, sym, ◌∙◌, ap, subst, append_assoc, append-nil, arith}
 use Rattle.std.specs.List.{flat_map}
 use Rattle.std.proofs.Math.Seq.{take-suc}
-use Rattle.std.proofs.lemmas.List.{take-append-drop}
-use Rattle.sc_decided.proofs.RowByRow.{drop_here, drop_none}
+use Rattle.std.proofs.lemmas.List.{take-append-drop, drop_all}
+use Rattle.sc_decided.proofs.RowByRow.{drop_here}
 use Rattle.sc_decided.specs.declared.deciding.DecidingRow.{DecidingRow}
 use Rattle.sc_facts.specs.Facts.{entry_line}
 use Rattle.sc_facts.specs.declared.facts.RingGroup.{RingGroup}
@@ -78,10 +78,10 @@ pub lines_next : (world later : StoreWorld) (deciding : List DecidingRow) (k : �
 lines_next world later deciding k row lines more total lt is made more_is so_far =
     ap (λ (ls : List (List ℕ)). ls ++ lines_by later (drop (k + 1) deciding)) more_is
     ∙ append_assoc lines (row_lines row.row world row.entries later) (lines_by later (drop (k + 1) deciding))
-    ∙ ap (λ (w : StoreWorld). lines ++ row_lines row.row world row.entries w ++ lines_by w (drop (k + 1) deciding)) made
+    ∙ ap (λ (w : StoreWorld). lines ++ (row_lines row.row world row.entries w ++ lines_by w (drop (k + 1) deciding))) made
     ∙ ap (λ (ds : List DecidingRow). lines ++ lines_by world ds) (sym (drop_here deciding k row lt is)) ∙ so_far
 
 -- behind all rows nothing is left
 pub lines_end : (world : StoreWorld) (deciding : List DecidingRow) (k : ℕ) (lines total : List (List ℕ)) → length deciding ≤ k → lines ++ lines_by world (drop k deciding) ≡ total → lines ≡ total
 lines_end world deciding k lines total le so_far =
-    sym (append-nil lines) ∙ ap (λ (ds : List DecidingRow). lines ++ lines_by world ds) (sym (drop_none deciding k le)) ∙ so_far
+    sym (append-nil lines) ∙ ap (λ (ds : List DecidingRow). lines ++ lines_by world ds) (sym (drop_all k deciding le)) ∙ so_far

@@ -1,4 +1,5 @@
-//! Journals that are stored and audited: worked files, of which another program printed the first.
+//! Journals that are stored, audited and explained: worked files, of which another program printed
+//! the first, and what its rows decided.
 
 use crate::run_tests::{Case, Expected, FIRST, FIRST_REPORT, check, check_all};
 use crate::thread_tests::add;
@@ -137,7 +138,7 @@ const NO_JOURNALS: &[Case] = &[
     ),
 ];
 
-// Sources and sinks that fail, and words that are none.
+// Read errors, write errors, and arguments outside the grammar.
 const FAULTS: &[Case] = &[
     (("audit", STORED, 1, 0), (4, false, b"read fault\n")),
     (("audit", STORED, 0, 1), (5, true, b"")),
@@ -152,7 +153,7 @@ const FAULTS: &[Case] = &[
     (("journal -x", FIRST, 0, 0), (2, false, USAGE)),
 ];
 
-// Where a part of a text begins that is in it.
+// Returns the place where a part of a text begins, which the text has.
 fn place_of(rt: &impl Abort, text: &[u8], part: &[u8]) -> usize {
     for i in 0..text.len() {
         if text.get(i..).unwrap_or(b"").starts_with(part) {
@@ -162,7 +163,7 @@ fn place_of(rt: &impl Abort, text: &[u8], part: &[u8]) -> usize {
     panic!(rt; "no such part");
 }
 
-// A text with that damage.
+// Returns a text with that damage.
 fn damaged(rt: &impl Abort, alloc: Global, text: &[u8], (old, new): Damage) -> Vec<u8> {
     let at = place_of(rt, text, old);
     let mut damaged = Vec::new(alloc);
@@ -249,7 +250,7 @@ const FILES: &[Case] = &[
         ("audit", b"a\nb\nc\nd\ne\nf\ng\nh\ni\nj", 0, 0),
         (3, false, b"line 11: missing journal\n"),
     ),
-    // the part before it is no scenario
+    // the text before the line `journal` is no scenario
     (
         ("audit", b"journal\n", 0, 0),
         (3, false, b"line 1: missing header\n"),
@@ -279,7 +280,7 @@ const FILES: &[Case] = &[
         ("audit", b"scatter 1\nfoo\njournal\nx", 0, 0),
         (3, false, b"line 2: unknown word\n"),
     ),
-    // a line behind it is no row's
+    // a line behind the line `journal` is the text of no row
     (
         ("audit", b"scatter 1\nnodes 1\ngroup 0 1\njournal\nx", 0, 0),
         (3, false, b"line 5: bad row\n"),
