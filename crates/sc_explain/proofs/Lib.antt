@@ -2,5 +2,6 @@ mod Calls
 mod Changed
 mod Counted
 mod Following
+mod RowLines
 mod Rows
 mod Takings

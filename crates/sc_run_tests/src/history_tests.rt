@@ -141,7 +141,7 @@ fn is_full_after_two(rt: &impl Abort, alloc: Global, journal: Journal<Mail, Orde
     }
 }
 
-// Returns how a play of a scenario ends within 700 counted bytes.
+// Plays a scenario within 700 counted bytes, and returns what is left.
 fn filled<R: Abort + Threads + Wait + Sync>(rt: &R, alloc: Global, input: &[u8]) -> Left {
     let scenario = scenario_of(rt, alloc, input);
     let left = left_of(rt, alloc, &scenario, 700);

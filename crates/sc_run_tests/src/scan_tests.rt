@@ -336,7 +336,8 @@ fn front_is_map(
     is_map(rt, alloc, bases, first)
 }
 
-// Returns whether the scan is the map after each `step` rows of a run, and after all.
+// Returns whether the scan is the map after each of `parts` equal parts of the rows of a run, and
+// after all.
 fn are_maps<R: Abort + Threads + Wait + Sync>(
     rt: &R,
     alloc: Global,

@@ -4,7 +4,7 @@ use Rattle.sc_cmd.specs.declared.effects.Effect.{Effect}
 use Rattle.sc_machine_table.specs.Group.{Group}
 use Rattle.sc_machine_table.specs.Machine.{applied}
 use Rattle.sc_log_entries.specs.Rings.{HaveArcs}
-use Rattle.sc_log_entries.specs.Worlds.{StoreWorld, named_group, after_command, with_result}
+use Rattle.sc_log_entries.specs.Worlds.{StoreWorld, named_group, after_command}
 use Rattle.sc_store_world.specs.Places.{IsFirstNamed}
 use Rattle.sc_store_world.proofs.Executing.{item-at}
 use Rattle.sc_store_world.proofs.worlds.StoreWorld.take.Goals as goal
