@@ -54,8 +54,8 @@ pub fn birth_line(
 }
 
 fn effect_if_any(alloc: Global, effect: Option<&Effect>) -> Result<Json, OutOfMemory>
-    ensures json { IfOk result (λ json. view json ≡ option_json effect_json (option_copied effect)) }
-    ensures fits { OnOk result (OptionFits FitsEffect (option_copied effect)) }
+    ensures json { IfOk result (λ json. view json ≡ option_json effect_json (option_copied effect.entry)) }
+    ensures fits { OnOk result (OptionFits FitsEffect (option_copied effect.entry)) }
 {
     match effect {
         None => Ok(Json::Null),
@@ -71,10 +71,10 @@ fn entry_json(
     effect: Option<&Effect>,
 ) -> Result<Json, OutOfMemory>
     ensures json { IfOk result (λ json. view json ≡ fields
-        ((codes "entry", entry_json entry.now (option_copied effect))
+        ((codes "entry", entry_json entry.now (option_copied effect.entry))
         ∷ (codes "row", number_json row) ∷ [])) }
     ensures fits { OnOk result (FitsCommand entry.now.command ×
-        OptionFits FitsEffect (option_copied effect) × FitsDraw entry.now.group ×
+        OptionFits FitsEffect (option_copied effect.entry) × FitsDraw entry.now.group ×
         FitsU32 entry.now.slot) }
 {
     let mut fact = Map::new(alloc);
@@ -96,7 +96,7 @@ pub fn entry_line(
     entry: &LogEntry,
     effect: Option<&Effect>,
 ) -> Result<ReportLine, OutOfMemory>
-    ensures { IfOk result (λ line. line ≡ entry_line row entry.now (option_copied effect)) }
+    ensures { IfOk result (λ line. line ≡ entry_line row entry.now (option_copied effect.entry)) }
 {
     let json = entry_json(alloc, row, entry, effect)?;
     line_of(alloc, &json)
