@@ -17,7 +17,7 @@ drop_here {X} xs i x lt is = drop_more xs i x lt ∙ ap (λ (y : X). y ∷ drop 
 
 -- one more row is among those that were found, if it decides entries
 pub row_next : (bases : List Base) (rows : List (Row Mail OrderLine)) (i : ℕ) (row : Row Mail OrderLine) (found : List DecidingRow) (entries : List LogEntry) → i < length rows → row ≡ get_or rows i row
-    → take (i + 1) rows ≡ take i rows ++ row ∷ [] → entries ≡ [] ++ entries_by_row as_nodes bases (take i rows) row
+    → take (i + 1) rows ≡ take i rows ++ row ∷ [] → entries ≡ entries_by_row as_nodes bases (take i rows) row
     → (found ++ with_entries (i + 1) entries) ++ deciding_from as_nodes bases (take (i + 1) rows) (drop (i + 1) rows) ≡ found ++ deciding_from as_nodes bases (take i rows) (drop i rows)
 row_next bases rows i row found entries lt is next entries_are =
     append_assoc found (with_entries (i + 1) entries) (deciding_from as_nodes bases (take (i + 1) rows) (drop (i + 1) rows))

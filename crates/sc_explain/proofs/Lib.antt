@@ -2,6 +2,7 @@ mod Calls
 mod Changed
 mod Counted
 mod Following
+mod RingGroups
 mod RowLines
 mod Rows
 mod Takings

@@ -1,5 +1,5 @@
 //! What is said of groups after a row, and was not said before it.
-ghost use Rattle.std.specs.Prelude.{◌≡◌, IfOk};
+ghost use Rattle.std.specs.Prelude.{◌≡◌, ◌++◌, ◌∷◌, [], true, IfOk, OnOk};
 ghost use Rattle.std.specs.List.{list_any};
 ghost use Rattle.sc_facts.specs.Sameness.{same_record, same_ring_group};
 ghost use Rattle.sc_explain.specs.Explained.{changed};
@@ -8,14 +8,41 @@ use sc_base::OutOfMemory;
 use sc_facts::{GroupRecord, RingGroup, same_record, same_ring_group};
 use std::alloc::Global;
 
-// Returns whether a record was said before. It is looked for at its own place first.
-fn was_said(record: &GroupRecord, before: &[GroupRecord], at: usize) -> bool
-    ensures { result ≡ list_any (same_record record.now) before.now }
+// Returns whether a record was said at this place before.
+fn is_record_at(one: &GroupRecord, before: &[GroupRecord], at: usize) -> bool
+    ensures { result ≡ true → list_any (same_record one.now) before.now ≡ true }
 {
-    if at < before.len() && same_record(record, &before[at]) {
+    match before.get(at) {
+        None => false,
+        Some(other) => same_record(one, other),
+    }
+}
+
+// Returns whether a record was said before. It is looked for at its own place first.
+fn was_recorded(one: &GroupRecord, before: &[GroupRecord], at: usize) -> bool
+    ensures { result ≡ list_any (same_record one.now) before.now }
+{
+    if is_record_at(one, before, at) {
         return true;
     }
-    before.iter().any(|other| same_record(record, other))
+    before.iter().any(|other| same_record(one, other))
+}
+
+// Adds a record, unless it was said before.
+fn add_record(
+    new: &mut Vec<GroupRecord>,
+    one: &GroupRecord,
+    before: &[GroupRecord],
+    at: usize,
+) -> Result<(), OutOfMemory>
+    ensures { OnOk result
+        (new.new.items ≡ new.old.items ++ changed same_record before.now (one.now ∷ [])) }
+{
+    if was_recorded(one, before, at) {
+        return Ok(());
+    }
+    new.push(*one)?;
+    Ok(())
 }
 
 /// Returns the records that were not said before.
@@ -27,23 +54,49 @@ pub(crate) fn changed_records(
     ensures { IfOk result (λ new. new.items ≡ changed same_record before.now after.now) }
 {
     let mut new = Vec::new(alloc);
-    for at in 0..after.len() {
-        if !was_said(&after[at], before, at) {
-            new.push(after[at])?;
-        }
+    let mut at = 0usize;
+    for one in after {
+        add_record(&mut new, one, before, at)?;
+        at = at.saturating_add(1);
     }
     Ok(new)
 }
 
-// Returns whether the same was said of a group of the ring before. It is looked for at its own
-// place first.
-fn was_in_ring(group: &RingGroup, before: &[RingGroup], at: usize) -> bool
-    ensures { result ≡ list_any (same_ring_group group.now) before.now }
+// Returns whether this of a group of the ring was said at this place before.
+fn is_group_at(one: &RingGroup, before: &[RingGroup], at: usize) -> bool
+    ensures { result ≡ true → list_any (same_ring_group one.now) before.now ≡ true }
 {
-    if at < before.len() && same_ring_group(group, &before[at]) {
+    match before.get(at) {
+        None => false,
+        Some(other) => same_ring_group(one, other),
+    }
+}
+
+// Returns whether this of a group of the ring was said before. It is looked for at its own place first.
+fn was_in_ring(one: &RingGroup, before: &[RingGroup], at: usize) -> bool
+    ensures { result ≡ list_any (same_ring_group one.now) before.now }
+{
+    if is_group_at(one, before, at) {
         return true;
     }
-    before.iter().any(|other| same_ring_group(group, other))
+    before.iter().any(|other| same_ring_group(one, other))
+}
+
+// Adds this of a group of the ring, unless it was said before.
+fn add_group(
+    new: &mut Vec<RingGroup>,
+    one: &RingGroup,
+    before: &[RingGroup],
+    at: usize,
+) -> Result<(), OutOfMemory>
+    ensures { OnOk result
+        (new.new.items ≡ new.old.items ++ changed same_ring_group before.now (one.now ∷ [])) }
+{
+    if was_in_ring(one, before, at) {
+        return Ok(());
+    }
+    new.push(*one)?;
+    Ok(())
 }
 
 /// Returns what is said of groups of the ring that was not said before.
@@ -55,10 +108,10 @@ pub(crate) fn changed_groups(
     ensures { IfOk result (λ new. new.items ≡ changed same_ring_group before.now after.now) }
 {
     let mut new = Vec::new(alloc);
-    for at in 0..after.len() {
-        if !was_in_ring(&after[at], before, at) {
-            new.push(after[at])?;
-        }
+    let mut at = 0usize;
+    for one in after {
+        add_group(&mut new, one, before, at)?;
+        at = at.saturating_add(1);
     }
     Ok(new)
 }

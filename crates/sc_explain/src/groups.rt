@@ -33,7 +33,8 @@ fn ring_group_in(world: &StoreWorld, name: Draw) -> Result<Option<RingGroup>, Ou
     ensures { IfOk result (λ group. group ≡
         option_map (ring_group_of name) (effective world.now name)) }
 {
-    match world.effective(name)? {
+    let found = world.effective(name)?;
+    match found {
         None => Ok(None),
         Some(base) => Ok(Some(RingGroup {
             arc: base.core.arc,
@@ -88,8 +89,14 @@ pub(crate) fn follow(
 {
     match &entry.command {
         Command::Call { op, .. } => match effect {
-            Some(Effect::Done(reply)) => recount(alloc, groups.as_slice(), entry.group, op, reply),
-            _ => Ok(groups),
+            None => Ok(groups),
+            Some(done) => match done {
+                Effect::Done(reply) => {
+                    let before = groups.as_slice();
+                    recount(alloc, before, entry.group, op, reply)
+                }
+                _ => Ok(groups),
+            },
         },
         _ => ring_groups_in(alloc, world),
     }

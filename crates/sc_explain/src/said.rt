@@ -2,7 +2,8 @@
 ghost use Rattle.std.specs.Prelude.{◌≡◌, ◌++◌, List, drop, IfOk, OnOk};
 ghost use Rattle.sc_log_entries.specs.declared.LogEntry.{LogEntry};
 ghost use Rattle.sc_log_entries.specs.Worlds.{StoreWorld};
-ghost use Rattle.sc_explain.specs.Explained.{entry_lines, no_world, ring_groups_in, row_lines};
+ghost use Rattle.sc_facts.specs.Sameness.{same_record, same_ring_group};
+ghost use Rattle.sc_explain.specs.Explained.{changed, entry_lines, no_world, ring_groups_in, row_lines};
 ghost use Rattle.sc_explain.specs.Said.{IsSaidOf};
 
 use crate::adding::{add_all, add_births, add_history, add_records, add_ring, add_ring_groups};
@@ -52,12 +53,17 @@ pub(crate) fn said_of(
     ensures { IfOk result
         (λ said. groups.items ≡ ring_groups_in world.now → IsSaidOf world.now said) }
 {
+    let born = world.groups();
+    let told = world.history();
+    let records = records_in(alloc, world)?;
+    let cuts = world.ring();
+    let ring = Vec::from_slice(alloc, cuts)?;
     Ok(Said {
-        births: world.groups().len(),
-        history: world.history().len(),
-        records: records_in(alloc, world)?,
+        births: born.len(),
+        history: told.len(),
+        records,
         groups,
-        ring: Vec::from_slice(alloc, world.ring())?,
+        ring,
     })
 }
 
@@ -70,6 +76,22 @@ fn behind<T>(items: &[T], count: usize) -> &[T]
     } else {
         &[]
     }
+}
+
+// Returns the records that were not said before.
+fn new_records(alloc: Global, before: &Said, after: &Said) -> Result<Vec<GroupRecord>, OutOfMemory>
+    ensures { IfOk result (λ new.
+        new.items ≡ changed same_record before.now.records.items after.now.records.items) }
+{
+    changed_records(alloc, before.records.as_slice(), after.records.as_slice())
+}
+
+// Returns what is said of groups of the ring that was not said before.
+fn new_groups(alloc: Global, before: &Said, after: &Said) -> Result<Vec<RingGroup>, OutOfMemory>
+    ensures { IfOk result (λ new.
+        new.items ≡ changed same_ring_group before.now.groups.items after.now.groups.items) }
+{
+    changed_groups(alloc, before.groups.as_slice(), after.groups.as_slice())
 }
 
 /// Adds the lines of a row, by what was said before it, the lines of its entries, the world after
@@ -87,12 +109,20 @@ pub(crate) fn add_row(
         IsSaidOf world.now after.now → entries.items ≡ entry_lines row was decided →
         lines.new.items ≡ lines.old.items ++ row_lines row was decided world.now) }
 {
-    add_births(alloc, lines, row, behind(world.groups(), before.births))?;
+    let born = world.groups();
+    let births = behind(born, before.births);
+    add_births(alloc, lines, row, births)?;
     add_all(lines, entries)?;
-    add_history(alloc, lines, row, behind(world.history(), before.history))?;
-    let records = changed_records(alloc, before.records.as_slice(), after.records.as_slice())?;
-    add_records(alloc, lines, row, records.as_slice())?;
-    let groups = changed_groups(alloc, before.groups.as_slice(), after.groups.as_slice())?;
-    add_ring_groups(alloc, lines, row, groups.as_slice())?;
-    add_ring(alloc, lines, row, before.ring.as_slice(), world.ring())
+    let told = world.history();
+    let history = behind(told, before.history);
+    add_history(alloc, lines, row, history)?;
+    let records = new_records(alloc, before, after)?;
+    let said_records = records.as_slice();
+    add_records(alloc, lines, row, said_records)?;
+    let groups = new_groups(alloc, before, after)?;
+    let said_groups = groups.as_slice();
+    add_ring_groups(alloc, lines, row, said_groups)?;
+    let ring_before = before.ring.as_slice();
+    let ring_after = world.ring();
+    add_ring(alloc, lines, row, ring_before, ring_after)
 }

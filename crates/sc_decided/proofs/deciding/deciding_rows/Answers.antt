@@ -3,6 +3,7 @@ use Rattle.sc_cmd.specs.declared.orders.OrderLine.{OrderLine}
 use Rattle.sc_log_entries.specs.declared.LogEntry.{LogEntry}
 use Rattle.sc_mail.specs.declared.bodies.Mail.{Mail}
 use Rattle.sc_actor.specs.declared.rows.Row.{Row}
+use Rattle.sc_sound.specs.GroupsOf.{entries_by_row}
 use Rattle.sc_sound.specs.Players.{as_nodes}
 use Rattle.sc_decided.specs.Deciding.{deciding_from, with_entries}
 use Rattle.sc_decided.specs.declared.deciding.DecidingRow.{DecidingRow}
@@ -22,7 +23,8 @@ loop-i-preserved c =
       groups = done.0;
       deciding =
           ap (λ (found : List DecidingRow). found ++ deciding_from as_nodes c.args.bases.now (take (i + 1) rows) (drop (i + 1) rows)) c.in_ok-add_row.ensures
-          ∙ row_next c.args.bases.now rows i row c.loop-i.deciding.items c.after_row.new.entries.items (omega (arith, c.loop-i-test.true)) c.index-rows-i.is next done.1
+          ∙ row_next c.args.bases.now rows i row c.loop-i.deciding.items c.after_row.new.entries.items (omega (arith, c.loop-i-test.true)) c.index-rows-i.is next
+          (done.1 ∙ ap (λ (entries : List LogEntry). entries ++ entries_by_row as_nodes c.args.bases.now (take i rows) row) c.new-entries.ensures.items)
           ∙ c.loop-i.invariant.deciding;
       sent = mails_next rows i row (map (λ mail. mail.now) c.loop-i.sent.items) (map (λ mail. mail.now) c.add_mails.new.sent.items) next c.loop-i.invariant.sent
           (c.in_ok-add_mails.ensures ∙ ap (λ (ms : List Mail). map (λ mail. mail.now) c.loop-i.sent.items ++ ms) c.as_slice-more.ensures);

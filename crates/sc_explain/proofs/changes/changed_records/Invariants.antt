@@ -4,5 +4,5 @@ use Rattle.sc_explain.specs.Explained.{changed}
 use Rattle.sc_explain.proofs.changes.changed_records.Given as goal
 
 -- those so far
-abbrev pub invariant-loop-at : goal.invariant-loop-at
-invariant-loop-at l = l.new.items ≡ changed same_record l.before (take l.at l.after)
+abbrev pub invariant-loop-one : goal.invariant-loop-one
+invariant-loop-one l = l.new.items ≡ changed same_record l.before (take l.one-index l.after)
