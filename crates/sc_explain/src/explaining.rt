@@ -48,6 +48,29 @@ fn say(
     Ok(after)
 }
 
+// Adds the lines of a row, of whose entries these are the lines. Returns what is said of the world.
+fn say_taken(
+    alloc: Global,
+    lines: &mut Vec<ReportLine>,
+    row: u64,
+    before: &Said,
+    taken: Taken,
+    world: &StoreWorld,
+) -> Result<Said, TellFault>
+    ensures { MatchResult result (λ after. taken.groups.items ≡ ring_groups_in world.now →
+        IsSaidOf world.now after × ((was : StoreWorld) (decided : List LogEntry) →
+        IsSaidOf was before.now → taken.lines.items ≡ entry_lines row was decided →
+        lines.new.items ≡ lines.old.items ++ row_lines row was decided world.now))
+        (λ fault. fault ≡ NoArc → ⊥) }
+{
+    let Taken {
+        lines: of_entries,
+        groups,
+    } = taken;
+    let after = say(alloc, lines, row, before, of_entries, world, groups)?;
+    Ok(after)
+}
+
 // Takes the entries of a row, and adds the lines of the row. Returns what is said of the world
 // then.
 fn explain_row(
@@ -66,22 +89,9 @@ fn explain_row(
 {
     let entries = deciding.entries.as_slice();
     let copy = copy_of(alloc, before.groups.as_slice())?;
-    let taken = take_all(alloc, deciding.row, world, copy, entries)?;
-    let Taken {
-        lines: of_entries,
-        groups,
-    } = taken;
-    match say(
-        alloc,
-        lines,
-        deciding.row,
-        before,
-        of_entries,
-        world,
-        groups,
-    ) {
-        Ok(after) => Ok(after),
-        Err(OutOfMemory) => Err(TellFault::OutOfMemory),
+    match take_all(alloc, deciding.row, world, copy, entries) {
+        Ok(taken) => say_taken(alloc, lines, deciding.row, before, taken, world),
+        Err(fault) => Err(fault),
     }
 }
 

@@ -5,12 +5,13 @@ ghost use Rattle.std.specs.Option.{option_map, option_to_list};
 ghost use Rattle.sc_facts.specs.Facts.{ring_group_of};
 ghost use Rattle.sc_log_entries.specs.Effective.{effective};
 ghost use Rattle.sc_log_entries.specs.Worlds.{StoreWorld, told};
+ghost use Rattle.sc_machine_table.specs.Group.{Group, base_of};
 ghost use Rattle.sc_store_world.specs.Effects.{effect_in};
 ghost use Rattle.sc_explain.specs.Explained.{records_in, ring_groups_in};
 
 use crate::counts::recount;
 use sc_base::{Draw, OutOfMemory};
-use sc_cmd::{Command, Effect, Lock};
+use sc_cmd::{Base, Command, Effect};
 use sc_facts::{GroupRecord, RingGroup, record_of};
 use sc_log_entries::LogEntry;
 use sc_store_world::StoreWorld;
@@ -28,6 +29,19 @@ pub(crate) fn records_in(alloc: Global, world: &StoreWorld) -> Result<Vec<GroupR
     Ok(records)
 }
 
+// Returns what is said of a group by its effective record.
+fn said_by(name: Draw, base: &Base) -> RingGroup
+    ensures { (group : Group) → base.now ≡ base_of group → result ≡ ring_group_of name group }
+{
+    RingGroup {
+        arc: base.core.arc,
+        name,
+        pairs: base.pairs.len() as u64,
+        pred: base.core.pred.group,
+        succ: base.core.succ.group,
+    }
+}
+
 // Returns what is said of the group with a name by its effective record, if it was created.
 fn ring_group_in(world: &StoreWorld, name: Draw) -> Result<Option<RingGroup>, OutOfMemory>
     ensures { IfOk result (λ group. group ≡
@@ -36,13 +50,7 @@ fn ring_group_in(world: &StoreWorld, name: Draw) -> Result<Option<RingGroup>, Ou
     let found = world.effective(name)?;
     match found {
         None => Ok(None),
-        Some(base) => Ok(Some(RingGroup {
-            arc: base.core.arc,
-            name,
-            pairs: base.pairs.len() as u64,
-            pred: base.core.pred.group,
-            succ: base.core.succ.group,
-        })),
+        Some(base) => Ok(Some(said_by(name, &base))),
     }
 }
 

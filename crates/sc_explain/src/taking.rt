@@ -1,5 +1,5 @@
 //! The entries of a row, which a world takes one after another.
-ghost use Rattle.std.specs.Prelude.{◌≡◌, ◌∷◌, ◌++◌, [], IfOk, MatchResult};
+ghost use Rattle.std.specs.Prelude.{◌≡◌, ◌∷◌, ◌++◌, [], MatchResult};
 ghost use Rattle.sc_explain.specs.Said.{HasTaken, HaveArcsThroughout};
 ghost use Rattle.sc_store_world.specs.declared.faults.TellFault.TheVariants.{NoArc};
 ghost use Rattle.sc_facts.specs.Facts.{entry_line};
@@ -10,7 +10,6 @@ ghost use Rattle.sc_explain.specs.Explained.{ring_groups_in};
 
 use crate::adding::add_line;
 use crate::groups::follow;
-use sc_base::OutOfMemory;
 use sc_cmd::Effect;
 use sc_facts::{RingGroup, entry_line};
 use sc_log_entries::LogEntry;
@@ -33,13 +32,14 @@ fn after_entry(
     taken: Taken,
     entry: &LogEntry,
     effect: &Option<Effect>,
-) -> Result<Taken, OutOfMemory>
-    ensures { IfOk result (λ more.
+) -> Result<Taken, TellFault>
+    ensures { MatchResult result (λ more.
         (more.lines.items ≡ taken.lines.items ++ entry_line row entry.now effect.now ∷ []) ×
         ((before : StoreWorld) → world.now ≡ told before entry.now →
         effect.now ≡ effect_in before entry.now →
         taken.groups.items ≡ ring_groups_in before →
-        more.groups.items ≡ ring_groups_in world.now)) }
+        more.groups.items ≡ ring_groups_in world.now))
+        (λ fault. fault ≡ NoArc → ⊥) }
 {
     let Taken { mut lines, groups } = taken;
     let line = entry_line(alloc, row, entry, effect.as_ref())?;
@@ -63,10 +63,9 @@ fn take_one(
         more.groups.items ≡ ring_groups_in world.new))
         (λ fault. fault ≡ NoArc → HaveArcs (told world.old entry.now).ring → ⊥) }
 {
-    let effect = world.take(entry)?;
-    match after_entry(alloc, row, world, taken, entry, &effect) {
-        Ok(more) => Ok(more),
-        Err(OutOfMemory) => Err(TellFault::OutOfMemory),
+    match world.take(entry) {
+        Ok(effect) => after_entry(alloc, row, world, taken, entry, &effect),
+        Err(fault) => Err(fault),
     }
 }
 

@@ -7,4 +7,4 @@ pub returns-then-was_in_ring : goal.returns-then-was_in_ring
 returns-then-was_in_ring c = said_before same_ring_group c.args.before.now c.args.new.now.items c.args.one.now (sym c.was_in_ring.ensures ∙ c.if-was_in_ring.true)
 
 pub returns : goal.returns
-returns c = c.in_ok-push.ensures.ok ∙ said_now same_ring_group c.args.before.now c.args.new.now.items c.args.one.now (sym c.was_in_ring.ensures ∙ c.if-was_in_ring.false)
+returns c = c.in_ok-push.ensures.items ∙ said_now same_ring_group c.args.before.now c.args.new.now.items c.args.one.now (sym c.was_in_ring.ensures ∙ c.if-was_in_ring.false)

@@ -7,4 +7,4 @@ pub returns-then-was_recorded : goal.returns-then-was_recorded
 returns-then-was_recorded c = said_before same_record c.args.before.now c.args.new.now.items c.args.one.now (sym c.was_recorded.ensures ∙ c.if-was_recorded.true)
 
 pub returns : goal.returns
-returns c = c.in_ok-push.ensures.ok ∙ said_now same_record c.args.before.now c.args.new.now.items c.args.one.now (sym c.was_recorded.ensures ∙ c.if-was_recorded.false)
+returns c = c.in_ok-push.ensures.items ∙ said_now same_record c.args.before.now c.args.new.now.items c.args.one.now (sym c.was_recorded.ensures ∙ c.if-was_recorded.false)

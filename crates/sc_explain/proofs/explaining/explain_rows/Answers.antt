@@ -13,6 +13,7 @@ loop-row-init c = record {
   arcs = subst (λ (world : StoreWorld). HaveArcsThroughout world (flat_map (λ (d : DecidingRow). d.entries) c.args.deciding.now)) (sym c.in_ok-world.ensures) c.requires;
   lines =
       ap (λ (lines : List (List ℕ)). lines ++ lines_by c.in_ok-world.world c.args.deciding.now) c.in_ok-said.ensures.1
+      ∙ ap (λ (lines : List (List ℕ)). (lines ++ row_lines 0 no_world [] c.in_ok-world.world) ++ lines_by c.in_ok-world.world c.args.deciding.now) c.new-lines.ensures.items
       ∙ ap (λ (world : StoreWorld). row_lines 0 no_world [] world ++ lines_by world c.args.deciding.now) c.in_ok-world.ensures;
 }
 

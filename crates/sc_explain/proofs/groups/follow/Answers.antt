@@ -16,23 +16,23 @@ returns-in-Done c =
     IfOk-weaker c.recount.result _ _
     (λ after counted before world_is effect_is groups_are.
     counted
-    ∙ ap (map (recounted entry.group c.in-Call.op.now c.in-Done.reply.now.old)) (c.as_slice-before.ensures.value ∙ groups_are)
-    ∙ sym (follows_done before entry c.in-Call.client.now c.in-Call.seq.now c.in-Call.op.now c.in-Done.reply.now c.in-Call.is (ap (λ (effect : Effect). Some effect) (sym c.in-Done.is) ∙ sym c.in-Some.is ∙ effect_is))
+    ∙ ap (map (recounted entry.group c.in-Call.op c.in-Done.reply.old)) (c.as_slice-before.ensures.value ∙ groups_are)
+    ∙ sym (follows_done before entry c.in-Call.client c.in-Call.seq c.in-Call.op c.in-Done.reply c.in-Call.is (ap (λ (effect : Effect). Some effect) (sym c.in-Done.is) ∙ sym c.in-Some.is ∙ effect_is))
     ∙ ap ring_groups_in (sym world_is))
     c.recount.ensures
 
-pub returns-in_default : goal.returns-in_default
-returns-in_default c = λ before world_is effect_is groups_are.
+pub returns-in_default-done : goal.returns-in_default-done
+returns-in_default-done c = λ before world_is effect_is groups_are.
     let entry = c.args.entry.now in
     groups_are
-    ∙ sym (follows_not before entry c.in-Call.client.now c.in-Call.seq.now c.in-Call.op.now c.in-Call.is
-    (λ reply e. c.in_default.not-Done reply (same_Some c.in-Some.done.now (Done reply) (sym c.in-Some.is ∙ effect_is ∙ e))))
+    ∙ sym (follows_not before entry c.in-Call.client c.in-Call.seq c.in-Call.op c.in-Call.is
+    (λ reply e. c.in_default-done.not-Done reply (same_Some c.in-Some.done (Done reply) (sym c.in-Some.is ∙ effect_is ∙ e))))
     ∙ ap ring_groups_in (sym world_is)
 
 pub returns-in-None : goal.returns-in-None
 returns-in-None c = λ before world_is effect_is groups_are.
     let entry = c.args.entry.now in
     groups_are
-    ∙ sym (follows_not before entry c.in-Call.client.now c.in-Call.seq.now c.in-Call.op.now c.in-Call.is
+    ∙ sym (follows_not before entry c.in-Call.client c.in-Call.seq c.in-Call.op c.in-Call.is
     (λ reply e. none-some (Done reply) (sym c.in-None.is ∙ effect_is ∙ e)))
     ∙ ap ring_groups_in (sym world_is)

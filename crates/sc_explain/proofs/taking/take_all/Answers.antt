@@ -6,7 +6,7 @@ use Rattle.sc_explain.proofs.Takings.{no_fault, taken_next}
 use Rattle.sc_explain.proofs.taking.take_all.Goals as goal
 
 pub loop-entry-init : goal.loop-entry-init
-loop-entry-init c = record { world = refl; lines_are = refl; groups_are = λ same. same }
+loop-entry-init c = record { world = refl; lines_are = c.new.ensures.items; groups_are = λ same. same }
 
 pub loop-entry-preserved : goal.loop-entry-preserved
 loop-entry-preserved c =
