@@ -61,7 +61,7 @@ turn_passed s h position word clear passes =
 -- ---- two of them behind `make`
 
 abbrev pub make_shape : Shape
-make_shape = slice_index_or (built scatter_app).subs 4 (new_shape [])
+make_shape = slice_index_or (built scatter_app).subs 5 (new_shape [])
 
 abbrev first_step : Text → Walk
 first_step count = to_positional make_shape.rules (arg_by_index make_shape.rules 1) count (at nothing_held 1) nothing_held
@@ -108,7 +108,7 @@ make_found count seed c s = ap (λ rows. Some (codes "make", rows)) (rows_found 
 -- ---- four of them behind `scan`
 
 abbrev pub scan_shape : Shape
-scan_shape = slice_index_or (built scatter_app).subs 5 (new_shape [])
+scan_shape = slice_index_or (built scatter_app).subs 6 (new_shape [])
 
 abbrev first_of_four : Text → Walk
 first_of_four a = to_positional scan_shape.rules (arg_by_index scan_shape.rules 1) a (at nothing_held 1) nothing_held
@@ -188,3 +188,7 @@ audit_taken = refl
 pub pool_taken : takes scatter_app (codes "pool" ∷ []) ≡ true
 unfolding clap_on_literals
 pool_taken = refl
+
+pub explain_taken : takes scatter_app (codes "explain" ∷ []) ≡ true
+unfolding clap_on_literals
+explain_taken = refl

@@ -21,7 +21,7 @@ front [] zs n = let e : min n 0 ≡ 0 = omega arith in rw e (sym (take_nil n))
 front (y ∷ ys) zs zero = let e : min 0 (suc (length ys)) ≡ 0 = omega arith in rw e refl
 front (y ∷ ys) zs (suc n) = let e : min (suc n) (suc (length ys)) ≡ suc (min n (length ys)) = omega arith in rw e (ap (λ t. y ∷ t) (front ys zs n))
 
--- a first part of one more piece is a first part of the whole
+-- a prefix of one more piece is a prefix of the whole
 part-take : (xs : List (List ℕ)) (i : ℕ) (x : List ℕ) (n : ℕ) → i < length xs → x ≡ get_or xs i x → (m : ℕ) × (take m (concat xs) ≡ concat (take i xs) ++ take n x)
 part-take [] i x n lt is = absurd (omega arith)
 part-take (y ∷ xs) zero x n lt is = (min n (length y), rw is (front y (concat xs) n))

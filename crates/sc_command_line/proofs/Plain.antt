@@ -12,9 +12,9 @@ use Rattle.clap.proofs.OnLiterals.{clap_on_literals}
 use Rattle.sc_lines.specs.Words.{same}
 use Rattle.sc_command_line.specs.Subcommands.{make_of, scan_of, subcommand_by, has_dash, is_known, is_plain}
 use Rattle.sc_command_line.specs.Commands.{scatter_app, make_in, scan_in, subcommand_in}
-use Rattle.sc_command_line.specs.declared.subcommands.Subcommand.TheVariants.{Run, Journal, Audit, Pool}
+use Rattle.sc_command_line.specs.declared.subcommands.Subcommand.TheVariants.{Run, Journal, Audit, Pool, Explain}
 use Rattle.sc_command_line.proofs.Shapes.{passed, other_count}
-use Rattle.sc_command_line.proofs.Parses.{Clear, make_rows, make_taken, make_found, scan_rows, scan_taken, scan_found, run_taken, journal_taken, audit_taken, pool_taken}
+use Rattle.sc_command_line.proofs.Parses.{Clear, make_rows, make_taken, make_found, scan_rows, scan_taken, scan_found, run_taken, journal_taken, audit_taken, pool_taken, explain_taken}
 
 -- ---- the word
 
@@ -35,24 +35,26 @@ four_clear false false true d h = absurd (true≢false (sym h))
 four_clear false false false true h = absurd (true≢false (sym h))
 four_clear false false false false h = (refl, refl, refl, refl)
 
-one_of_six : (a b c d e f : Bool) → (a || (b || (c || (d || (e || f))))) ≡ true → a ≡ false → b ≡ false → c ≡ false → d ≡ false → e ≡ false → f ≡ true
-one_of_six a b c d e f h is_a is_b is_c is_d is_e =
-    sym (ap (λ x. x || (b || (c || (d || (e || f))))) is_a ∙ ap (λ x. x || (c || (d || (e || f)))) is_b ∙ ap (λ x. x || (d || (e || f))) is_c ∙ ap (λ x. x || (e || f)) is_d ∙ ap (λ x. x || f) is_e) ∙ h
+one_of_seven : (a b c d e f g : Bool) → (a || (b || (c || (d || (e || (f || g)))))) ≡ true → a ≡ false → b ≡ false → c ≡ false → d ≡ false → e ≡ false → f ≡ false → g ≡ true
+one_of_seven a b c d e f g h is_a is_b is_c is_d is_e is_f =
+    sym (ap (λ x. x || (b || (c || (d || (e || (f || g)))))) is_a ∙ ap (λ x. x || (c || (d || (e || (f || g))))) is_b ∙ ap (λ x. x || (d || (e || (f || g)))) is_c
+    ∙ ap (λ x. x || (e || (f || g))) is_d ∙ ap (λ x. x || (f || g)) is_e ∙ ap (λ x. x || g) is_f) ∙ h
 
 -- what holds of a word that is written out holds of a word that is the same
 of_same : (P : Text → Type 0) (word known : Text) → same word known ≡ true → P known → P word
 of_same P word known is holds = subst P (sym (same_text word known (sym is))) holds
 
--- what is asked of each of the six known words
+-- what is asked of each of the seven known words
 record OfKnown (P : Text → Type 0) : Type 0 where
   run : P (codes "run")
   journal : P (codes "journal")
   audit : P (codes "audit")
   pool : P (codes "pool")
+  explain : P (codes "explain")
   make : P (codes "make")
   scan : P (codes "scan")
 
--- a known word is one of the six
+-- a known word is one of the seven
 of_known : (P : Text → Type 0) (word : Text) → is_known word ≡ true → OfKnown P → P word
 of_known P word known each =
     elim (cases_Bool (same word (codes "run"))) [
@@ -63,17 +65,21 @@ of_known P word known each =
           | inl is ↦ of_same P word (codes "audit") is each.audit
           | inr no_audit ↦ elim (cases_Bool (same word (codes "pool"))) [
             | inl is ↦ of_same P word (codes "pool") is each.pool
-            | inr no_pool ↦ elim (cases_Bool (same word (codes "make"))) [
-              | inl is ↦ of_same P word (codes "make") is each.make
-              | inr no_make ↦ of_same P word (codes "scan")
-                  (one_of_six (same word (codes "run")) (same word (codes "journal")) (same word (codes "audit")) (same word (codes "pool")) (same word (codes "make")) (same word (codes "scan")) known no_run no_journal no_audit no_pool no_make) each.scan
+            | inr no_pool ↦ elim (cases_Bool (same word (codes "explain"))) [
+              | inl is ↦ of_same P word (codes "explain") is each.explain
+              | inr no_explain ↦ elim (cases_Bool (same word (codes "make"))) [
+                | inl is ↦ of_same P word (codes "make") is each.make
+                | inr no_make ↦ of_same P word (codes "scan")
+                    (one_of_seven (same word (codes "run")) (same word (codes "journal")) (same word (codes "audit")) (same word (codes "pool")) (same word (codes "explain")) (same word (codes "make")) (same word (codes "scan"))
+                    known no_run no_journal no_audit no_pool no_explain no_make) each.scan
+              ]
             ]
           ]
         ]
       ]
     ]
 
--- plain words begin with one of the six
+-- plain words begin with one of the seven
 of_plain : (P : Text → Type 0) (word : Text) (words : List Text) → is_plain (word ∷ words) ≡ true → OfKnown P → P word
 of_plain P word words plain = of_known P word (both_true (is_known word) (not (list_any has_dash (word ∷ words))) plain)
 
@@ -97,6 +103,10 @@ audit_alone = refl
 pool_alone : subcommand_in 1 (subcommand_of scatter_app (codes "pool" ∷ [])) ≡ Some Pool
 unfolding clap_on_literals
 pool_alone = refl
+
+explain_alone : subcommand_in 1 (subcommand_of scatter_app (codes "explain" ∷ [])) ≡ Some Explain
+unfolding clap_on_literals
+explain_alone = refl
 
 make_alone : subcommand_in 1 (subcommand_of scatter_app (codes "make" ∷ [])) ≡ None
 unfolding clap_on_literals
@@ -122,6 +132,10 @@ pool_and_two : (one other : Text) → subcommand_in 3 (subcommand_of scatter_app
 unfolding clap_on_literals
 pool_and_two one other = refl
 
+explain_and_two : (one other : Text) → subcommand_in 3 (subcommand_of scatter_app (codes "explain" ∷ one ∷ other ∷ [])) ≡ None
+unfolding clap_on_literals
+explain_and_two one other = refl
+
 scan_and_two : (one other : Text) → subcommand_in 3 (subcommand_of scatter_app (codes "scan" ∷ one ∷ other ∷ [])) ≡ None
 unfolding clap_on_literals
 scan_and_two one other = refl
@@ -141,6 +155,10 @@ audit_and_four a b c d = refl
 pool_and_four : (a b c d : Text) → subcommand_in 5 (subcommand_of scatter_app (codes "pool" ∷ a ∷ b ∷ c ∷ d ∷ [])) ≡ None
 unfolding clap_on_literals
 pool_and_four a b c d = refl
+
+explain_and_four : (a b c d : Text) → subcommand_in 5 (subcommand_of scatter_app (codes "explain" ∷ a ∷ b ∷ c ∷ d ∷ [])) ≡ None
+unfolding clap_on_literals
+explain_and_four a b c d = refl
 
 make_and_four : (a b c d : Text) → subcommand_in 5 (subcommand_of scatter_app (codes "make" ∷ a ∷ b ∷ c ∷ d ∷ [])) ≡ None
 unfolding clap_on_literals
@@ -168,6 +186,7 @@ of_many n (Some met) one three five =
     ∙ passed (eqb n 1) (same met.0 (codes "journal")) (Some Journal) _ not_one
     ∙ passed (eqb n 1) (same met.0 (codes "audit")) (Some Audit) _ not_one
     ∙ passed (eqb n 1) (same met.0 (codes "pool")) (Some Pool) _ not_one
+    ∙ passed (eqb n 1) (same met.0 (codes "explain")) (Some Explain) _ not_one
     ∙ passed (eqb n 3) (same met.0 (codes "make")) (make_in met.1) _ (ne_eqb n 3 three)
     ∙ passed (eqb n 5) (same met.0 (codes "scan")) (scan_in met.1) None (ne_eqb n 5 five)
 
@@ -176,7 +195,7 @@ GivesBack words = subcommand_in (length words) (subcommand_of scatter_app words)
 
 one_back : (word : Text) → is_plain (word ∷ []) ≡ true → GivesBack (word ∷ [])
 one_back word plain = of_plain (λ w. GivesBack (w ∷ [])) word [] plain
-    (record { run = run_alone; journal = journal_alone; audit = audit_alone; pool = pool_alone; make = make_alone; scan = scan_alone })
+    (record { run = run_alone; journal = journal_alone; audit = audit_alone; pool = pool_alone; explain = explain_alone; make = make_alone; scan = scan_alone })
 
 make_back : (count seed : Text) → is_plain (codes "make" ∷ count ∷ seed ∷ []) ≡ true → GivesBack (codes "make" ∷ count ∷ seed ∷ [])
 make_back count seed plain =
@@ -191,6 +210,7 @@ three_back word count seed plain =
       journal = λ p. journal_and_two count seed;
       audit = λ p. audit_and_two count seed;
       pool = λ p. pool_and_two count seed;
+      explain = λ p. explain_and_two count seed;
       make = make_back count seed;
       scan = λ p. scan_and_two count seed;
     }) plain
@@ -211,6 +231,7 @@ five_back word a b c d plain =
       journal = λ p. journal_and_four a b c d;
       audit = λ p. audit_and_four a b c d;
       pool = λ p. pool_and_four a b c d;
+      explain = λ p. explain_and_four a b c d;
       make = λ p. make_and_four a b c d;
       scan = scan_back a b c d;
     }) plain
@@ -245,6 +266,7 @@ one_taken word plain =
       journal = are_taken (codes "journal" ∷ []) journal_taken;
       audit = are_taken (codes "audit" ∷ []) audit_taken;
       pool = are_taken (codes "pool" ∷ []) pool_taken;
+      explain = are_taken (codes "explain" ∷ []) explain_taken;
       make = λ refused. refl;
       scan = λ refused. refl;
     })
@@ -257,7 +279,7 @@ make_is_taken count seed plain =
 three_taken : (word count seed : Text) → is_plain (word ∷ count ∷ seed ∷ []) ≡ true → IsTaken (word ∷ count ∷ seed ∷ [])
 three_taken word count seed plain =
     of_plain (λ w. is_plain (w ∷ count ∷ seed ∷ []) ≡ true → IsTaken (w ∷ count ∷ seed ∷ [])) word (count ∷ seed ∷ []) plain
-    (record { run = λ p refused. refl; journal = λ p refused. refl; audit = λ p refused. refl; pool = λ p refused. refl; make = make_is_taken count seed; scan = λ p refused. refl }) plain
+    (record { run = λ p refused. refl; journal = λ p refused. refl; audit = λ p refused. refl; pool = λ p refused. refl; explain = λ p refused. refl; make = make_is_taken count seed; scan = λ p refused. refl }) plain
 
 scan_is_taken : (a b c d : Text) → is_plain (codes "scan" ∷ a ∷ b ∷ c ∷ d ∷ []) ≡ true → IsTaken (codes "scan" ∷ a ∷ b ∷ c ∷ d ∷ [])
 scan_is_taken a b c d plain = are_taken (codes "scan" ∷ a ∷ b ∷ c ∷ d ∷ []) (scan_taken a b c d (clear_of a b c d plain))
@@ -265,7 +287,7 @@ scan_is_taken a b c d plain = are_taken (codes "scan" ∷ a ∷ b ∷ c ∷ d �
 five_taken : (word a b c d : Text) → is_plain (word ∷ a ∷ b ∷ c ∷ d ∷ []) ≡ true → IsTaken (word ∷ a ∷ b ∷ c ∷ d ∷ [])
 five_taken word a b c d plain =
     of_plain (λ w. is_plain (w ∷ a ∷ b ∷ c ∷ d ∷ []) ≡ true → IsTaken (w ∷ a ∷ b ∷ c ∷ d ∷ [])) word (a ∷ b ∷ c ∷ d ∷ []) plain
-    (record { run = λ p refused. refl; journal = λ p refused. refl; audit = λ p refused. refl; pool = λ p refused. refl; make = λ p refused. refl; scan = scan_is_taken a b c d }) plain
+    (record { run = λ p refused. refl; journal = λ p refused. refl; audit = λ p refused. refl; pool = λ p refused. refl; explain = λ p refused. refl; make = λ p refused. refl; scan = scan_is_taken a b c d }) plain
 
 -- plain words that clap refuses ask for nothing
 pub taken : (words : List Text) → is_plain words ≡ true → IsTaken words
@@ -285,7 +307,7 @@ read_back X words n app found app_is counted plain matches =
     ∙ ap (subcommand_in (length words)) ((matches (ap is_simple app_is ∙ simple)).1 ∙ ap (λ a. subcommand_of a words) app_is)
     ∙ given_back words plain
 
--- words at which a parse failed, not for want of memory, ask for nothing
+-- words at which a parse failed, but not by running out of memory, ask for nothing
 pub not_taken : (words : List Text) (app : App) (kind : ErrorKind) → app ≡ scatter_app → is_plain words ≡ true
     → (takes app words ≡ true → kind ≡ OutOfMemory) → (kind ≡ OutOfMemory → ⊥) → subcommand_by words ≡ None
 not_taken words app kind app_is plain passes other =

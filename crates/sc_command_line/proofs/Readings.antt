@@ -38,7 +38,7 @@ pub reads_scenario : FirstBytesDecide → (left : Option (List ℕ)) (bytes : Li
 reads_scenario decide left bytes scenario taken is =
     record { valid = inl (record { text = bytes; read = ap result_ok is }); read = read_whole decide left bytes (Ok scenario) taken is }
 
--- .. and they are the whole of it
+-- the bytes that were read of a source, with the scenario that they are, are the whole of it
 pub reads_text : ScenariosAreShort → (left : Option (List ℕ)) (bytes : List ℕ) (scenario : Scenario) → IfSome left (λ input. bytes ≡ take (most_bytes + 1) input) → verdict_of bytes ≡ Ok scenario → ReadsText left scenario bytes
 reads_text are_short left bytes scenario taken is =
     record { valid = inl (record { text = bytes; read = ap result_ok is }); read = is; all = all_of most_bytes left bytes taken (are_short bytes scenario is) }
@@ -57,7 +57,7 @@ bad_whole : FirstBytesDecideFaults → (left : Option (List ℕ)) (bytes : List 
 bad_whole decide None bytes line why taken bad = tt
 bad_whole decide (Some input) bytes line why taken bad = (decide input line why).0 (subst (λ file. IsBadFile file line why) taken bad)
 
--- .. and the same of a file
+-- the bytes that were read of a source are no stored journal, and neither is the whole of it
 pub bad_file : FirstBytesDecideFaults → (source : SourceUse) (bytes : List ℕ) (fault : ScenarioFault) → IfSome source.left (λ input. bytes ≡ take (most_file_bytes + 1) input) → IsFileFault bytes fault → HasFault IsBadFile source (of_scenario fault)
 bad_file decide source bytes (Bad line why) taken bad = bad_whole decide source.left bytes line why taken bad
 bad_file decide source bytes OutOfMemory taken bad = tt

@@ -9,10 +9,10 @@ use Rattle.sc_base.proofs.CommonLemmas.{and_then-some}
 use Rattle.sc_base.specs.Limits.{most_requests}
 use Rattle.sc_base.specs.Number.{number_of}
 use Rattle.sc_lines.specs.Words.{same, nth, count_in}
-use Rattle.sc_command_line.specs.Subcommands.{is_run, is_journal, is_audit, is_pool, is_make, is_scan, reads, reads_input, is_on_input, last_number, last_seed, make_of, most_pairs, scan_of, sight_by, subcommand_by, whole_circle, has_dash, is_plain, IsInRange}
+use Rattle.sc_command_line.specs.Subcommands.{is_run, is_journal, is_audit, is_pool, is_explain, is_make, is_scan, reads, reads_input, is_on_input, last_number, last_seed, make_of, most_pairs, scan_of, sight_by, subcommand_by, whole_circle, has_dash, is_plain, IsInRange}
 use Rattle.sc_lines.proofs.Choices.{counted}
 use Rattle.sc_command_line.specs.declared.subcommands.Subcommand.{Subcommand}
-use Rattle.sc_command_line.specs.declared.subcommands.Subcommand.TheVariants.{Run, Journal, Audit, Pool, Scan, Make}
+use Rattle.sc_command_line.specs.declared.subcommands.Subcommand.TheVariants.{Run, Journal, Audit, Pool, Explain, Scan, Make}
 
 -- ---- words with a dash spell no number
 
@@ -93,6 +93,7 @@ other_count words one three five =
     ∙ passed (eqb (length words) 1) (same (nth words 0) (codes "journal")) (Some Journal) _ not_one
     ∙ passed (eqb (length words) 1) (same (nth words 0) (codes "audit")) (Some Audit) _ not_one
     ∙ passed (eqb (length words) 1) (same (nth words 0) (codes "pool")) (Some Pool) _ not_one
+    ∙ passed (eqb (length words) 1) (same (nth words 0) (codes "explain")) (Some Explain) _ not_one
     ∙ passed (eqb (length words) 3) (same (nth words 0) (codes "make")) (make_of (nth words 1) (nth words 2)) _ (ne_eqb (length words) 3 three)
     ∙ passed (eqb (length words) 5) (same (nth words 0) (codes "scan")) (scan_of (nth words 1) (nth words 2) (nth words 3) (nth words 4)) None (ne_eqb (length words) 5 five)
 
@@ -107,17 +108,18 @@ not_alone word known other plain =
     ]
 
 -- what one word alone asks for, by which it is
-abbrev alone : Bool → Bool → Bool → Bool → Option Subcommand
-alone run journal audit pool = if run then Some Run else if journal then Some Journal else if audit then Some Audit else if pool then Some Pool else None
+abbrev alone : Bool → Bool → Bool → Bool → Bool → Option Subcommand
+alone run journal audit pool explain =
+    if run then Some Run else if journal then Some Journal else if audit then Some Audit else if pool then Some Pool else if explain then Some Explain else None
 
-none_alone : (run journal audit pool : Bool) → run ≡ false → journal ≡ false → audit ≡ false → pool ≡ false → alone run journal audit pool ≡ None
-none_alone run journal audit pool r j a p =
-    cond-false run (Some Run) _ r ∙ cond-false journal (Some Journal) _ j ∙ cond-false audit (Some Audit) _ a ∙ cond-false pool (Some Pool) None p
+none_alone : (run journal audit pool explain : Bool) → run ≡ false → journal ≡ false → audit ≡ false → pool ≡ false → explain ≡ false → alone run journal audit pool explain ≡ None
+none_alone run journal audit pool explain r j a p e =
+    cond-false run (Some Run) _ r ∙ cond-false journal (Some Journal) _ j ∙ cond-false audit (Some Audit) _ a ∙ cond-false pool (Some Pool) _ p ∙ cond-false explain (Some Explain) None e
 
 one_word : (word : List ℕ) → is_plain (word ∷ []) ≡ false → subcommand_by (word ∷ []) ≡ None
 one_word word other =
-    none_alone (same word (codes "run")) (same word (codes "journal")) (same word (codes "audit")) (same word (codes "pool"))
-    (not_alone word (codes "run") other refl) (not_alone word (codes "journal") other refl) (not_alone word (codes "audit") other refl) (not_alone word (codes "pool") other refl)
+    none_alone (same word (codes "run")) (same word (codes "journal")) (same word (codes "audit")) (same word (codes "pool")) (same word (codes "explain"))
+    (not_alone word (codes "run") other refl) (not_alone word (codes "journal") other refl) (not_alone word (codes "audit") other refl) (not_alone word (codes "pool") other refl) (not_alone word (codes "explain") other refl)
 
 some_dash : (a b : Bool) → not (a || (b || false)) ≡ false → (b ≡ false → a ≡ true)
 some_dash true b h f = refl
@@ -181,41 +183,44 @@ sighted (Some l) (Some n) (Some r) None asked e = absurd (none-some asked e)
 sighted (Some l) (Some n) (Some r) (Some m) asked e = (l, n, r, m, same_Some (Scan (record { arc = record { lo = l; len = n }; rows = r; most = m })) asked e, refl)
 
 -- what words ask for, by which they are
-abbrev chosen : Bool → Bool → Bool → Bool → Bool → Bool → Option Subcommand → Option Subcommand → Option Subcommand
-chosen run journal audit pool make scan made seen =
+abbrev chosen : Bool → Bool → Bool → Bool → Bool → Bool → Bool → Option Subcommand → Option Subcommand → Option Subcommand
+chosen run journal audit pool explain make scan made seen =
     if run then Some Run
     else if journal then Some Journal
     else if audit then Some Audit
     else if pool then Some Pool
+    else if explain then Some Explain
     else if make then made
     else if scan then seen
     else None
 
 -- what is asked of each thing that words may ask for
-record Chosen (run journal audit pool : Bool) (made seen : Option Subcommand) (P : Subcommand → Type 0) : Type 0 where
+record Chosen (run journal audit pool explain : Bool) (made seen : Option Subcommand) (P : Subcommand → Type 0) : Type 0 where
   of_run : run ≡ true → P Run
   of_journal : journal ≡ true → P Journal
   of_audit : audit ≡ true → P Audit
   of_pool : pool ≡ true → P Pool
+  of_explain : explain ≡ true → P Explain
   of_made : (asked : Subcommand) → made ≡ Some asked → P asked
   of_seen : (asked : Subcommand) → seen ≡ Some asked → P asked
 
-chosen_case : (run journal audit pool make scan : Bool) (made seen : Option Subcommand) (P : Subcommand → Type 0) → Chosen run journal audit pool made seen P
-    → (asked : Subcommand) → chosen run journal audit pool make scan made seen ≡ Some asked → P asked
-chosen_case true journal audit pool make scan made seen P each asked e = subst P (same_Some Run asked e) (each.of_run refl)
-chosen_case false true audit pool make scan made seen P each asked e = subst P (same_Some Journal asked e) (each.of_journal refl)
-chosen_case false false true pool make scan made seen P each asked e = subst P (same_Some Audit asked e) (each.of_audit refl)
-chosen_case false false false true make scan made seen P each asked e = subst P (same_Some Pool asked e) (each.of_pool refl)
-chosen_case false false false false true scan made seen P each asked e = each.of_made asked e
-chosen_case false false false false false true made seen P each asked e = each.of_seen asked e
-chosen_case false false false false false false made seen P each asked e = absurd (none-some asked e)
+chosen_case : (run journal audit pool explain make scan : Bool) (made seen : Option Subcommand) (P : Subcommand → Type 0) → Chosen run journal audit pool explain made seen P
+    → (asked : Subcommand) → chosen run journal audit pool explain make scan made seen ≡ Some asked → P asked
+chosen_case true journal audit pool explain make scan made seen P each asked e = subst P (same_Some Run asked e) (each.of_run refl)
+chosen_case false true audit pool explain make scan made seen P each asked e = subst P (same_Some Journal asked e) (each.of_journal refl)
+chosen_case false false true pool explain make scan made seen P each asked e = subst P (same_Some Audit asked e) (each.of_audit refl)
+chosen_case false false false true explain make scan made seen P each asked e = subst P (same_Some Pool asked e) (each.of_pool refl)
+chosen_case false false false false true make scan made seen P each asked e = subst P (same_Some Explain asked e) (each.of_explain refl)
+chosen_case false false false false false true scan made seen P each asked e = each.of_made asked e
+chosen_case false false false false false false true made seen P each asked e = each.of_seen asked e
+chosen_case false false false false false false false made seen P each asked e = absurd (none-some asked e)
 
 -- what is asked has what each thing that words may ask for has
 of_asked : (P : Subcommand → Type 0) (words : List (List ℕ))
-    → Chosen (is_run words) (is_journal words) (is_audit words) (is_pool words) (make_of (nth words 1) (nth words 2)) (scan_of (nth words 1) (nth words 2) (nth words 3) (nth words 4)) P
+    → Chosen (is_run words) (is_journal words) (is_audit words) (is_pool words) (is_explain words) (make_of (nth words 1) (nth words 2)) (scan_of (nth words 1) (nth words 2) (nth words 3) (nth words 4)) P
     → (asked : Subcommand) → subcommand_by words ≡ Some asked → P asked
 of_asked P words each asked e =
-    chosen_case (is_run words) (is_journal words) (is_audit words) (is_pool words) (is_make words) (is_scan words) (make_of (nth words 1) (nth words 2)) (scan_of (nth words 1) (nth words 2) (nth words 3) (nth words 4)) P each asked e
+    chosen_case (is_run words) (is_journal words) (is_audit words) (is_pool words) (is_explain words) (is_make words) (is_scan words) (make_of (nth words 1) (nth words 2)) (scan_of (nth words 1) (nth words 2) (nth words 3) (nth words 4)) P each asked e
 
 made_range : (count seed : List ℕ) (asked : Subcommand) → make_of count seed ≡ Some asked → IsInRange asked
 made_range count seed asked e = let m = made count seed asked e in subst IsInRange m.2 (m.3, m.4)
@@ -232,6 +237,7 @@ in_range words = of_asked IsInRange words (record {
   of_journal = λ t. tt;
   of_audit = λ t. tt;
   of_pool = λ t. tt;
+  of_explain = λ t. tt;
   of_made = made_range (nth words 1) (nth words 2);
   of_seen = seen_range (nth words 1) (nth words 2) (nth words 3) (nth words 4);
 })
@@ -242,6 +248,7 @@ Tells words Run = is_run words ≡ true
 Tells words Journal = is_journal words ≡ true
 Tells words Audit = is_audit words ≡ true
 Tells words Pool = is_pool words ≡ true
+Tells words Explain = is_explain words ≡ true
 Tells words (Scan sight) = ⊤
 Tells words (Make n seed) = ⊤
 
@@ -251,6 +258,7 @@ tells words = of_asked (Tells words) words (record {
   of_journal = λ t. t;
   of_audit = λ t. t;
   of_pool = λ t. t;
+  of_explain = λ t. t;
   of_made = λ asked e. subst (Tells words) (made (nth words 1) (nth words 2) asked e).2 tt;
   of_seen = λ asked e. subst (Tells words) (sighted (number_of (nth words 1) last_number) (count_in whole_circle (nth words 2)) (number_of (nth words 3) last_number) (count_in most_pairs (nth words 4)) asked e).4 tt;
 })
@@ -270,6 +278,10 @@ audit_asked words e = tells words Audit e
 -- and a pool
 pub pool_asked : (words : List (List ℕ)) → subcommand_by words ≡ Some Pool → is_pool words ≡ true
 pool_asked words e = tells words Pool e
+
+-- and what a journal's rows decided
+pub explain_asked : (words : List (List ℕ)) → subcommand_by words ≡ Some Explain → is_explain words ≡ true
+explain_asked words e = tells words Explain e
 
 -- what is on the input is asked for by words that read it
 pub if_reads : (words : List (List ℕ)) (asked : Option Subcommand) → asked ≡ subcommand_by words → IfSome asked (λ what. is_on_input what ≡ reads_input words)

@@ -15,7 +15,7 @@ abbrev pub said_of : Bool → Said
 said_of true = Unsettled
 said_of false = Ended
 
--- the text about a scenario that was played so; none after want of memory
+-- which text is begun about a scenario that was played so; none where the play ran out of memory
 abbrev pub said_by : Played → Option Said
 said_by (Was.Ended cut quiet skips) = Some (said_of cut)
 said_by Was.Full = Some Filled
@@ -36,11 +36,11 @@ status_of Unlawful = 9
 abbrev pub BringsLines : Option (List (List ℕ)) → Option (List (List ℕ)) → List (List ℕ) → Type 0
 BringsLines told told' lines = IfSome told (λ pieces. told' ≡ Some (pieces ++ lines))
 
--- .. or the first of them
+-- a sink's calls, where it tells their pieces, brought some first lines of these, one a call
 abbrev pub BringsFirst : Option (List (List ℕ)) → Option (List (List ℕ)) → List (List ℕ) → Type 0
 BringsFirst told told' lines = (n : ℕ) × BringsLines told told' (take n lines)
 
--- The lines of a text were printed whole, each by one call of the sink, or up to a fault of the sink, which wins over the status that the text belongs to.
+-- The lines of a text were printed whole, each by one call of the sink, or up to a write error, which overrides the status that the text belongs to.
 abbrev pub Prints : SinkUse → Said → List (List ℕ) → ℕ → Type 0
 Prints sink said lines status =
     ((status ≡ status_of said) × Appends sink.held_before sink.held_after (concat lines) × BringsLines sink.pieces_before sink.pieces_after lines)

@@ -5,9 +5,9 @@ use Rattle.clap.specs.Simple.{on_top}
 use Rattle.sc_lines.specs.Words.{same}
 use Rattle.sc_command_line.specs.Subcommands.{make_of, scan_of}
 use Rattle.sc_command_line.specs.declared.subcommands.Subcommand.{Subcommand}
-use Rattle.sc_command_line.specs.declared.subcommands.Subcommand.TheVariants.{Run, Journal, Audit, Pool}
+use Rattle.sc_command_line.specs.declared.subcommands.Subcommand.TheVariants.{Run, Journal, Audit, Pool, Explain}
 
--- a word that must be there, by its name
+-- an argument that must be there, by its name
 abbrev pub word_rule : Text → Rule
 word_rule id = record (new_rule id) { required = true }
 
@@ -23,17 +23,17 @@ arc_app = with_rule (with_rule (new_app (codes "scan")) (word_rule (codes "LO"))
 abbrev pub scan_app : App
 scan_app = with_rule (with_rule arc_app (word_rule (codes "R"))) (word_rule (codes "MOST"))
 
--- `scatter` alone: its words begin behind its name
+-- `scatter` alone, whose arguments do not have the program's name before them
 abbrev pub bare_app : App
 bare_app = on_top (λ s. record s { no_binary_name = true }) (new_app (codes "scatter"))
 
--- an app with one more subcommand, which takes no words
+-- an app with one more subcommand, which has no arguments
 abbrev pub with_word : App → Text → App
 with_word app name = with_subcommand app (new_app name).top
 
--- `scatter`, with the subcommands of one word: `run`, `journal`, `audit` and `pool`
+-- `scatter`, with the subcommands of one word: `run`, `journal`, `audit`, `pool` and `explain`
 abbrev pub words_app : App
-words_app = with_word (with_word (with_word (with_word bare_app (codes "run")) (codes "journal")) (codes "audit")) (codes "pool")
+words_app = with_word (with_word (with_word (with_word (with_word bare_app (codes "run")) (codes "journal")) (codes "audit")) (codes "pool")) (codes "explain")
 
 -- `scatter`, with all its subcommands: these, `make` and `scan`
 abbrev pub scatter_app : App
@@ -55,18 +55,19 @@ scan_by (Some lo) (Some len) (Some rows) (Some most) = scan_of lo len rows most
 abbrev pub scan_in : List Row → Option Subcommand
 scan_in rows = scan_by (first_of (codes "LO") rows) (first_of (codes "LEN") rows) (first_of (codes "R") rows) (first_of (codes "MOST") rows)
 
--- what a subcommand of so many words asks for
+-- what a subcommand asks for, by the number of all arguments, its name and the values that clap found
 abbrev pub subcommand_as : ℕ → Text → List Row → Option Subcommand
 subcommand_as count name rows =
     if (count == 1) && same name (codes "run") then Some Run
     else if (count == 1) && same name (codes "journal") then Some Journal
     else if (count == 1) && same name (codes "audit") then Some Audit
     else if (count == 1) && same name (codes "pool") then Some Pool
+    else if (count == 1) && same name (codes "explain") then Some Explain
     else if (count == 3) && same name (codes "make") then make_in rows
     else if (count == 5) && same name (codes "scan") then scan_in rows
     else None
 
--- the same of the one that was met, if one was
+-- what the subcommand asks for that clap met, if it met one, by the number of all arguments
 abbrev pub subcommand_in : ℕ → Option (Text × List Row) → Option Subcommand
 subcommand_in count None = None
 subcommand_in count (Some met) = subcommand_as count met.0 met.1

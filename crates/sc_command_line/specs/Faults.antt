@@ -1,4 +1,4 @@
--- Why an input is not what was asked for, and what is told of it.
+-- Why an input is not what was asked for, and the text about it.
 use Rattle.std.specs.Prelude.{◌≡◌, ⊤, ℕ, ◌==◌, List, ◌++◌, Option, IfSome, Err, codes, if◌then◌else◌}
 use Rattle.std.specs.Fmt.{decimal}
 use Rattle.sc_edges.specs.Causes.{Rose}
@@ -13,16 +13,16 @@ use Rattle.sc_command_line.specs.declared.faults.InputFault.{InputFault}
 use Rattle.sc_command_line.specs.declared.faults.InputFault.TheVariants.{Failed, Bad, OutOfMemory}
 use Rattle.sc_lines.specs.declared.reasons.Reason.{Reason}
 
--- what is told of a bad line: `line L: REASON`
+-- the text about a bad line: `line L: REASON`
 abbrev pub fault_text : ℕ → Reason → List ℕ
 fault_text line why = (codes "line " ++ decimal line ++ codes ": ") ++ reason_text why
 
--- the fault of a source, as one of the input
+-- why an input is not what was asked for, where reading it failed like this
 abbrev pub of_read : ReadFault → InputFault
 of_read read.Failed = Failed
 of_read read.OutOfMemory = OutOfMemory
 
--- the fault of a text, as one of the input
+-- why an input is not what was asked for, where its text is no scenario for this reason
 abbrev pub of_scenario : ScenarioFault → InputFault
 of_scenario (scenario.Bad line why) = Bad line why
 of_scenario scenario.OutOfMemory = OutOfMemory
@@ -31,7 +31,7 @@ of_scenario scenario.OutOfMemory = OutOfMemory
 abbrev pub IsBadText : List ℕ → ℕ → Reason → Type 0
 IsBadText bytes line why = verdict_of bytes ≡ Err (scenario.Bad line why)
 
--- Why an input is not what was asked for: the source's count of faults rose, or all of the input, where the source told it, has this bad line. Want of memory says nothing.
+-- Why an input is not what was asked for: the source's count of read errors rose, or all of the input, where the source tells its bytes, has this bad line. Out of memory says nothing.
 abbrev pub HasFault : (List ℕ → ℕ → Reason → Type 0) → SourceUse → InputFault → Type 0
 HasFault IsBad source Failed = Rose source.faults_before source.faults_after
 HasFault IsBad source (Bad line why) = IfSome source.left (λ input. IsBad input line why)

@@ -1,5 +1,5 @@
 -- What an input is.
-use Rattle.std.specs.Prelude.{◌≡◌, ℕ, ◌+◌, ◌<◌, ◌^◌, List, length, Option, IfSome, Ok, if◌then◌else◌}
+use Rattle.std.specs.Prelude.{◌≡◌, ℕ, ◌+◌, ◌<◌, ◌^◌, ◌||◌, List, length, Option, IfSome, Ok, if◌then◌else◌}
 use Rattle.sc_actor.specs.Mail.{mails}
 use Rattle.sc_actor.specs.declared.rows.Row.{Row}
 use Rattle.sc_cmd.specs.declared.orders.OrderLine.{OrderLine}
@@ -10,17 +10,17 @@ use Rattle.sc_mail.specs.declared.bodies.Mail.{Mail}
 use Rattle.sc_scenario.specs.Grammar.{verdict_of}
 use Rattle.sc_scenario.specs.Valid.{IsValid}
 use Rattle.sc_scenario.specs.declared.scenarios.Scenario.{Scenario}
-use Rattle.sc_command_line.specs.Subcommands.{is_audit}
+use Rattle.sc_command_line.specs.Subcommands.{is_audit, is_explain}
 
 -- the most calls of the source: one for each byte of the longest input, which is a stored journal's or a scenario's, one for a byte too many, and one at the end
 abbrev pub most_takes : List (List ℕ) → ℕ
-most_takes words = if is_audit words then most_file_bytes + 2 else most_bytes + 2
+most_takes words = if is_audit words || is_explain words then most_file_bytes + 2 else most_bytes + 2
 
--- these bytes are all of the input, where the source told it
+-- these bytes are all of the input, where the source tells its bytes
 abbrev pub AreAll : Option (List ℕ) → List ℕ → Type 0
 AreAll left bytes = IfSome left (λ input. bytes ≡ input)
 
--- All of the input, where the source told it, is the text of this scenario, which is valid either way.
+-- All of the input, where the source tells its bytes, is the text of this scenario, which is valid either way.
 pub record ReadsScenario (left : Option (List ℕ)) (scenario : Scenario) : Type 0 where
   pub valid : IsValid scenario
   pub read : IfSome left (λ input. verdict_of input ≡ Ok scenario)

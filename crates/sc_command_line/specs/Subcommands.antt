@@ -1,4 +1,4 @@
--- What the words behind a program's name ask for: `run`, `journal`, `audit`, `pool`, `make N S`, or `scan LO LEN R MOST`.
+-- What the arguments behind a program's name ask for: `run`, `journal`, `audit`, `pool`, `explain`, `make N S`, or `scan LO LEN R MOST`.
 use Rattle.std.specs.Prelude.{ℕ, ⊤, ◌≤◌, ◌==◌, ◌&&◌, ◌||◌, not, get_or, Bool, true, false, List, length, codes, Option, Some, None, if◌then◌else◌, option_and_then}
 use Rattle.std.specs.List.{list_any}
 use Rattle.std.specs.Option.{option_map}
@@ -6,25 +6,29 @@ use Rattle.sc_base.specs.Limits.{most_requests}
 use Rattle.sc_base.specs.Number.{number_of}
 use Rattle.sc_lines.specs.Words.{same, nth, count_in}
 use Rattle.sc_command_line.specs.declared.subcommands.Subcommand.{Subcommand}
-use Rattle.sc_command_line.specs.declared.subcommands.Subcommand.TheVariants.{Run, Journal, Audit, Pool, Scan, Make}
+use Rattle.sc_command_line.specs.declared.subcommands.Subcommand.TheVariants.{Run, Journal, Audit, Pool, Explain, Scan, Make}
 
--- the one word `run`
+-- the arguments are `run` alone
 abbrev pub is_run : List (List ℕ) → Bool
 is_run words = (length words == 1) && same (nth words 0) (codes "run")
 
--- the one word `journal`
+-- the arguments are `journal` alone
 abbrev pub is_journal : List (List ℕ) → Bool
 is_journal words = (length words == 1) && same (nth words 0) (codes "journal")
 
--- the one word `audit`
+-- the arguments are `audit` alone
 abbrev pub is_audit : List (List ℕ) → Bool
 is_audit words = (length words == 1) && same (nth words 0) (codes "audit")
 
--- the one word `pool`
+-- the arguments are `pool` alone
 abbrev pub is_pool : List (List ℕ) → Bool
 is_pool words = (length words == 1) && same (nth words 0) (codes "pool")
 
--- the word `make` and two others
+-- the arguments are `explain` alone
+abbrev pub is_explain : List (List ℕ) → Bool
+is_explain words = (length words == 1) && same (nth words 0) (codes "explain")
+
+-- the arguments are `make` and two more
 abbrev pub is_make : List (List ℕ) → Bool
 is_make words = (length words == 3) && same (nth words 0) (codes "make")
 
@@ -32,11 +36,11 @@ is_make words = (length words == 3) && same (nth words 0) (codes "make")
 abbrev pub last_seed : ℕ
 last_seed = 18446744073709551615
 
--- what two words behind `make` spell: 1 to 1,000 requests a client, and a seed
+-- what two arguments behind `make` spell: 1 to 1,000 requests a client, and a seed
 abbrev pub make_of : List ℕ → List ℕ → Option Subcommand
 make_of count seed = option_and_then (λ n. option_map (λ s. Make n s) (number_of seed last_seed)) (count_in most_requests count)
 
--- the word `scan` and four others
+-- the arguments are `scan` and four more
 abbrev pub is_scan : List (List ℕ) → Bool
 is_scan words = (length words == 5) && same (nth words 0) (codes "scan")
 
@@ -60,17 +64,18 @@ sight_by (Some lo) (Some len) None most = None
 sight_by (Some lo) (Some len) (Some rows) None = None
 sight_by (Some lo) (Some len) (Some rows) (Some most) = Some (Scan (record { arc = record { lo = lo; len = len }; rows = rows; most = most }))
 
--- what four words behind `scan` spell: a start from 0, a length from 1, rows from 0, and pairs a page from 1
+-- what four arguments behind `scan` spell: a start from 0, a length from 1, rows from 0, and pairs a page from 1
 abbrev pub scan_of : List ℕ → List ℕ → List ℕ → List ℕ → Option Subcommand
 scan_of lo len rows most = sight_by (number_of lo last_number) (count_in whole_circle len) (number_of rows last_number) (count_in most_pairs most)
 
--- what words ask for
+-- what the arguments ask for
 abbrev pub subcommand_by : List (List ℕ) → Option Subcommand
 subcommand_by words =
     if is_run words then Some Run
     else if is_journal words then Some Journal
     else if is_audit words then Some Audit
     else if is_pool words then Some Pool
+    else if is_explain words then Some Explain
     else if is_make words then make_of (nth words 1) (nth words 2)
     else if is_scan words then scan_of (nth words 1) (nth words 2) (nth words 3) (nth words 4)
     else None
@@ -81,6 +86,7 @@ is_on_input Run = true
 is_on_input Journal = true
 is_on_input Audit = true
 is_on_input Pool = true
+is_on_input Explain = true
 is_on_input (Scan sight) = true
 is_on_input (Make n seed) = false
 
@@ -89,7 +95,7 @@ abbrev pub reads : Option Subcommand → Bool
 reads None = false
 reads (Some asked) = is_on_input asked
 
--- whether words ask for something that is on the input
+-- whether the arguments ask for something that is on the input
 abbrev pub reads_input : List (List ℕ) → Bool
 reads_input words = reads (subcommand_by words)
 
@@ -99,6 +105,7 @@ IsInRange Run = ⊤
 IsInRange Journal = ⊤
 IsInRange Audit = ⊤
 IsInRange Pool = ⊤
+IsInRange Explain = ⊤
 IsInRange (Scan sight) = (1 ≤ sight.most) × (sight.most ≤ most_pairs)
 IsInRange (Make n seed) = (1 ≤ n) × (n ≤ most_requests)
 
@@ -106,10 +113,10 @@ IsInRange (Make n seed) = (1 ≤ n) × (n ≤ most_requests)
 abbrev pub has_dash : List ℕ → Bool
 has_dash word = get_or word 0 0 == 45
 
--- whether a word is a first word: `run`, `journal`, `audit`, `pool`, `make` or `scan`
+-- whether a word is a subcommand: `run`, `journal`, `audit`, `pool`, `explain`, `make` or `scan`
 abbrev pub is_known : List ℕ → Bool
-is_known word = same word (codes "run") || (same word (codes "journal") || (same word (codes "audit") || (same word (codes "pool") || (same word (codes "make") || same word (codes "scan")))))
+is_known word = same word (codes "run") || (same word (codes "journal") || (same word (codes "audit") || (same word (codes "pool") || (same word (codes "explain") || (same word (codes "make") || same word (codes "scan"))))))
 
--- the first word is one of the six, and no word begins with a dash
+-- whether the first argument is a subcommand, and no argument begins with a dash
 abbrev pub is_plain : List (List ℕ) → Bool
 is_plain words = is_known (nth words 0) && not (list_any has_dash words)

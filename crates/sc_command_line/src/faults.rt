@@ -10,7 +10,7 @@ use std::alloc::Global;
 /// Why an input is not what was asked for.
 #[derive(Clone, Copy, Debug, PartialEq, Eq)]
 pub enum InputFault {
-    /// The source failed.
+    /// A read error came.
     Failed,
     /// The first bad line of the input, and the reason.
     Bad { line: u32, why: Reason },
@@ -39,7 +39,7 @@ impl From<ScenarioFault> for InputFault {
     }
 }
 
-/// What is told of a bad line: `line L: REASON`.
+/// Returns the text about a bad line: `line L: REASON`.
 pub fn fault_text(alloc: Global, line: u32, why: Reason) -> Result<Vec<u8>, sc_base::OutOfMemory>
     ensures { IfOk result (λ text. text.items ≡ fault_text line why) }
 {

@@ -14,7 +14,8 @@ use sc_mail::Mail;
 use sc_scenario::{INPUT_LIMIT, Scenario, first_bytes_decide, read_scenario};
 use std::alloc::Global;
 
-/// The scenario that an input is.
+/// Reads the scenario that an input is. Fails with the first bad line of the input and its reason,
+/// at a read error, and where it runs out of memory.
 pub fn scenario_in<S: Source>(alloc: Global, input: &mut S) -> Result<Scenario, InputFault>
     ensures read { MatchResult result (λ scenario. ReadsScenario (S.left input.old) scenario)
         (λ fault. HasFault IsBadText (record {
@@ -29,7 +30,8 @@ pub fn scenario_in<S: Source>(alloc: Global, input: &mut S) -> Result<Scenario, 
     Ok(read_scenario(alloc, &bytes)?)
 }
 
-/// The scenario that an input is, and the input's bytes.
+/// Reads the scenario that an input is, and returns the input's bytes beside it. Fails as
+/// `scenario_in` does.
 pub fn text_in<S: Source>(alloc: Global, input: &mut S) -> Result<(Scenario, Vec<u8>), InputFault>
     ensures read { MatchResult result (λ read. ReadsText (S.left input.old) read.0 read.1.items)
         (λ fault. HasFault IsBadText (record {
@@ -46,7 +48,8 @@ pub fn text_in<S: Source>(alloc: Global, input: &mut S) -> Result<(Scenario, Vec
     Ok((scenario, bytes))
 }
 
-/// The scenario and the rows of the journal that an input stores.
+/// Reads the scenario and the rows of the journal that an input stores. Fails with the first bad
+/// line of the input and its reason, at a read error, and where it runs out of memory.
 pub fn file_in<S: Source>(
     alloc: Global,
     input: &mut S,

@@ -1,5 +1,5 @@
-//! The command line: what the words ask for, what is read for them, and the status and text
-//! of each answer.
+//! The command line: what the arguments ask for, what is read for them, and the status and text of
+//! each answer.
 #![tactic(auto)]
 
 mod faults;

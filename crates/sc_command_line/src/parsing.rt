@@ -1,4 +1,4 @@
-//! The words, parsed by clap.
+//! The program's arguments, parsed by clap.
 ghost use Rattle.std.specs.Prelude.{◌≡◌, ◌≢◌, ◌≤◌, true, false, map, string_bytes, None, Some, IfOk, IfSome};
 ghost use Rattle.std.specs.List.{list_any};
 ghost use Rattle.std.specs.Option.{option_map};
@@ -6,10 +6,10 @@ ghost use Rattle.sc_lines.specs.Words.{count_in, nth};
 ghost use Rattle.clap.specs.Words.{app_of, first_of, found_of, kind_of, rows_of, subcommand_rows_of};
 ghost use Rattle.clap.specs.declared.builder.command.Command.TheViews.{out-Command};
 ghost use Rattle.sc_command_line.specs.Subcommands.{has_dash, is_known, is_plain, make_of, subcommand_by, IsInRange};
-ghost use Rattle.sc_command_line.specs.Subcommands.{is_run, is_journal, is_audit, is_pool, reads_input, is_on_input, scan_of, whole_circle};
+ghost use Rattle.sc_command_line.specs.Subcommands.{is_run, is_journal, is_audit, is_pool, is_explain, reads_input, is_on_input, scan_of, whole_circle};
 ghost use Rattle.sc_command_line.specs.Commands.{make_app, arc_app, scan_app, bare_app, with_word, words_app, scatter_app};
 ghost use Rattle.sc_command_line.specs.Commands.{make_in, scan_in, subcommand_as, subcommand_in};
-ghost use Rattle.sc_command_line.specs.declared.subcommands.Subcommand.TheVariants.{Run, Journal, Audit, Pool};
+ghost use Rattle.sc_command_line.specs.declared.subcommands.Subcommand.TheVariants.{Run, Journal, Audit, Pool, Explain};
 
 use crate::subcommands::{Sight, Subcommand};
 use clap::error::ErrorKind;
@@ -29,7 +29,7 @@ const WHOLE_CIRCLE: u64 = 4_294_967_296;
 
 const MOST_PAIRS: u32 = 1_000_000;
 
-// The first word, or the empty text where there is none.
+// Returns the first argument, or the empty text where there is none.
 fn first_word(words: &[String]) -> &[u8]
     ensures { result.now ≡ nth (map string_bytes words.now) 0 }
 {
@@ -59,7 +59,7 @@ fn have_dash(words: &[String]) -> bool
     any_dash(words)
 }
 
-// Whether a word is one of the six first words.
+// Returns whether a word is one of the seven subcommands.
 fn is_known(word: &[u8]) -> bool
     ensures { result ≡ is_known word.now }
 {
@@ -67,11 +67,12 @@ fn is_known(word: &[u8]) -> bool
         || is_text(word, b"journal")
         || is_text(word, b"audit")
         || is_text(word, b"pool")
+        || is_text(word, b"explain")
         || is_text(word, b"make")
         || is_text(word, b"scan")
 }
 
-// Whether the first word is one of the six, and no word begins with a dash.
+// Returns whether the first argument is one of the seven subcommands, and none begins with a dash.
 fn is_plain(words: &[String]) -> bool
     ensures { result ≡ is_plain (map string_bytes words.now) }
 {
@@ -87,7 +88,7 @@ fn make_command<'a>(alloc: Global) -> Result<Command<'a>, AllocError>
     Command::new(alloc, "make").arg(count)?.arg(seed)
 }
 
-// The first two words of a scan.
+// Returns the subcommand `scan` with the first two of its arguments.
 fn arc_command<'a>(alloc: Global) -> Result<Command<'a>, AllocError>
     ensures app { IfOk result (λ command. app_of command ≡ arc_app) }
     ensures local { IfOk result (λ command. (out-Command command).has_globals ≡ false) }
@@ -112,7 +113,7 @@ fn bare_command<'a>(alloc: Global) -> Command<'a>
     Command::new(alloc, "scatter").no_binary_name(true)
 }
 
-// With one more subcommand, which takes no words.
+// Adds a subcommand that has no arguments.
 fn with_word<'a>(
     alloc: Global,
     command: Command<'a>,
@@ -129,7 +130,8 @@ fn words_command<'a>(alloc: Global) -> Result<Command<'a>, AllocError>
     let run = with_word(alloc, bare_command(alloc), "run")?;
     let journal = with_word(alloc, run, "journal")?;
     let audit = with_word(alloc, journal, "audit")?;
-    with_word(alloc, audit, "pool")
+    let pool = with_word(alloc, audit, "pool")?;
+    with_word(alloc, pool, "explain")
 }
 
 fn command<'a>(alloc: Global) -> Result<Command<'a>, AllocError>
@@ -148,7 +150,7 @@ fn make_of(count: &str, seed: &str) -> Option<Subcommand>
     Some(Subcommand::Make { n, seed })
 }
 
-// The length of an arc that a word spells, from 1 to the whole circle.
+// Returns the length of an arc that a word spells, from 1 to the whole circle.
 fn length_in(word: &[u8]) -> Option<u64>
     ensures same { result ≡ count_in whole_circle word.now }
     ensures bounds { IfSome result (λ n. (1 ≤ n) × (n ≤ whole_circle)) }
@@ -176,7 +178,7 @@ fn scan_of(lo: &str, len: &str, rows: &str, most: &str) -> Option<Subcommand>
     }))
 }
 
-// The value of an argument.
+// Returns the value of an argument, if there is one.
 fn value_of<'a>(matches: &ArgMatches<'a>, id: &str) -> Option<&'a str>
     ensures { option_map (λ value. value.now) result
         ≡ first_of id.now (rows_of (found_of matches.now)) }
@@ -231,6 +233,9 @@ fn subcommand_as(count: usize, name: &str, matches: &ArgMatches) -> Option<Subco
     if count == 1 && is_text(name.as_bytes(), b"pool") {
         return Some(Subcommand::Pool);
     }
+    if count == 1 && is_text(name.as_bytes(), b"explain") {
+        return Some(Subcommand::Explain);
+    }
     if count == 3 && is_text(name.as_bytes(), b"make") {
         return make_in(matches);
     }
@@ -249,7 +254,7 @@ fn subcommand_in(count: usize, matches: &ArgMatches) -> Option<Subcommand>
     subcommand_as(count, name, inner)
 }
 
-// What words that were refused ask for: nothing, unless memory was short.
+// Returns what arguments ask for at which clap failed: nothing, unless clap ran out of memory.
 fn refused(error: &Error) -> Result<Option<Subcommand>, OutOfMemory>
     ensures { IfOk result (λ asked. (asked ≡ None) × (kind_of error.now ≢ ErrorKind.OutOfMemory)) }
 {
@@ -270,11 +275,12 @@ fn parsed(alloc: Global, words: &[String]) -> Result<Option<Subcommand>, OutOfMe
     }
 }
 
-/// What the words behind a program's name ask for: `run`, `journal`, `audit`, `pool`, `make N S` with
-/// N from 1 to 1,000 and S from 0 to 2^64 - 1, or `scan LO LEN R MOST` with LO and R from 0 to
-/// 2^32 - 1, LEN from 1 to 2^32 and MOST from 1 to 1,000,000. None where they are none of these.
+/// Returns what the arguments behind a program's name ask for: `run`, `journal`, `audit`, `pool`,
+/// `explain`, `make N S` with N from 1 to 1,000 and S from 0 to 2^64 - 1, or `scan LO LEN R MOST`
+/// with LO and R from 0 to 2^32 - 1, LEN from 1 to 2^32 and MOST from 1 to 1,000,000. None where
+/// they are none of these. Fails only where it runs out of memory.
 ///
-/// Words of which the first is none of the six, or of which one begins with a dash, are refused
+/// Arguments of which the first is no subcommand, or of which one begins with a dash, are refused
 /// as they are; all others are parsed by clap.
 pub fn subcommand_by(alloc: Global, words: &[String]) -> Result<Option<Subcommand>, OutOfMemory>
     ensures asked { IfOk result (λ asked. asked ≡ subcommand_by (map string_bytes words.now)) }
@@ -287,6 +293,8 @@ pub fn subcommand_by(alloc: Global, words: &[String]) -> Result<Option<Subcomman
         (λ asked. asked ≡ Some Audit → is_audit (map string_bytes words.now) ≡ true) }
     ensures pool { IfOk result
         (λ asked. asked ≡ Some Pool → is_pool (map string_bytes words.now) ≡ true) }
+    ensures explain { IfOk result
+        (λ asked. asked ≡ Some Explain → is_explain (map string_bytes words.now) ≡ true) }
     ensures reads { IfOk result (λ asked. IfSome asked
         (λ what. is_on_input what ≡ reads_input (map string_bytes words.now))) }
 {

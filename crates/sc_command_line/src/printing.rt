@@ -1,4 +1,4 @@
-//! Lines, each put whole.
+//! Prints lines, each by one call of the sink.
 ghost use Rattle.std.specs.Prelude.{◌≤◌, ◌+◌, length, OnOk, OnErr};
 ghost use Rattle.std.specs.List.{concat};
 ghost use Rattle.std.specs.Io.KnownBytes.{Appends};
@@ -10,7 +10,8 @@ use crate::said::Said;
 use sc_edges::{Failed, Sink};
 use sc_report::ReportLine;
 
-// Puts each line. After a fault the sink has gained a first part of the whole.
+// Puts each line by one call of the sink. After a write error the sink has gained a prefix of the
+// lines' bytes.
 fn put_all<K: Sink>(sink: &mut K, lines: &[ReportLine]) -> Result<(), Failed>
     ensures whole { OnOk result (Appends (K.held sink.old) (K.held sink.new) (concat lines.now)) }
     ensures part { OnErr result
@@ -28,8 +29,8 @@ fn put_all<K: Sink>(sink: &mut K, lines: &[ReportLine]) -> Result<(), Failed>
     Ok(())
 }
 
-/// Puts each line of a text by one call of the sink, and answers the status that the text belongs
-/// to, or 5 after a fault of the sink.
+/// Puts each line of a text by one call of the sink, and returns the status that the text belongs
+/// to, or 5 after a write error.
 pub fn print<K: Sink>(sink: &mut K, said: Said, lines: &[ReportLine]) -> u8
     ensures prints { Prints (record {
       held_before = K.held sink.old;

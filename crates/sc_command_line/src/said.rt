@@ -18,7 +18,7 @@ pub enum Said {
 }
 
 impl Said {
-    /// The status that the text belongs to.
+    /// Returns the status that the text belongs to.
     pub fn status(self) -> u8
         ensures { result ≡ status_of self }
     {
@@ -35,7 +35,8 @@ impl Said {
     }
 }
 
-/// Which text is begun about a scenario that was played so. None after want of memory.
+/// Returns which text is begun about a scenario that was played so. None where the play ran out of
+/// memory.
 pub fn said_by(played: Played) -> Option<Said>
     ensures { result ≡ said_by played }
 {

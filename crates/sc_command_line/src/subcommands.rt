@@ -1,4 +1,4 @@
-//! What is asked for.
+//! What the arguments ask for.
 use sc_base::RingArc;
 
 /// What a scan shows: an arc of the circle as it stands after the first rows of a run, in pages.
@@ -6,13 +6,13 @@ use sc_base::RingArc;
 pub struct Sight {
     /// The positions that are shown.
     pub arc: RingArc,
-    /// How many rows, or all where there are fewer.
+    /// The number of rows after which it is shown; all of them where there are fewer.
     pub rows: u32,
-    /// How many pairs a page has, from 1 on.
+    /// The most pairs of a page, at least 1.
     pub most: u32,
 }
 
-/// What words ask for.
+/// What the arguments ask for: a subcommand with its arguments.
 #[derive(Clone, Copy, Debug, PartialEq, Eq)]
 pub enum Subcommand {
     /// `run`: a run of the scenario on the input.
@@ -23,6 +23,8 @@ pub enum Subcommand {
     Audit,
     /// `pool`: a run of the scenario on the input, by a pool of workers.
     Pool,
+    /// `explain`: what each row of the journal on the input decided, if it is lawful.
+    Explain,
     /// `scan LO LEN R MOST`: a run of the scenario on the input, of which an arc is shown.
     Scan(Sight),
     /// `make N S`: a run of the made scenario with N requests a client and the seed S.

@@ -1,5 +1,5 @@
-//! The groups of rows, found by the logs: those of a scenario, and again and again the children
-//! that the logs found so far name.
+//! The groups that rows decide: those of a scenario, and round by round the children that the
+//! decided logs of the groups found so far create.
 ghost use Rattle.std.specs.Prelude.{◌≡◌, ◌&&◌, ◌++◌, ◌∷◌, [], List, true, fold, find, IfOk, OnOk};
 ghost use Rattle.std.specs.List.{flat_map, list_any};
 ghost use Rattle.std.specs.Option.{option_copied, option_to_list};
@@ -22,14 +22,15 @@ use sc_machine::Machine;
 use sc_mail::Mail;
 use std::alloc::Global;
 
-/// The groups of rows, and whether their logs name no other group.
+/// The groups that were found in rows, each with what the rows say of it, and whether their logs
+/// are known to create no other group.
 #[derive(Drop)]
 pub(crate) struct Groups {
     pub knowns: Vec<Known>,
     pub settled: bool,
 }
 
-/// Whether both hold.
+/// Returns whether both hold.
 pub(crate) fn both(one: bool, other: bool) -> bool
     ensures { result ≡ (one && other) }
 {
@@ -62,7 +63,7 @@ fn add_found(children: &mut Vec<Base>, child: Option<Base>) -> Result<(), OutOfM
     }
 }
 
-// The child of one more command, which is executed.
+// Executes a command of a group's log, and adds the child that it creates, if it creates one.
 fn add_child(
     machine: &mut Machine,
     children: &mut Vec<Base>,
@@ -79,7 +80,7 @@ fn add_child(
     Ok(())
 }
 
-// The children that the log of a group names.
+// Adds the children that the log of a group creates.
 fn add_children(alloc: Global, known: &Known, children: &mut Vec<Base>) -> Result<(), OutOfMemory>
     ensures { OnOk result (children.new.items ≡
         children.old.items ++ children_of (group_of known.now.base) known.now.log.items) }
@@ -113,7 +114,7 @@ fn has_named(knowns: &[Known], name: Draw) -> bool
     false
 }
 
-// A group, unless its name is there. Whether it was.
+// Adds a child unless a group has its name. Returns whether one had.
 fn add_birth(
     alloc: Global,
     knowns: &mut Vec<Known>,
@@ -132,7 +133,8 @@ fn add_birth(
     Ok(false)
 }
 
-// The groups with these children. Whether their names were there.
+// Adds each of these children unless a group has its name. Returns whether a group had the name of
+// each.
 fn add_births(
     alloc: Global,
     knowns: &mut Vec<Known>,
@@ -151,7 +153,7 @@ fn add_births(
     Ok(were)
 }
 
-// The groups with the children that their logs name. Whether these were there.
+// Adds the children that the logs of the groups create. Returns whether there was none to add.
 fn look_on(
     alloc: Global,
     knowns: &mut Vec<Known>,
@@ -168,7 +170,7 @@ fn look_on(
     Ok(were)
 }
 
-/// The groups of rows, each with what the rows tell of it.
+/// Returns the groups that rows decide, each with what the rows say of it.
 pub(crate) fn groups_of(
     alloc: Global,
     bases: &[Base],
@@ -200,7 +202,8 @@ fn known_in(knowns: &[Known], name: Draw) -> Option<&Known>
         .find(|known| same_draw(known.base.core.id, name))
 }
 
-/// The log that is kept of the group with a name, which is empty where there is no such group.
+/// Returns the log that is kept of the group with a name, which is empty where there is no such
+/// group.
 pub(crate) fn log_in(knowns: &[Known], name: Draw) -> &[Command]
     ensures { result.now ≡ log_kept name knowns.now }
 {

@@ -26,7 +26,7 @@ use sc_log_entries::LogEntry;
 use sc_mail::Mail;
 use std::alloc::Global;
 
-// The entries of a log from a place on.
+// Adds the entries of a log behind its first `count`.
 fn add_entries(
     alloc: Global,
     entries: &mut Vec<LogEntry>,
@@ -50,7 +50,7 @@ fn add_entries(
     Ok(())
 }
 
-// What one row adds, by the groups before it and after it: of each group its new entries.
+// Adds the entries that each group has gained, by the groups before a row and after it.
 fn add_gained(
     alloc: Global,
     entries: &mut Vec<LogEntry>,
@@ -73,7 +73,7 @@ fn add_gained(
     Ok(())
 }
 
-// The same, where all groups are looked for anew.
+// Looks for all groups anew, before a row and after it, and adds the entries that they have gained.
 fn look_again(
     alloc: Global,
     entries: &mut Vec<LogEntry>,
@@ -94,8 +94,8 @@ fn look_again(
     Ok(new)
 }
 
-// Groups take in what was accepted, each where it lies, since it is large. Whether their logs only
-// go on, by entries that make no child.
+// Takes an acceptance into each group, in place, since a group is large. Returns true only where
+// their logs are as before or longer, and the new entries create no child.
 fn take_each(
     alloc: Global,
     knowns: &mut [Known],
@@ -114,7 +114,7 @@ fn take_each(
     Ok(calm)
 }
 
-// The same of the groups of a vector.
+// Takes an acceptance into each group of a vector, as `take_each` does.
 fn take_all(
     alloc: Global,
     knowns: &mut Vec<Known>,
@@ -128,7 +128,7 @@ fn take_all(
     take_each(alloc, knowns.as_mut_slice(), name, acceptance)
 }
 
-// What a row adds to the log of the group with a name, which had so many entries.
+// Adds the entries that the log of the group with a name has behind its first `count`.
 fn add_grown(
     alloc: Global,
     entries: &mut Vec<LogEntry>,
@@ -148,7 +148,7 @@ fn add_grown(
     Ok(())
 }
 
-// One more row, which accepts a command.
+// Takes one more row, which accepts a command, and adds the entries that it decides.
 fn after_acceptance(
     alloc: Global,
     entries: &mut Vec<LogEntry>,
@@ -182,8 +182,8 @@ fn after_acceptance(
     })
 }
 
-// One more row.
-fn after_row(
+/// Takes one more row, and adds the entries that it decides.
+pub(crate) fn after_row(
     alloc: Global,
     entries: &mut Vec<LogEntry>,
     bases: &[Base],
@@ -222,7 +222,8 @@ fn after_row(
     }
 }
 
-/// The entries of all logs, in the order of the rows that decided them, and by slot within one row.
+/// Returns the entries of all logs, in the order of the rows that decided them, and by slot within
+/// one row.
 pub fn entries_of(
     alloc: Global,
     bases: &[Base],
@@ -247,8 +248,8 @@ pub fn entries_of(
     Ok(entries)
 }
 
-/// The decided log of the group with a name: the longest list whose entry k is chosen at slot k. It
-/// is empty where there is no such group.
+/// Returns the decided log of the group with a name: the longest list whose entry k is chosen at
+/// slot k. It is empty where there is no such group.
 pub fn log_at(
     alloc: Global,
     bases: &[Base],

@@ -30,13 +30,13 @@ use Rattle.sc_run.specs.declared.done.Text.{Text}
 use Rattle.sc_run.specs.Played.{mail_weight, HasPlayedToEnd, HasFilled}
 use Rattle.sc_run.specs.Run.{journal_limit, Comes, TellsFull}
 
--- an answer other than a want of memory
+-- an answer other than out of memory
 abbrev GoesOn : Played → Type 0
 GoesOn (Ended cut quiet skips) = ⊤
 GoesOn Full = ⊤
 GoesOn OutOfMemory = ⊥
 
--- a run that ended is no want of memory
+-- a run that ended did not run out of memory
 pub no_want : (cut quiet : Bool) (skips : ℕ) → Ended cut quiet skips ≢ OutOfMemory
 no_want cut quiet skips e = subst GoesOn e tt
 

@@ -14,7 +14,7 @@ use Rattle.sc_command_line.specs.declared.faults.InputFault.{InputFault}
 use Rattle.sc_command_line.specs.declared.faults.InputFault.TheVariants.{Failed, Bad, OutOfMemory}
 use Rattle.sc_run.specs.declared.done.Text.{Text}
 use Rattle.sc_run.specs.Refusals.{TellsFault}
-use Rattle.sc_run.specs.Run.{AuditsAs, Audits, Comes, Keeps, Reads, Refuses, Scans, ShowsFile, ShowsReport}
+use Rattle.sc_run.specs.Run.{AuditsAs, Audits, Comes, Explains, ExplainsAs, Keeps, Reads, Refuses, Scans, ShowsFile, ShowsReport}
 use Rattle.sc_run.specs.Shown.{ShowsScan}
 use Rattle.sc_command_line.specs.declared.subcommands.Sight.{Sight}
 
@@ -34,6 +34,9 @@ module _ (source : SourceUse) (said : Said) (text : Text) where
   pub refused_file : (fault : InputFault) → HasFault IsBadFile source fault → TellsFault fault said text → Audits source said text
   refused_file fault has tells = inl (refuses IsBadFile source fault said text has tells)
 
+  pub refused_explained : (fault : InputFault) → HasFault IsBadFile source fault → TellsFault fault said text → Explains source said text
+  refused_explained fault has tells = inl (refuses IsBadFile source fault said text has tells)
+
   pub refused_scan : (sight : Sight) (fault : InputFault) → HasFault IsBadText source fault → TellsFault fault said text → Scans sight source said text
   refused_scan sight fault has tells = inl (refuses IsBadText source fault said text has tells)
 
@@ -48,3 +51,6 @@ module _ (source : SourceUse) (said : Said) (text : Text) where
 
   pub audited : (scenario : Scenario) (rows : List (Row Mail OrderLine)) → ReadsFile source.left scenario rows → AuditsAs scenario rows said text → Audits source said text
   audited scenario rows read audits = inr (record { scenario = scenario; rows = rows; read = read; audits = audits })
+
+  pub explained : (scenario : Scenario) (rows : List (Row Mail OrderLine)) → ReadsFile source.left scenario rows → ExplainsAs scenario rows said text → Explains source said text
+  explained scenario rows read explains = inr (record { scenario = scenario; rows = rows; read = read; explains = explains })

@@ -19,7 +19,7 @@ use Rattle.sc_run.specs.Audited.{SaysYes, LawfulFilesAreTold, PrintedJournalsAre
 use Rattle.sc_command_line.specs.Inputs.{ReadsFile}
 use Rattle.sc_run.specs.Run.{HoldsUnlawful, NamesBadLine}
 
--- a first part of a lawful journal is lawful
+-- a prefix of a lawful journal is lawful
 front_lawful : (scenario : Scenario) (rows : List (Row Mail OrderLine)) (at : ℕ) → Lawful as_nodes two_words scenario rows → Lawful as_nodes two_words scenario (take at rows)
 front_lawful scenario rows at lawful =
     lawful-prefix (system_of as_nodes two_words scenario) (schedule scenario) (take at rows) (drop at rows) (subst (IsLawful (system_of as_nodes two_words scenario) (schedule scenario)) (sym (take-append-drop at rows)) lawful)
@@ -29,7 +29,7 @@ not_bad : FilesHaveOneVerdict → (file : List ℕ) (scenario : Scenario) (rows 
 not_bad one file scenario rows is source left what text names =
     one.not_both file scenario rows names.line names.why is (subst (λ o. IfSome o (λ input. IsBadFile input names.line names.why)) left names.bad)
 
--- .. nor a bad row
+-- an audit of a file whose rows are lawful does not name a bad row
 not_unlawful : (file : List ℕ) (scenario : Scenario) (rows : List (Row Mail OrderLine)) → IsFile file scenario rows → Lawful as_nodes two_words scenario rows → (source : SourceUse) → source.left ≡ Some file
     → (what : Said) (text : Text) (read : Scenario) (those : List (Row Mail OrderLine)) → ReadsFile source.left read those → HoldsUnlawful read those what text → ⊥
 not_unlawful file scenario rows is lawful source left what text read those reads holds =

@@ -89,6 +89,7 @@ module _ (scenario : Scenario) (said : Said) (text : Text) (Follows : Type 0) (c
   says_follows : (what : Option Subcommand) (source : SourceUse) → IsAskedFor what source scenario → (IsText source scenario → Refuses IsBadText source said text → Follows) → SaysFor what source said text → Follows
   says_follows None source asked refused says = absurd asked
   says_follows (Some ask.Audit) source asked refused says = absurd asked
+  says_follows (Some ask.Explain) source asked refused says = absurd asked
   says_follows (Some ask.Run) source asked refused (inl refuses) = refused asked refuses
   says_follows (Some ask.Run) source asked refused (inr plays) = read_follows ShowsReport plays.scenario (same_text source scenario plays.scenario asked plays.read.read) plays.comes
   says_follows (Some ask.Pool) source asked refused (inl refuses) = refused asked refuses
@@ -128,7 +129,7 @@ refused_other : (source : SourceUse) (said : Said) (text : Text) → status_of s
 refused_other source said text zero_is (inl fails) = (let four = ap status_of fails.said_is in absurd (omega (arith, zero_is, four)))
 refused_other source said text zero_is (inr names) = (let three = ap status_of names.said_is in absurd (omega (arith, zero_is, three)))
 
--- so a run of such a scenario answers all, or has a status that may come of a full journal, or of a want of memory
+-- so a run of such a scenario answers all, or has a status that may come of a full journal, or of running out of memory
 module _ (words : List (List ℕ)) (source : SourceUse) (sink : SinkUse) (done : Done) where
   answers_where : (IsSuch : Scenario → Type 0) → ((scenario : Scenario) → IsSuch scenario → IsWithinBudget scenario) → (May : ℕ → Type 0) → May 8
       → ((scenario : Scenario) (said : Said) (text : Text) → IsSuch scenario → PlaysUntilFull scenario said text → May (status_of said))

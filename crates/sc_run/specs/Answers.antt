@@ -16,7 +16,7 @@ use Rattle.sc_command_line.specs.declared.subcommands.Subcommand.TheVariants as 
 use Rattle.sc_run.specs.declared.done.Done.{Done}
 use Rattle.sc_run.specs.Run.{Ends}
 
--- the input, which the source tells, is the text of this scenario
+-- the input, whose bytes the source tells, is the text of this scenario
 abbrev pub IsText : SourceUse → Scenario → Type 0
 IsText source scenario = (input : List ℕ) × (source.left ≡ Some input) × (verdict_of input ≡ Ok scenario)
 
@@ -27,6 +27,7 @@ IsAskedFor (Some ask.Run) source scenario = IsText source scenario
 IsAskedFor (Some ask.Journal) source scenario = IsText source scenario
 IsAskedFor (Some ask.Audit) source scenario = ⊥
 IsAskedFor (Some ask.Pool) source scenario = IsText source scenario
+IsAskedFor (Some ask.Explain) source scenario = ⊥
 IsAskedFor (Some (ask.Scan sight)) source scenario = IsText source scenario
 IsAskedFor (Some (ask.Make n seed)) source scenario = scenario ≡ made_scenario n seed
 
@@ -37,7 +38,7 @@ pub record AnswersAll (scenario : Scenario) (done : Done) : Type 0 where
   pub journal_is : done.journal ≡ Some journal
   pub answered : AreAnswered scenario journal
 
--- Where words ask for a scenario of this kind, and no read or write error came, a run answers all; or its status is one of these.
+-- Where the arguments ask for a scenario of this kind, and no read or write error came, a run answers all; or its status is one of these.
 abbrev pub AnswersWhere : (Scenario → Type 0) → (ℕ → Type 0) → List (List ℕ) → SourceUse → SinkUse → Done → Type 0
 AnswersWhere IsSuch May words source sink done =
     (scenario : Scenario) → IsAskedFor (subcommand_by words) source scenario → IsSuch scenario
@@ -57,7 +58,7 @@ abbrev pub AnswersOnStatusZero : List (List ℕ) → SourceUse → Done → Type
 AnswersOnStatusZero words source done =
     (scenario : Scenario) → IsAskedFor (subcommand_by words) source scenario → IsCalm scenario → done.status ≡ 0 → AnswersAll scenario done
 
--- What a run does: it prints a text whose cause is the words and the input, or it runs out of memory; and it answers all of a scenario at its budget, and of a calm one where its status is 0.
+-- What a run does: it prints a text whose cause is the arguments and the input, or it runs out of memory; and it answers all of a scenario at its budget, and of a calm one where its status is 0.
 pub record Runs (words : List (List ℕ)) (source : SourceUse) (sink : SinkUse) (done : Done) : Type 0 where
   pub ends : Ends words source sink done
   pub budget : AnswersWithinBudget words source sink done

@@ -15,7 +15,7 @@ use Rattle.sc_command_line.specs.declared.said.Said.TheVariants as said
 use Rattle.sc_run.specs.declared.done.Text.{Text}
 use Rattle.sc_run.specs.Run.{Audits, ReportsJournal, ShowsFile}
 
--- an audit says yes, or the source failed
+-- an audit says yes, or a read error came
 abbrev pub SaysYes : Said → Type 0
 SaysYes what = (what ≡ said.Lawful) ⊎ (what ≡ said.ReadFault)
 

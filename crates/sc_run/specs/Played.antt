@@ -18,7 +18,7 @@ use Rattle.sc_live_plain.specs.Budget.{IsAtBudget, AreAnswered}
 use Rattle.sc_live_plain.specs.Calm.{IsCalm}
 use Rattle.sc_run.specs.Budgets.{IsWithinBudget}
 
--- what a mail weighs
+-- the weight of a mail
 abbrev pub mail_weight : Mail → ℕ
 mail_weight mail = body_weight mail.body
 

@@ -1,4 +1,4 @@
--- What is told of an input that is not what was asked for.
+-- The text about an input that is not what was asked for.
 use Rattle.std.specs.Prelude.{◌≡◌, codes}
 use Rattle.sc_command_line.specs.declared.said.Said.{Said}
 use Rattle.sc_command_line.specs.declared.said.Said.TheVariants.{BadScenario, ReadFault}
@@ -8,7 +8,7 @@ use Rattle.sc_command_line.specs.declared.faults.InputFault.TheVariants.{Failed,
 use Rattle.sc_run.specs.declared.done.Text.{Text}
 use Rattle.sc_run.specs.Run.{TellsLine}
 
--- which text is begun about a fault, and what it says; none after want of memory
+-- which text is begun about an input that is not what was asked for, and what it says; none where reading ran out of memory
 abbrev pub TellsFault : InputFault → Said → Text → Type 0
 TellsFault Failed said text = (said ≡ ReadFault) × TellsLine (codes "read fault") text
 TellsFault (Bad line why) said text = (said ≡ BadScenario) × TellsLine (fault_text line why) text

@@ -12,6 +12,7 @@ use Rattle.sc_scenario.specs.Made.{made_scenario}
 use Rattle.sc_scenario.specs.Valid.{IsValid}
 use Rattle.sc_actor.specs.Counted.{journal_bytes}
 use Rattle.sc_scenario.specs.declared.scenarios.Scenario.{Scenario}
+use Rattle.sc_explain.specs.Explained.{explained}
 use Rattle.sc_report.specs.Report.{report_lines}
 use Rattle.sc_row_text.specs.RowText.{IsHeld}
 use Rattle.sc_journal_file.specs.Stored.{file_lines, IsBadFile}
@@ -39,9 +40,9 @@ use Rattle.sc_command_line.specs.declared.said.Said.TheVariants.{Ended, Filled, 
 use Rattle.sc_chance.specs.Words.{two_words}
 use Rattle.sc_lines.specs.declared.reasons.Reason.{Reason}
 
--- the text for other words
+-- the usage line, the text for arguments outside their grammar
 abbrev pub usage : List ℕ
-usage = codes "usage: scatter run | scatter make N S | scatter journal | scatter audit | scatter scan LO LEN R MOST | scatter pool"
+usage = codes "usage: scatter run | scatter make N S | scatter journal | scatter audit | scatter scan LO LEN R MOST | scatter pool | scatter explain"
 
 -- the one line of a text that is about no journal
 pub record TellsLine (message : List ℕ) (text : Text) : Type 0 where
@@ -102,7 +103,7 @@ pub record PlaysUntilFull (scenario : Scenario) (said : Said) (text : Text) : Ty
 abbrev pub Comes : (List (Row Mail OrderLine) → List (List ℕ) → Type 0) → Scenario → Said → Text → Type 0
 Comes Shows scenario said text = Plays Shows scenario said text ⊎ PlaysUntilFull scenario said text
 
--- the source failed, and the text says so
+-- a read error came, and the text says so
 pub record FailsToRead (source : SourceUse) (said : Said) (text : Text) : Type 0 where
   pub rose : Rose source.faults_before source.faults_after
   pub tells : TellsLine (codes "read fault") text
@@ -126,14 +127,14 @@ pub record ReadsAndPlays (source : SourceUse) (said : Said) (text : Text) : Type
   pub read : ReadsScenario source.left scenario
   pub comes : Comes (ShowsReport scenario) scenario said text
 
--- the same where the journal is shown behind the scenario's text
+-- the input is a scenario, and its journal is shown behind its text
 pub record ReadsAndStores (source : SourceUse) (said : Said) (text : Text) : Type 0 where
   pub scenario : Scenario
   pub bytes : List ℕ
   pub read : ReadsText source.left scenario bytes
   pub comes : Comes (ShowsFile bytes) scenario said text
 
--- the same where a scan of the journal is shown
+-- the input is a scenario, and a scan of its journal is shown
 pub record ReadsAndScans (sight : Sight) (source : SourceUse) (said : Said) (text : Text) : Type 0 where
   pub scenario : Scenario
   pub read : ReadsScenario source.left scenario
@@ -179,39 +180,65 @@ pub record ReadsAndAudits (source : SourceUse) (said : Said) (text : Text) : Typ
   pub read : ReadsFile source.left scenario rows
   pub audits : AuditsAs scenario rows said text
 
--- What a text says that was begun after the word `run`, or after `pool`, and its cause.
+-- Rows are a lawful journal of a scenario, of which each prefix is sound and each refusal has its cause, and the lines of the text are what each row decided.
+pub record ExplainsLawful (scenario : Scenario) (rows : List (Row Mail OrderLine)) (said : Said) (text : Text) : Type 0 where
+  pub lawful : Lawful as_nodes two_words scenario rows
+  pub sound : IsSoundThroughout as_nodes scenario rows
+  pub refuses : RefusesWithCause as_nodes scenario rows
+  pub lines : text.lines ≡ explained as_nodes scenario.groups rows
+  pub journal_is : text.journal ≡ Some rows
+  pub parties : text.parties ≡ []
+  pub said_is : said ≡ Yes
+
+-- what a text explains of a scenario and rows that are stored: where they are not lawful, it is what an audit prints
+abbrev pub ExplainsAs : Scenario → List (Row Mail OrderLine) → Said → Text → Type 0
+ExplainsAs scenario rows said text = ExplainsLawful scenario rows said text ⊎ HoldsUnlawful scenario rows said text
+
+-- the input stores a journal, and the text is what its rows decided, or names the first that is not lawful
+pub record ReadsAndExplains (source : SourceUse) (said : Said) (text : Text) : Type 0 where
+  pub scenario : Scenario
+  pub rows : List (Row Mail OrderLine)
+  pub read : ReadsFile source.left scenario rows
+  pub explains : ExplainsAs scenario rows said text
+
+-- What a text says that was begun after `run` or `pool`, and its cause.
 abbrev pub Reads : SourceUse → Said → Text → Type 0
 Reads source said text = Refuses IsBadText source said text ⊎ ReadsAndPlays source said text
 
--- The same after the word `journal`.
+-- What a text says that was begun after `journal`, and its cause.
 abbrev pub Keeps : SourceUse → Said → Text → Type 0
 Keeps source said text = Refuses IsBadText source said text ⊎ ReadsAndStores source said text
 
--- The same after the word `scan` with its four numbers.
+-- What a text says that was begun after `scan` with its four numbers, and its cause.
 abbrev pub Scans : Sight → SourceUse → Said → Text → Type 0
 Scans sight source said text = Refuses IsBadText source said text ⊎ ReadsAndScans sight source said text
 
--- The same after the word `audit`.
+-- What a text says that was begun after `audit`, and its cause.
 abbrev pub Audits : SourceUse → Said → Text → Type 0
 Audits source said text = Refuses IsBadFile source said text ⊎ ReadsAndAudits source said text
 
--- the same of a made scenario, which is plain and at its budget, without a look at the source
+-- What a text says that was begun after `explain`, and its cause.
+abbrev pub Explains : SourceUse → Said → Text → Type 0
+Explains source said text = Refuses IsBadFile source said text ⊎ ReadsAndExplains source said text
+
+-- what a text says of a made scenario, which is plain and at its budget
 pub record PlaysMade (scenario : Scenario) (said : Said) (text : Text) : Type 0 where
   pub valid : IsValid scenario
   pub at_budget : IsAtBudget scenario
   pub comes : Comes (ShowsReport scenario) scenario said text
 
--- What a text says that was begun where the words ask for this: the usage line, what the input is, or what comes of a made scenario.
+-- What a text says that was begun where the arguments ask for this: the usage line, what the input is, or what comes of a made scenario.
 abbrev pub SaysFor : Option Subcommand → SourceUse → Said → Text → Type 0
 SaysFor None source said text = (said ≡ Usage) × TellsLine usage text
 SaysFor (Some ask.Run) source said text = Reads source said text
 SaysFor (Some ask.Journal) source said text = Keeps source said text
 SaysFor (Some ask.Audit) source said text = Audits source said text
 SaysFor (Some ask.Pool) source said text = Reads source said text
+SaysFor (Some ask.Explain) source said text = Explains source said text
 SaysFor (Some (ask.Scan sight)) source said text = Scans sight source said text
 SaysFor (Some (ask.Make n seed)) source said text = PlaysMade (made_scenario n seed) said text
 
--- the same for any words
+-- what a text says that was begun for these arguments
 abbrev pub Says : List (List ℕ) → SourceUse → Said → Text → Type 0
 Says words source said text = SaysFor (subcommand_by words) source said text
 

@@ -1,4 +1,4 @@
--- What is shown of a scenario and a journal of it after the word `scan`.
+-- What is shown of a scenario and a journal of it after `scan`.
 use Rattle.std.specs.Prelude.{◌≡◌, ℕ, List, length, take}
 use Rattle.sc_actor.specs.declared.rows.Row.{Row}
 use Rattle.sc_cmd.specs.declared.orders.OrderLine.{OrderLine}
@@ -10,7 +10,7 @@ use Rattle.sc_scenario.specs.declared.scenarios.Scenario.{Scenario}
 use Rattle.sc_sound.specs.Players.{as_nodes}
 use Rattle.sc_command_line.specs.declared.subcommands.Sight.{Sight}
 
--- The lines are the text of a scan of so many first rows of a journal, or of all where there are fewer; and the scan tells what the arc holds after them.
+-- The lines are the text of a scan after the number of rows that is asked for, or after all where there are fewer; and the scan says what the arc holds after them.
 pub record ShowsScan (scenario : Scenario) (sight : Sight) (journal : List (Row Mail OrderLine)) (lines : List (List ℕ)) : Type 0 where
   pub text : let rows : List (Row Mail OrderLine) = take sight.rows journal in
       lines ≡ scan_lines sight.most (length rows) (scan_at as_nodes scenario.groups rows sight.arc)

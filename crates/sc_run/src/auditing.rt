@@ -22,8 +22,9 @@ use sc_scenario::Scenario;
 use sc_world::{ReplayFault, replay_rows};
 use std::alloc::Global;
 
-// The first row that is not lawful, from 1, if there is one.
-fn bad_row(
+/// Returns the number of the first row that is not lawful, from 1, if there is one. Fails only
+/// where it runs out of memory.
+pub(crate) fn bad_row(
     alloc: Global,
     scenario: &Scenario,
     rows: &Journal<Mail, OrderLine>,
@@ -44,9 +45,9 @@ fn bad_row(
     }
 }
 
-/// Whether rows are a lawful journal of a scenario, and else the first that is not lawful. The
-/// scenario is one that some text is, or that is made, and rows and their mails are fewer than 2^31
-/// each.
+/// Returns the text that rows are a lawful journal of a scenario, or else the text that names the
+/// first that is not lawful. The scenario is one that some text is, or that is made, and there are
+/// fewer than 2^31 rows and fewer than 2^31 mails. Fails only where it runs out of memory.
 pub fn audit(
     alloc: Global,
     scenario: &Scenario,
@@ -69,8 +70,9 @@ pub fn audit(
     }
 }
 
-/// An audit of a file whose rows are a lawful journal of its scenario says yes, unless the source
-/// fails; so does an audit of what was printed as a stored journal, within the limit of files.
+/// Says that an audit of a file whose rows are a lawful journal of its scenario says yes, unless a
+/// read error comes; and that an audit of what was printed as a stored journal, within the limit of
+/// files, does.
 pub fn lawful_journals_are_told()
     ensures files { LawfulFilesAreTold }
     ensures printed { PrintedJournalsAreTold }

@@ -11,8 +11,8 @@ use sc_scenario::Scenario;
 use sc_world::{MOST_ACTOR, Party, births, valid_scenarios_can_play};
 use std::alloc::Global;
 
-/// The company of a scenario within a limit of counted bytes of at most 2^30: the nodes and then
-/// the clients, each as it is born.
+/// Returns the company of a scenario, its nodes and then its clients, each as it is created, whose
+/// journal has a limit of counted bytes, of at most 2^30.
 ///
 /// The actors' numbers are 1 to 96: nodes have 1 to 32, and clients come from 33 on.
 pub fn begin(alloc: Global, scenario: &Scenario, limit: u64) -> Result<Company<Party>, OutOfMemory>

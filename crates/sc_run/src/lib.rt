@@ -1,11 +1,12 @@
-//! A run, from the words and bytes that come in to the bytes that go out. The program has nothing
-//! else but its real input and output.
+//! A run, from the arguments and bytes that come in to the bytes that go out. The program has
+//! nothing else but its real input and output.
 #![tactic(auto)]
 
 mod answering;
 mod auditing;
 mod begun;
 mod done;
+mod explaining;
 mod played;
 mod reporting;
 mod running;
@@ -16,6 +17,7 @@ mod telling;
 pub use auditing::{audit, lawful_journals_are_told};
 pub use begun::begin;
 pub use done::{Done, Text};
+pub use explaining::explain_stored;
 pub use played::{play, play_pool};
 pub use reporting::{Left, play_whole, report, store};
 pub use running::run;

@@ -19,7 +19,8 @@ use std::alloc::Global;
 use std::sync::Wait;
 use std::thread::Threads;
 
-// Plays a scenario by a way of working lines of many workers.
+// Plays a scenario through its company, which has just opened. `way` says how its lines of many
+// workers are worked.
 fn play_by<G: Gate, R: Threads + Wait + Sync>(
     rt: &R,
     alloc: Global,
@@ -66,7 +67,8 @@ pub fn play<G: Gate, R: Threads + Wait + Sync>(
     play_by(rt, alloc, Way::Runs, scenario, company, gate)
 }
 
-/// The same, where its lines of many workers are worked by a pool.
+/// Plays a scenario through its company as `play` does, but its lines of many workers are worked by
+/// a pool.
 pub fn play_pool<G: Gate, R: Threads + Wait + Sync>(
     rt: &R,
     alloc: Global,
@@ -83,7 +85,7 @@ pub fn play_pool<G: Gate, R: Threads + Wait + Sync>(
     play_by(rt, alloc, Way::Queue, scenario, company, gate)
 }
 
-// Plays a scenario, its lines of many workers in rounds or by a pool.
+// Plays a scenario through its company, its lines of many workers in rounds or by a pool.
 pub(crate) fn play_in<G: Gate, R: Threads + Wait + Sync>(
     rt: &R,
     alloc: Global,

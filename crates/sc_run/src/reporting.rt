@@ -33,8 +33,8 @@ pub struct Left {
 }
 
 /// Begins a scenario within a limit of counted bytes of at most 2^30, plays it, takes the shells
-/// apart, joins their ports and closes the network's port. `way` tells how its lines of many workers
-/// are worked.
+/// apart, joins their ports and closes the network's port. `way` says how its lines of many workers
+/// are worked. Fails only where it runs out of memory.
 pub fn play_whole<G: Gate, R: Threads + Wait + Sync>(
     rt: &R,
     alloc: Global,
@@ -61,10 +61,9 @@ pub fn play_whole<G: Gate, R: Threads + Wait + Sync>(
     })
 }
 
-/// The report of a scenario that was played to its end, or what is told of one that was not.
-///
-/// Where a row would pass the limit of 2^30 counted bytes, the text tells after how many rows. `way`
-/// is that of `play_whole`.
+/// Plays a scenario and returns its report, or, where a row would pass the limit of 2^30 counted
+/// bytes, the text that says after how many rows. `way` is that of `play_whole`. Fails only where
+/// it runs out of memory.
 pub fn report<G: Gate, R: Threads + Wait + Sync>(
     rt: &R,
     alloc: Global,
@@ -101,8 +100,9 @@ pub fn report<G: Gate, R: Threads + Wait + Sync>(
     }
 }
 
-/// The file that stores the journal of a scenario that was played to its end, behind the scenario's
-/// text, or what is told of one that was not, as by `report`.
+/// Plays a scenario and returns the lines of the file that stores its journal behind the scenario's
+/// text, or the text that the journal is full, as `report` does. Fails only where it runs out of
+/// memory.
 pub fn store<G: Gate, R: Threads + Wait + Sync>(
     rt: &R,
     alloc: Global,

@@ -1,4 +1,4 @@
-//! From the words and bytes that come in to the bytes that go out.
+//! From the arguments and bytes that come in to the bytes that go out.
 ghost use Rattle.std.specs.Prelude.{◌≡◌, ◌≤◌, ◌+◌, map, false, string_bytes};
 ghost use Rattle.sc_command_line.specs.Subcommands.{reads_input};
 ghost use Rattle.sc_command_line.specs.Inputs.{most_takes};
@@ -15,7 +15,7 @@ use std::alloc::Global;
 use std::sync::Wait;
 use std::thread::Threads;
 
-// What the words ask for, said and printed.
+// Begins the text that the arguments ask for, and prints it.
 fn say_and_print<S: Source, K: Sink, G: Gate, R: Threads + Wait + Sync>(
     rt: &R,
     alloc: Global,
@@ -69,18 +69,20 @@ fn say_and_print<S: Source, K: Sink, G: Gate, R: Threads + Wait + Sync>(
     }
 }
 
-/// Reads a scenario or makes one, as the words ask, runs it and prints its report, or its journal
-/// behind it; or reads a stored journal and prints whether it is lawful.
+/// Reads a scenario or makes one, as the arguments ask, runs it and prints its report, or its
+/// journal behind it, or what an arc holds; or reads a stored journal and prints whether it is
+/// lawful, or what its rows decided.
 ///
-/// The words are those behind the program's name. Each line of output is one call of the sink, and
-/// the source is called 16,777,218 times at most, after the word `audit` 268,435,458 times. A write
-/// error overrides the text's status. The gate is passed before each row that delivers a mail.
+/// The arguments are those behind the program's name. Each line of output is one call of the sink,
+/// and the source is called 16,777,218 times at most, after `audit` and `explain` 268,435,458
+/// times. A write error overrides the text's status. The gate is passed before each row that
+/// delivers a mail.
 ///
 /// Where the scenario that is read or made is plain and at its budget, no line is cut off, the
 /// journal is not full, and every request of a client whose `go` line is followed by a line of
 /// deliveries is answered; where it is calm and at its budget the same holds, but that the journal
-/// may be full. So with no read and no write error the status of such a run is 0, or 8 where it runs
-/// out of memory, and of a calm one 7 where its journal is full.
+/// may be full. So with no read and no write error the status of such a run is 0, or 8 where it
+/// runs out of memory, and of a calm one 7 where its journal is full.
 pub fn run<S: Source, K: Sink, G: Gate, R: Threads + Wait + Sync>(
     rt: &R,
     alloc: Global,

@@ -1,4 +1,4 @@
-//! Which text is begun, by what the words ask for and what the input is.
+//! Which text is begun, by what the arguments ask for and what the input is.
 ghost use Rattle.std.specs.Prelude.{◌≡◌, ◌≤◌, ◌+◌, false, map, string_bytes, IfOk};
 ghost use Rattle.sc_journal_file.specs.Stored.{most_file_bytes};
 ghost use Rattle.sc_lines.specs.Lines.{most_bytes};
@@ -6,11 +6,12 @@ ghost use Rattle.sc_scenario.specs.Made.{made_scenario};
 ghost use Rattle.sc_command_line.specs.Inputs.{most_takes};
 ghost use Rattle.sc_command_line.specs.Subcommands.{reads_input};
 ghost use Rattle.sc_command_line.specs.declared.said.Said.TheVariants.{Usage};
-ghost use Rattle.sc_run.specs.Run.{usage, Audits, Keeps, PlaysMade, Reads, Says, Scans, TellsLine};
+ghost use Rattle.sc_run.specs.Run.{usage, Audits, Explains, Keeps, PlaysMade, Reads, Says, Scans, TellsLine};
 ghost use Rattle.sc_run.specs.Refusals.{TellsFault};
 
 use crate::auditing::audit;
 use crate::done::Text;
+use crate::explaining::explain_stored;
 use crate::reporting::{report, store};
 use crate::showing::show;
 use crate::telling::tells;
@@ -27,7 +28,7 @@ use std::alloc::Global;
 use std::sync::Wait;
 use std::thread::Threads;
 
-// The text about an input that is not what was asked for.
+// Returns the text about an input that is not what was asked for.
 fn refuse(alloc: Global, fault: InputFault) -> Result<(Said, Text), OutOfMemory>
     ensures { IfOk result (λ begun. TellsFault fault begun.0 begun.1) }
 {
@@ -45,19 +46,20 @@ fn refuse(alloc: Global, fault: InputFault) -> Result<(Said, Text), OutOfMemory>
     }
 }
 
-// The usage line.
+// Returns the text of the usage line.
 fn tell_usage(alloc: Global) -> Result<(Said, Text), OutOfMemory>
     ensures { IfOk result (λ begun. (begun.0 ≡ Usage) × TellsLine usage begun.1) }
 {
     let text = tells(
         alloc,
         b"usage: scatter run | scatter make N S | scatter journal | scatter audit \
-        | scatter scan LO LEN R MOST | scatter pool",
+        | scatter scan LO LEN R MOST | scatter pool | scatter explain",
     )?;
     Ok((Said::Usage, text))
 }
 
-// What comes of the scenario that the input is.
+// Returns the report of the scenario that the input is, or the text about the input where it is
+// none.
 fn report_input<S: Source, G: Gate, R: Threads + Wait + Sync>(
     rt: &R,
     alloc: Global,
@@ -78,7 +80,8 @@ fn report_input<S: Source, G: Gate, R: Threads + Wait + Sync>(
     }
 }
 
-// What is stored of the scenario that the input is.
+// Returns the stored journal of the scenario that the input is, or the text about the input where
+// it is none.
 fn store_input<S: Source, G: Gate, R: Threads + Wait + Sync>(
     rt: &R,
     alloc: Global,
@@ -98,7 +101,8 @@ fn store_input<S: Source, G: Gate, R: Threads + Wait + Sync>(
     }
 }
 
-// What an arc holds in a run of the scenario that the input is.
+// Returns what an arc holds in a run of the scenario that the input is, or the text about the input
+// where it is none.
 fn show_input<S: Source, G: Gate, R: Threads + Wait + Sync>(
     rt: &R,
     alloc: Global,
@@ -120,7 +124,8 @@ fn show_input<S: Source, G: Gate, R: Threads + Wait + Sync>(
     }
 }
 
-// Whether the journal is lawful that the input stores.
+// Returns the text that says whether the journal is lawful that the input stores, or the text about
+// the input where it stores none.
 fn audit_input<S: Source>(alloc: Global, input: &mut S) -> Result<(Said, Text), OutOfMemory>
     ensures says { IfOk result (λ begun. Audits (record {
       left = S.left input.old;
@@ -135,7 +140,23 @@ fn audit_input<S: Source>(alloc: Global, input: &mut S) -> Result<(Said, Text), 
     }
 }
 
-// What comes of a made scenario, of 1 to 1,000 requests a client.
+// Returns what the rows decided of the journal that the input stores, if it is lawful, and else the
+// text that an audit of the input has.
+fn explain_input<S: Source>(alloc: Global, input: &mut S) -> Result<(Said, Text), OutOfMemory>
+    ensures says { IfOk result (λ begun. Explains (record {
+      left = S.left input.old;
+      faults_before = S.faults input.old;
+      faults_after = S.faults input.new;
+    }) begun.0 begun.1) }
+    ensures takes { S.calls input.new ≤ S.calls input.old + (most_file_bytes + 2) }
+{
+    match file_in(alloc, input) {
+        Ok((scenario, rows)) => explain_stored(alloc, &scenario, rows),
+        Err(fault) => refuse(alloc, fault),
+    }
+}
+
+// Returns the report of a made scenario, of 1 to 1,000 requests a client.
 fn report_made<G: Gate, R: Threads + Wait + Sync>(
     rt: &R,
     alloc: Global,
@@ -151,8 +172,9 @@ fn report_made<G: Gate, R: Threads + Wait + Sync>(
     report(rt, alloc, Way::Runs, &scenario, gate)
 }
 
-/// The text for what the words ask for. The input is read only after one of the words `run`,
-/// `journal`, `audit` and `pool` alone, and after `scan` with its four numbers.
+/// Returns the text that the arguments ask for. The input is read only after `run`, `journal`,
+/// `audit`, `pool` or `explain` alone, and after `scan` with its four numbers. Fails only where it
+/// runs out of memory.
 pub(crate) fn say<S: Source, G: Gate, R: Threads + Wait + Sync>(
     rt: &R,
     alloc: Global,
@@ -176,6 +198,7 @@ pub(crate) fn say<S: Source, G: Gate, R: Threads + Wait + Sync>(
         Some(Subcommand::Pool) => report_input(rt, alloc, Way::Queue, input, gate),
         Some(Subcommand::Journal) => store_input(rt, alloc, input, gate),
         Some(Subcommand::Audit) => audit_input(alloc, input),
+        Some(Subcommand::Explain) => explain_input(alloc, input),
         Some(Subcommand::Scan(sight)) => show_input(rt, alloc, input, sight, gate),
         Some(Subcommand::Make { n, seed }) => report_made(rt, alloc, n, seed, gate),
     }

@@ -27,7 +27,7 @@ use std::alloc::Global;
 use std::sync::Wait;
 use std::thread::Threads;
 
-// So many first rows, or all.
+// Returns the first `most` rows, or all where there are fewer.
 fn first_rows(rows: &[Row<Mail, OrderLine>], most: u32) -> &[Row<Mail, OrderLine>]
     ensures { result.now ≡ take most rows.now }
 {
@@ -38,7 +38,7 @@ fn first_rows(rows: &[Row<Mail, OrderLine>], most: u32) -> &[Row<Mail, OrderLine
     }
 }
 
-// The text of a scan of so many first rows as are asked for.
+// Returns the lines of a scan after the number of rows that is asked for.
 fn lines_of(
     alloc: Global,
     scenario: &Scenario,
@@ -59,8 +59,8 @@ fn lines_of(
     scan_lines(alloc, sight.most, first.len() as u64, shown.as_slice())
 }
 
-/// What an arc holds after the first rows of a scenario that was played to its end, or what is told
-/// of one that was not, as by `report`.
+/// Plays a scenario and returns what an arc holds after its first rows, or the text that the
+/// journal is full, as `report` does. Fails only where it runs out of memory.
 pub fn show<G: Gate, R: Threads + Wait + Sync>(
     rt: &R,
     alloc: Global,

@@ -10,7 +10,7 @@ use sc_mail::Mail;
 use sc_report::ReportLine;
 use std::alloc::Global;
 
-/// A text of one line, about no journal.
+/// Returns a text of one line, about no journal.
 pub(crate) fn tells(alloc: Global, message: &[u8]) -> Result<Text, OutOfMemory>
     ensures { IfOk result (λ text. TellsLine message.now text) }
 {
@@ -25,7 +25,7 @@ pub(crate) fn tells(alloc: Global, message: &[u8]) -> Result<Text, OutOfMemory>
     })
 }
 
-// The line that a journal is full after so many rows.
+// Returns the line that a journal is full after this number of rows.
 fn full_line(alloc: Global, rows: u64) -> Result<ReportLine, OutOfMemory>
     ensures { IfOk result (λ line. line ≡ full_line rows) }
 {
@@ -35,7 +35,7 @@ fn full_line(alloc: Global, rows: u64) -> Result<ReportLine, OutOfMemory>
     Ok(ReportLine::from_vec(bytes))
 }
 
-/// The text about a journal that is full.
+/// Returns the text about a journal that is full.
 pub fn tells_full(alloc: Global, journal: Journal<Mail, OrderLine>) -> Result<Text, OutOfMemory>
     ensures { IfOk result (λ text. TellsFull journal text) }
 {
@@ -49,7 +49,7 @@ pub fn tells_full(alloc: Global, journal: Journal<Mail, OrderLine>) -> Result<Te
     })
 }
 
-/// The line of lawful rows.
+/// Returns the line that this number of rows is lawful.
 pub(crate) fn lawful_line(alloc: Global, rows: u64) -> Result<ReportLine, OutOfMemory>
     ensures { IfOk result (λ line. line ≡ lawful_line rows) }
 {
@@ -59,7 +59,7 @@ pub(crate) fn lawful_line(alloc: Global, rows: u64) -> Result<ReportLine, OutOfM
     Ok(ReportLine::from_vec(bytes))
 }
 
-/// The line of the first row that is not lawful.
+/// Returns the line that names the first row that is not lawful.
 pub(crate) fn unlawful_line(alloc: Global, row: u32) -> Result<ReportLine, OutOfMemory>
     ensures { IfOk result (λ line. line ≡ unlawful_line row) }
 {
@@ -69,7 +69,7 @@ pub(crate) fn unlawful_line(alloc: Global, row: u32) -> Result<ReportLine, OutOf
     Ok(ReportLine::from_vec(bytes))
 }
 
-/// The text about the rows of a stored journal.
+/// Returns a text of one line about the rows of a stored journal.
 pub(crate) fn tells_of_rows(
     alloc: Global,
     line: ReportLine,

@@ -40,7 +40,7 @@ const ROWS: &[&[u8]] = &[
     b"{\"event\":{\"Deliver\":7},\"sent\":[],\"who\":2}",
 ];
 
-// Two nodes and a client of a scenario, at their births.
+// Returns two nodes and a client of a scenario, as they are created.
 fn born(rt: &impl Abort, alloc: Global, scenario: &Scenario) -> Hand<Party>
     ensures { result.log.wire ≡ mails result.log.rows }
 {
@@ -83,7 +83,7 @@ fn have_texts(
     true
 }
 
-// The row that an audit names, or 0 where the rows are lawful.
+// Returns the row that an audit names, or 0 where the rows are lawful.
 fn named(rt: &impl Abort, alloc: Global, hand: &Hand<Party>, scenario: &Scenario) -> u32
     requires { IsValid scenario.now }
 {

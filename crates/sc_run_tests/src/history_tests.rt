@@ -21,7 +21,7 @@ use std::thread::Threads;
 
 const FULL_AFTER_TWO: &[u8] = b"journal full after 2 rows\n";
 
-// Whether a row says that it accepted a slot.
+// Returns whether a row says that it accepted a slot.
 fn accepts(row: &Row<Mail, OrderLine>) -> bool {
     row.sent
         .as_slice()
@@ -29,7 +29,7 @@ fn accepts(row: &Row<Mail, OrderLine>) -> bool {
         .any(|mail| matches!(&mail.body, MailBody::Accepted { .. }))
 }
 
-// The command that a row accepts, if it delivers the Accept of one.
+// Returns the command that a row accepts, if it delivers the Accept of one.
 fn accepted<'a>(row: &Row<Mail, OrderLine>, sent: &[&'a Mail]) -> Option<&'a Command> {
     let Event::Deliver(number) = &row.event else {
         return None;
@@ -41,7 +41,7 @@ fn accepted<'a>(row: &Row<Mail, OrderLine>, sent: &[&'a Mail]) -> Option<&'a Com
     }
 }
 
-// The group of a scenario, as a machine.
+// Returns the group of a scenario, as a machine.
 fn machine_of(rt: &impl Abort, alloc: Global, scenario: &Scenario) -> Machine {
     match scenario.groups.as_slice() {
         [base] => {
@@ -52,7 +52,7 @@ fn machine_of(rt: &impl Abort, alloc: Global, scenario: &Scenario) -> Machine {
     }
 }
 
-// The old value that a reply tells. No value is told as the empty text.
+// Returns the old value of a reply, or the empty text where it has none.
 fn bytes_of(reply: &Reply) -> &[u8] {
     match &reply.old {
         Some(value) => value.bytes(),
@@ -93,7 +93,7 @@ fn tell_olds(
     }
 }
 
-// What was played of a scenario within so many bytes.
+// Plays a scenario within this number of counted bytes, and returns what is left.
 fn left_of<R: Abort + Threads + Wait + Sync>(
     rt: &R,
     alloc: Global,
@@ -106,8 +106,8 @@ fn left_of<R: Abort + Threads + Wait + Sync>(
     play_whole(rt, alloc, Way::Runs, scenario, limit, &Open).expect(rt, "memory")
 }
 
-// The old values that the history of a run answers, in its order, a line each: a group of one
-// member decides each command that it accepts.
+// Returns the old values that the requests of a run are answered with, in the order of its history,
+// a line each. A group of one member decides each command that it accepts.
 fn history<R: Abort + Threads + Wait + Sync>(rt: &R, alloc: Global, input: &[u8]) -> Vec<u8> {
     let scenario = scenario_of(rt, alloc, input);
     let left = left_of(rt, alloc, &scenario, 1 << 30);
@@ -132,7 +132,7 @@ fn histories_are_those_of_one_map(rt: HostRuntime) {
     assert!(rt; four.as_slice() == b"\nx\n\ny\n".as_slice());
 }
 
-// Whether the text about a journal is the line that it is full after two rows.
+// Returns whether the text about a journal is the line that it is full after two rows.
 fn is_full_after_two(rt: &impl Abort, alloc: Global, journal: Journal<Mail, OrderLine>) -> bool {
     let text = tells_full(alloc, journal).expect(rt, "memory");
     match text.lines.as_slice() {
@@ -141,7 +141,7 @@ fn is_full_after_two(rt: &impl Abort, alloc: Global, journal: Journal<Mail, Orde
     }
 }
 
-// How a scenario is played within 700 bytes.
+// Plays a scenario within 700 counted bytes, and returns what is left.
 fn filled<R: Abort + Threads + Wait + Sync>(rt: &R, alloc: Global, input: &[u8]) -> Left {
     let scenario = scenario_of(rt, alloc, input);
     let left = left_of(rt, alloc, &scenario, 700);

@@ -1,5 +1,5 @@
-//! Hostile use: a sink that fails at each of its calls, an input that ends after each of its lines,
-//! a source that fails after it gave bytes, and a journal that the next row would fill.
+//! Hostile use: a write error at each call of the sink, an input that ends after each of its lines,
+//! a read error behind some bytes, and a journal that the next row would fill.
 ghost use Rattle.std.specs.Prelude.{◌≤◌, ◌^◌};
 
 use crate::gates::Open;
@@ -15,7 +15,7 @@ use std::process::Abort;
 use std::sync::Wait;
 use std::thread::Threads;
 
-// The first so many lines of a text.
+// Returns the first lines of a text, as many as `count` says.
 fn first_lines(text: &[u8], count: u64) -> &[u8] {
     let mut bytes = 0usize;
     let mut lines = 0u64;
@@ -46,7 +46,7 @@ fn a_failing_sink_holds_the_lines_before(rt: HostRuntime) {
     );
 }
 
-// A fault of the sink wins over the status of the text, whichever that is.
+// A write error overrides the status of the text, whichever that is.
 const SINK_FAILS: &[Case] = &[
     (("make 0 7", FIRST, 0, 1), (5, false, b"")),
     (("run", b"", 0, 1), (5, false, b"")),
@@ -72,7 +72,7 @@ const NOTHING_DELIVERED: &[u8] =
     b"scatter report 1\nunanswered 1 1 put\nunsent 1 2 get\nring 0 group 0.1 members 1\nrows 1\n\
         mail 1\ndelivered 0\nskipped 0\nquiet no\n";
 
-// What comes of the first so many lines of a put and a get.
+// Returns what comes of the first lines of a put and a get.
 const TRUNCATED: &[(u64, (u8, bool, &[u8]))] = &[
     (0, (3, false, b"line 1: missing header\n")),
     (1, (3, false, b"line 2: missing part\n")),
@@ -93,7 +93,7 @@ fn inputs_that_end_early_are_refused_or_run_as_far(rt: HostRuntime) {
     }
 }
 
-// The put and the get behind so many lines of comment that a read takes three calls, the last of
+// The put and the get behind enough lines of comment that a read takes three calls, the last of
 // which finds the end.
 fn long_input(rt: &impl Abort, alloc: Global) -> Vec<u8> {
     let mut text = Vec::new(alloc);
@@ -129,7 +129,7 @@ fn a_source_that_fails_after_bytes_were_taken_leaves_no_journal(rt: HostRuntime)
     );
 }
 
-// How a play of the put and the get within a limit ends, and how many rows it leaves.
+// Returns how a play of the put and the get within a limit ends, and the number of rows it leaves.
 fn played_within<R: Abort + Threads + Wait + Sync>(
     rt: &R,
     alloc: Global,

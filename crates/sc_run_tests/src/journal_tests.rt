@@ -1,4 +1,5 @@
-//! Journals that are stored and audited: worked files, of which another program printed the first.
+//! Journals that are stored, audited and explained: worked files, of which another program printed
+//! the first, and what its rows decided.
 
 use crate::run_tests::{Case, Expected, FIRST, FIRST_REPORT, check, check_all};
 use crate::thread_tests::add;
@@ -41,6 +42,25 @@ const STORED: &[u8] = b"scatter 1\n\
         \"old\":\"x\"}},\"group\":\"0.1\",\"seq\":2}},\"from\":1,\"to\":33}],\"who\":1}\n\
         {\"event\":{\"Deliver\":8},\"sent\":[],\"who\":33}\n";
 
+// What its rows decided, as another program prints it.
+const EXPLAINED: &[u8] = b"{\"birth\":{\"group\":\"0.1\",\"members\":[1]},\"row\":0}\n\
+        {\"record\":{\"arc\":[0,4294967296],\"gone\":null,\"lock\":\"Free\",\"members\":[1],\"nam\
+        e\":\"0.1\",\"pred\":\"0.1\",\"succ\":\"0.1\"},\"row\":0}\n\
+        {\"group\":{\"arc\":[0,4294967296],\"name\":\"0.1\",\"pairs\":0,\"pred\":\"0.1\",\"succ\"\
+        :\"0.1\"},\"row\":0}\n\
+        {\"ring\":[[\"0.1\",[0,4294967296]]],\"row\":0}\n\
+        {\"entry\":{\"command\":{\"Call\":{\"client\":1,\"op\":{\"Put\":{\"key\":\"a\",\"value\":\
+        \"x\"}},\"seq\":1}},\"effect\":{\"Done\":{\"old\":null}},\"group\":\"0.1\",\"slot\":1},\"\
+        row\":3}\n\
+        {\"history\":{\"client\":1,\"op\":{\"Put\":{\"key\":\"a\",\"value\":\"x\"}},\"reply\":{\"\
+        old\":null},\"seq\":1},\"row\":3}\n\
+        {\"group\":{\"arc\":[0,4294967296],\"name\":\"0.1\",\"pairs\":1,\"pred\":\"0.1\",\"succ\"\
+        :\"0.1\"},\"row\":3}\n\
+        {\"entry\":{\"command\":{\"Call\":{\"client\":1,\"op\":{\"Get\":{\"key\":\"a\"}},\"seq\":\
+        2}},\"effect\":{\"Done\":{\"old\":\"x\"}},\"group\":\"0.1\",\"slot\":2},\"row\":7}\n\
+        {\"history\":{\"client\":1,\"op\":{\"Get\":{\"key\":\"a\"}},\"reply\":{\"old\":\"x\"},\"s\
+        eq\":2},\"row\":7}\n";
+
 // A part of a text, and what stands in its first place instead.
 type Damage = (&'static [u8], &'static [u8]);
 
@@ -70,7 +90,7 @@ const LINE_WITHOUT_FEED: &[u8] =
     b"scatter 1\nnodes 1\ngroup 0 1\nclient 1\nput a x\nget a\nend\ngo 1\nsettle 100";
 
 const USAGE: &[u8] = b"usage: scatter run | scatter make N S | scatter journal | scatter audit \
-        | scatter scan LO LEN R MOST | scatter pool\n";
+        | scatter scan LO LEN R MOST | scatter pool | scatter explain\n";
 
 // What is printed, and that it is lawful.
 const STORED_ONES: &[Case] = &[
@@ -78,6 +98,7 @@ const STORED_ONES: &[Case] = &[
     (("journal", LINE_WITHOUT_FEED, 0, 0), (0, true, STORED)),
     (("run", LINE_WITHOUT_FEED, 0, 0), (0, true, FIRST_REPORT)),
     (("audit", STORED, 0, 0), (0, true, b"lawful rows 9\n")),
+    (("explain", STORED, 0, 0), (0, true, EXPLAINED)),
 ];
 
 // What comes of the stored journal, damaged.
@@ -85,6 +106,9 @@ const DAMAGED: &[(&str, Damage, Expected)] = &[
     ("audit", OTHER_MAIL, (9, true, b"unlawful row 9\n")),
     ("audit", WITHOUT_LAST, (0, true, b"lawful rows 8\n")),
     ("audit", OTHER_SENT, (9, true, b"unlawful row 2\n")),
+    ("explain", OTHER_SENT, (9, true, b"unlawful row 2\n")),
+    ("explain", WITHOUT_LAST, (0, true, EXPLAINED)),
+    ("explain", CUT_SHORT_ROW, (3, false, b"line 19: bad row\n")),
     ("audit", SECOND_SPELLING, (3, false, b"line 11: bad row\n")),
     ("audit", CUT_SHORT_ROW, (3, false, b"line 19: bad row\n")),
     (
@@ -108,20 +132,28 @@ const NO_JOURNALS: &[Case] = &[
         ("audit", b"", 0, 0),
         (3, false, b"line 1: missing journal\n"),
     ),
+    (
+        ("explain", FIRST, 0, 0),
+        (3, false, b"line 10: missing journal\n"),
+    ),
 ];
 
-// Sources and sinks that fail, and words that are none.
+// Read errors, write errors, and arguments outside the grammar.
 const FAULTS: &[Case] = &[
     (("audit", STORED, 1, 0), (4, false, b"read fault\n")),
     (("audit", STORED, 0, 1), (5, true, b"")),
     (("journal", FIRST, 1, 0), (4, false, b"read fault\n")),
     (("journal", FIRST, 0, 2), (5, true, b"scatter 1\n")),
+    (("explain", STORED, 1, 0), (4, false, b"read fault\n")),
+    (("explain", STORED, 0, 1), (5, true, b"")),
     (("audit x", STORED, 0, 0), (2, false, USAGE)),
+    (("explain x", STORED, 0, 0), (2, false, USAGE)),
+    (("explain -x", STORED, 0, 0), (2, false, USAGE)),
     (("journal journal", FIRST, 0, 0), (2, false, USAGE)),
     (("journal -x", FIRST, 0, 0), (2, false, USAGE)),
 ];
 
-// Where a part of a text begins that is in it.
+// Returns the place where a part of a text begins, which the text has.
 fn place_of(rt: &impl Abort, text: &[u8], part: &[u8]) -> usize {
     for i in 0..text.len() {
         if text.get(i..).unwrap_or(b"").starts_with(part) {
@@ -131,7 +163,7 @@ fn place_of(rt: &impl Abort, text: &[u8], part: &[u8]) -> usize {
     panic!(rt; "no such part");
 }
 
-// A text with that damage.
+// Returns a text with that damage.
 fn damaged(rt: &impl Abort, alloc: Global, text: &[u8], (old, new): Damage) -> Vec<u8> {
     let at = place_of(rt, text, old);
     let mut damaged = Vec::new(alloc);
@@ -183,6 +215,10 @@ const FILES: &[Case] = &[
         (3, false, b"line 1: missing journal\n"),
     ),
     (
+        ("explain", FIRST, 0, 0),
+        (3, false, b"line 10: missing journal\n"),
+    ),
+    (
         ("audit", b"\n", 0, 0),
         (3, false, b"line 2: missing journal\n"),
     ),
@@ -214,7 +250,7 @@ const FILES: &[Case] = &[
         ("audit", b"a\nb\nc\nd\ne\nf\ng\nh\ni\nj", 0, 0),
         (3, false, b"line 11: missing journal\n"),
     ),
-    // the part before it is no scenario
+    // the text before the line `journal` is no scenario
     (
         ("audit", b"journal\n", 0, 0),
         (3, false, b"line 1: missing header\n"),
@@ -244,7 +280,7 @@ const FILES: &[Case] = &[
         ("audit", b"scatter 1\nfoo\njournal\nx", 0, 0),
         (3, false, b"line 2: unknown word\n"),
     ),
-    // a line behind it is no row's
+    // a line behind the line `journal` is the text of no row
     (
         ("audit", b"scatter 1\nnodes 1\ngroup 0 1\njournal\nx", 0, 0),
         (3, false, b"line 5: bad row\n"),

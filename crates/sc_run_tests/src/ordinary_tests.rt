@@ -16,7 +16,8 @@ const CLIENTS: &[&[u8]] = &[
     b"16",
 ];
 
-// How the keys of clients 1 to 4 begin, and of every four after these: each lies in another group.
+// The beginnings of the keys of clients 1 to 4, and of every four after these, which lie in four
+// groups.
 const KEYS: &[&[u8]] = &[b"!", b"A", b"a", b"q"];
 
 // A client's requests, before its key and behind it.
@@ -50,7 +51,7 @@ fn add_client(rt: &impl Abort, text: &mut Vec<u8>, client: &[u8], key: &[u8]) {
     }
 }
 
-/// The scenario, with these lines behind those by which the clients start.
+/// Returns the scenario, with these lines behind those by which the clients start.
 pub fn scenario(rt: &impl Abort, alloc: Global, lines: &[u8]) -> Vec<u8> {
     let mut text = Vec::new(alloc);
     add(rt, &mut text, HEAD);

@@ -71,7 +71,7 @@ enum Change {
 // none).
 type Case = (&'static [u8], Change, usize, u32);
 
-/// The rows of a scenario that is played to its end.
+/// Returns the rows of a scenario that is played to its end.
 pub fn played<R: Abort + Threads + Wait + Sync>(
     rt: &R,
     alloc: Global,
@@ -93,14 +93,14 @@ pub fn played<R: Abort + Threads + Wait + Sync>(
     }
 }
 
-/// The scenario that some text is.
+/// Returns the scenario that a text is.
 pub fn scenario_of(rt: &impl Abort, alloc: Global, input: &[u8]) -> Scenario
     ensures { IsValid result }
 {
     read_scenario(alloc, input).expect(rt, "a scenario")
 }
 
-// The mails of a row, the first of which goes to another.
+// Returns the mails of a row, with another receiver of the first.
 fn sent_elsewhere(rt: &impl Abort, sent: Sequence<Mail>) -> Sequence<Mail> {
     let mut mails = sent.into_vec();
     assert!(rt; !mails.is_empty());
@@ -142,7 +142,7 @@ fn change_rows(
     }
 }
 
-// The journal of a case.
+// Returns the journal of a case.
 fn journal_of<R: Abort + Threads + Wait + Sync>(
     rt: &R,
     alloc: Global,
@@ -156,7 +156,7 @@ fn journal_of<R: Abort + Threads + Wait + Sync>(
     Journal::from_vec(rows)
 }
 
-/// The row of a journal that a replay for a scenario names, or 0.
+/// Returns the row of a journal that a replay for a scenario names, or 0 where it names none.
 pub fn named(
     rt: &impl Abort,
     alloc: Global,
@@ -219,7 +219,7 @@ fn a_played_journal_is_replayed_and_a_changed_row_is_named(rt: HostRuntime) {
     }
 }
 
-/// The world of a journal of a scenario.
+/// Returns the world of a journal of a scenario.
 pub fn replayed<'a>(
     rt: &impl Abort,
     alloc: Global,
@@ -236,7 +236,7 @@ pub fn replayed<'a>(
     }
 }
 
-// Whether these lines, one after another, are this text.
+// Returns whether these lines, one after another, are this text.
 fn are_text(lines: &[ReportLine], text: &[u8]) -> bool {
     let mut rest = text;
     for line in lines {
@@ -248,7 +248,7 @@ fn are_text(lines: &[ReportLine], text: &[u8]) -> bool {
     rest.is_empty()
 }
 
-// Whether a summary is told so.
+// Returns whether the report of a summary has these lines.
 fn is_told(rt: &impl Abort, alloc: Global, told: &Summary, report: &[u8]) -> bool {
     let lines = lines(alloc, told).expect(rt, "memory");
     let is_so = are_text(lines.as_slice(), report);
@@ -256,7 +256,7 @@ fn is_told(rt: &impl Abort, alloc: Global, told: &Summary, report: &[u8]) -> boo
     is_so
 }
 
-// What a replay tells of a journal.
+// Returns the summary that a replay makes of a journal.
 fn told_by(
     rt: &impl Abort,
     alloc: Global,
@@ -271,7 +271,7 @@ fn told_by(
     told
 }
 
-// Whether this is the report of a run's rows.
+// Returns whether this is the report of a run's rows.
 fn reports<R: Abort + Threads + Wait + Sync>(
     rt: &R,
     alloc: Global,
@@ -301,13 +301,13 @@ fn a_replay_tells_the_report_of_its_rows(rt: HostRuntime) {
     }
 }
 
-// What was asked as the request of client 1 with a number, from 1.
+// Returns the operation of the request of client 1 with this number, from 1.
 fn asked(scenario: &Scenario, number: u32) -> Option<&Op> {
     let asks = scenario.clients.as_slice().first()?;
     asks.ops.as_slice().get(number.checked_sub(1)? as usize)
 }
 
-// The number of a command that is that request of client 1, or 0.
+// Returns the number of a command that is that request of client 1, or 0.
 fn number_of(scenario: &Scenario, command: &Command) -> u32 {
     match command {
         Command::Call { client, seq, op } => {
@@ -321,7 +321,7 @@ fn number_of(scenario: &Scenario, command: &Command) -> u32 {
     }
 }
 
-// Whether commands are as many as these numbers, which they have one after another.
+// Returns whether commands are as many as these numbers, which they have one after another.
 fn are_numbered(scenario: &Scenario, commands: &[Command], numbers: &[u32]) -> bool {
     for (command, number) in commands.iter().zip(numbers.iter()) {
         if number_of(scenario, command) != *number {
@@ -331,7 +331,7 @@ fn are_numbered(scenario: &Scenario, commands: &[Command], numbers: &[u32]) -> b
     commands.len() == numbers.len()
 }
 
-// Whether the decided log of a group in a world has these numbers.
+// Returns whether the decided log of a group in a world has these numbers.
 fn has_log(
     rt: &impl Abort,
     alloc: Global,
@@ -345,7 +345,8 @@ fn has_log(
     is_so
 }
 
-// The number of an entry that is that request of client 1 with the value that it found, or 0.
+// Returns the number of an entry that is that request of client 1 with the value that it found, or
+// 0.
 fn entry_number(scenario: &Scenario, found: &[Option<&[u8]>], entry: &Entry) -> u32 {
     let old = match &entry.reply.old {
         Some(value) => Some(value.bytes()),
@@ -360,8 +361,8 @@ fn entry_number(scenario: &Scenario, found: &[Option<&[u8]>], entry: &Entry) -> 
     }
 }
 
-// Whether entries, whose requests found FOUND, are as many as these numbers, which they have one
-// after another.
+// Returns whether entries, whose requests found FOUND, are as many as these numbers, which they
+// have one after another.
 fn are_entries(scenario: &Scenario, entries: &[Entry], numbers: &[u32]) -> bool {
     for (entry, number) in entries.iter().zip(numbers.iter()) {
         if entry_number(scenario, FOUND, entry) != *number {
@@ -371,7 +372,7 @@ fn are_entries(scenario: &Scenario, entries: &[Entry], numbers: &[u32]) -> bool 
     entries.len() == numbers.len()
 }
 
-// Whether the history of a world has these numbers.
+// Returns whether the history of a world has these numbers.
 fn has_entries(
     rt: &impl Abort,
     alloc: Global,
@@ -385,7 +386,8 @@ fn has_entries(
     is_so
 }
 
-// How many nodes a replay leaves, how many clients, and how many of these await an answer.
+// Returns the number of nodes that a replay leaves, of clients, and of clients that await an
+// answer.
 fn left_of(parties: &[Party]) -> [u32; 3] {
     let (mut nodes, mut clients, mut waiting) = (0u32, 0u32, 0u32);
     for party in parties {
@@ -405,16 +407,16 @@ fn left_of(parties: &[Party]) -> [u32; 3] {
 // What the two requests of a history found.
 const FOUND: &[Option<&[u8]>] = &[None, Some(b"x")];
 
-/// What the world of a run must tell.
+/// What must hold of the world of a run.
 #[derive(Clone, Copy)]
 pub enum Question<'a> {
     /// The decided log of a group has these numbers.
     Log(Draw, &'a [u32]),
     /// The history, whose requests found FOUND, has these numbers.
     History(&'a [u32]),
-    /// So many nodes are left, so many clients, and so many of these await an answer.
+    /// The number of nodes that are left, of clients, and of clients that await an answer.
     Left([u32; 3]),
-    /// The groups, and how many requests took effect.
+    /// The groups, and the number of requests that took effect.
     Groups(&'a [Told], usize),
     /// The ring covers, and the history is legal.
     Sound,
@@ -436,7 +438,7 @@ fn is_answer(
     }
 }
 
-/// Whether the world of a journal of a scenario tells that.
+/// Returns whether that holds of the world of a journal of a scenario.
 pub fn answers(
     rt: &impl Abort,
     alloc: Global,
@@ -452,7 +454,7 @@ pub fn answers(
     is_so
 }
 
-/// Whether the world of a run tells that.
+/// Returns whether that holds of the world of a run.
 pub fn tells<R: Abort + Threads + Wait + Sync>(
     rt: &R,
     alloc: Global,
@@ -467,7 +469,7 @@ pub fn tells<R: Abort + Threads + Wait + Sync>(
     is_so
 }
 
-// That the log of the group which is named so has these numbers.
+// Returns the expectation that the log of the group with a name has these numbers.
 fn log_of(node: u16, numbers: &[u32]) -> Question<'_> {
     Question::Log(Draw { node, count: 1 }, numbers)
 }

@@ -67,8 +67,8 @@ const COMMON_BODIES: &[Pieces] = &[
     &[br#"{"Ask":{"from_slot":1,"group":"0.1"}}"#],
 ];
 
-/// What mails say, of the other shapes, and of a common one with bytes that a string has a backslash
-/// before.
+/// What mails say, of the other shapes, and of a common one with bytes that a string has a
+/// backslash before.
 const OTHER_BODIES: &[Pieces] = &[
     &[ASKED, br#"{"Get":{"key":"\"\\"}}"#, ASKED_SO],
     &[
@@ -231,7 +231,7 @@ const BAD_ENDS: &[Pieces] = &[
     &[b",\"sent\":[],\"who\":1}\r"],
 ];
 
-// Adds the pieces of a text.
+// Adds the pieces of a text to a text.
 fn add(text: &mut Vec<u8>, pieces: &[&[u8]]) -> Result<(), AllocError> {
     for piece in pieces {
         text.extend_from_slice(piece)?;
@@ -239,7 +239,7 @@ fn add(text: &mut Vec<u8>, pieces: &[&[u8]]) -> Result<(), AllocError> {
     Ok(())
 }
 
-// The text of these parts.
+// Returns the text of these parts.
 fn joined(
     alloc: Global,
     first: &[u8],
@@ -253,7 +253,8 @@ fn joined(
     Ok(text)
 }
 
-// Whether a text is a row's: 1 if it is, 0 if not, and 255 where memory is short.
+// Returns 1 where a text is the text of a row, 0 where it is not, and 255 where it runs out of
+// memory.
 fn answer_of(alloc: Global, first: &[u8], pieces: &[&[u8]], last: &[u8]) -> u8 {
     let Ok(text) = joined(alloc, first, pieces, last) else {
         return 255;
@@ -272,7 +273,7 @@ const FIRST: &[u8] = br#"{"event":{"Deliver":7},"sent":[{"body":"#;
 
 const LAST: &[u8] = br#","from":1,"to":33}],"who":1}"#;
 
-// Whether the row of a mail that says this is read with no JSON between.
+// Returns whether the row of a mail that says this is read with no JSON between.
 fn is_common(alloc: Global, body: &[&[u8]]) -> bool {
     let Ok(text) = joined(alloc, FIRST, body, LAST) else {
         return false;
@@ -286,12 +287,12 @@ fn is_common(alloc: Global, body: &[&[u8]]) -> bool {
     }
 }
 
-// A mail that says this, alone in its row.
+// Returns the text of a row with one mail that says this.
 fn mail_answer(alloc: Global, body: &[&[u8]]) -> u8 {
     answer_of(alloc, FIRST, body, LAST)
 }
 
-// The same mail twice in a row.
+// Returns the text of a row with two mails that say this.
 fn mails_answer(alloc: Global, body: &[&[u8]]) -> u8 {
     let mut twice = Vec::new(alloc);
     if add(&mut twice, body).is_err()

@@ -12,7 +12,7 @@ use std::process::Abort;
 use std::sync::Wait;
 use std::thread::Threads;
 
-/// The words, the input, and the call of the source and that of the sink that fail (0: none).
+/// The arguments, the input, and the call of the source and that of the sink that fail (0: none).
 pub type Given = (&'static str, &'static [u8], u64, u64);
 
 /// What must come: the status, whether there is a journal, and the output.
@@ -31,7 +31,7 @@ pub const FIRST_REPORT: &[u8] =
         rows 9\nmail 8\ndelivered 8\nskipped 0\nquiet yes\n";
 
 const USAGE: &[u8] = b"usage: scatter run | scatter make N S | scatter journal | scatter audit \
-        | scatter scan LO LEN R MOST | scatter pool\n";
+        | scatter scan LO LEN R MOST | scatter pool | scatter explain\n";
 
 /// A run that is cut off with mail pending.
 pub const CUT_SHORT: &[u8] =
@@ -98,7 +98,7 @@ const MAKE_TWO_HUNDRED_REPORT: &[u8] = b"scatter report 1\nanswered 3200 of 3200
         ring 1744830464 group 0.3 members 7 8 9\nrows 32080\nmail 32064\ndelivered 32064\n\
         skipped 0\nquiet yes\n";
 
-// The words of a text, or none where it is empty.
+// Returns the words of a text, or none where it is empty.
 fn words_of(rt: &impl Abort, alloc: Global, text: &str) -> Vec<String> {
     let mut words = Vec::new(alloc);
     if text.is_empty() {
@@ -111,7 +111,8 @@ fn words_of(rt: &impl Abort, alloc: Global, text: &str) -> Vec<String> {
     words
 }
 
-// How a run of these words ends on an input, where the source fails at this call (0: none).
+// Returns how a run of these arguments ends on an input, with a read error at this call of the
+// source (0: none).
 fn ended<G: Gate, R: Abort + Threads + Wait + Sync>(
     rt: &R,
     alloc: Global,
@@ -133,11 +134,11 @@ fn ended<G: Gate, R: Abort + Threads + Wait + Sync>(
 pub enum Wanted<'a> {
     /// The status, whether there is a journal, and the output.
     Exactly(u8, bool, &'a [u8]),
-    /// It ends settled, its report begins so, and its journal is lawful.
+    /// It ends settled, its report begins with this, and its journal is lawful.
     Lawful(&'a [u8]),
-    /// It ends settled, its report ends so, and its journal is sound.
+    /// It ends settled, its report ends with this, and its journal is sound.
     Sound(&'a [u8]),
-    /// Its rows count this.
+    /// Its rows count these numbers of bytes.
     Counts(&'a [u64]),
 }
 
@@ -162,7 +163,7 @@ fn counts(done: &Done, bytes: &[u64]) -> bool {
     }
 }
 
-// Whether that came of a run on an input, with this output.
+// Returns whether that came of a run on an input, with this output.
 fn is_wanted(
     rt: &impl Abort,
     alloc: Global,
@@ -184,7 +185,7 @@ fn is_wanted(
     }
 }
 
-/// Whether that comes of a run that is given this, through a gate.
+/// Returns whether that comes of a run that is given this, through a gate.
 pub fn comes<G: Gate, R: Abort + Threads + Wait + Sync>(
     rt: &R,
     alloc: Global,
@@ -201,7 +202,7 @@ pub fn comes<G: Gate, R: Abort + Threads + Wait + Sync>(
     comes
 }
 
-/// A run that is given this ends so.
+/// Checks that a run that is given this ends with what must come.
 pub fn check<R: Abort + Threads + Wait + Sync>(
     rt: &R,
     alloc: Global,
@@ -213,7 +214,7 @@ pub fn check<R: Abort + Threads + Wait + Sync>(
     assert!(rt; comes(rt, alloc, given, wanted, &Open));
 }
 
-/// Runs that are given these end so.
+/// Checks that runs that are given these end with what must come.
 pub fn check_all<R: Abort + Threads + Wait + Sync>(rt: &R, alloc: Global, cases: &[Case]) {
     for (given, expected) in cases {
         check(rt, alloc, *given, *expected);
@@ -273,7 +274,7 @@ fn made_scenarios_run_without_an_input(rt: HostRuntime) {
     check_all(&rt, rt.alloc(), MADE);
 }
 
-// What a row counts: 64, and for each mail 256 and its weight.
+// Returns what a row counts: 64, and for each mail 256 and its weight.
 fn row_bytes(row: &Row<Mail, OrderLine>) -> u64 {
     let mut total = 64u64;
     for mail in row.sent.as_slice() {
@@ -282,7 +283,7 @@ fn row_bytes(row: &Row<Mail, OrderLine>) -> u64 {
     total
 }
 
-// Whether the rows are as many as these numbers, and count so, one after another.
+// Returns whether the rows count these numbers, one after another, and are no more and no fewer.
 fn all_count(rows: &[Row<Mail, OrderLine>], bytes: &[u64]) -> bool {
     for (row, count) in rows.iter().zip(bytes.iter()) {
         if row_bytes(row) != *count {
@@ -387,7 +388,7 @@ const JOIN_LEAVE_REFUSALS_REPORT: &[u8] =
 /// An input whose run keeps a journal, its status and its report.
 pub type TableRow = (&'static [u8], u8, &'static [u8]);
 
-/// The rows of a table are so, where workers take runs of shells and where they are a pool.
+/// Checks the rows of a table, where workers take runs of shells and where they are a pool.
 pub fn check_rows<R: Abort + Threads + Wait + Sync>(rt: &R, alloc: Global, rows: &[TableRow]) {
     for (input, status, report) in rows {
         for word in ["run", "pool"] {

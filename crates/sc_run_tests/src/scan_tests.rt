@@ -1,6 +1,6 @@
-//! Scans: worked rows, and scans of worked scenarios, after a third, two thirds and all of their rows, beside a plain list
-//! into which their histories are put from the beginning; and the same after each row of a merge, of
-//! a boundary that moves and of a member that is handed over.
+//! Scans: worked rows, and scans of worked scenarios, after a third, two thirds and all of their
+//! rows, beside a plain list into which their histories are put from the beginning; and scans after
+//! each row of a merge, of a boundary that moves and of a member that is handed over.
 ghost use Rattle.std.specs.Prelude.{◌≡◌, ◌<◌, ◌≤◌, length, take};
 ghost use Rattle.sc_log_entries.specs.Worlds.{CoverThroughout};
 ghost use Rattle.sc_scenario.specs.Valid.{IsValid};
@@ -26,13 +26,13 @@ use std::sync::Wait;
 use std::thread::Threads;
 
 const USAGE: &[u8] = b"usage: scatter run | scatter make N S | scatter journal | scatter audit \
-        | scatter scan LO LEN R MOST | scatter pool\n";
+        | scatter scan LO LEN R MOST | scatter pool | scatter explain\n";
 
 // Three pairs of one group.
 const THREE: &[u8] = b"scatter 1\nnodes 1\ngroup 0 1\nclient 1\nput a x\nput m y\nput z w\nend\n\
         go 1\nsettle 100\n";
 
-// What must come of words and an input: the text of a scan, or why there is none.
+// What must come of arguments and an input: the text of a scan, or why there is none.
 const WORKED: &[Case] = &[
     (
         ("scan 0 4294967296 100 10", FIRST, 0, 0),
@@ -88,7 +88,7 @@ const WORKED: &[Case] = &[
     ),
 ];
 
-// Words that spell no scan, and faults of input, source and sink.
+// Arguments that spell no scan, bad inputs, read errors and write errors.
 const REFUSED: &[Case] = &[
     (("scan 0 0 1 1", FIRST, 0, 0), (2, false, USAGE)),
     (("scan 4294967296 1 1 1", FIRST, 0, 0), (2, false, USAGE)),
@@ -224,7 +224,7 @@ const MOVES: &[&[u8]] = &[
         go 1\nsettle 100\norder 1 migrate 0.1 3\nsettle 100\n",
 ];
 
-// Where a key stands in a list.
+// Returns the place of a key in a list, if the list has it.
 fn place_of(pairs: &[(Key, Value)], key: &Key) -> Option<usize> {
     pairs.iter().position(|pair| pair.0 == *key)
 }
@@ -249,7 +249,7 @@ fn has(pairs: &[(Key, Value)], key: &Key, value: &Value) -> bool {
     pairs.iter().any(|pair| pair.0 == *key && pair.1 == *value)
 }
 
-// One operation on a plain list.
+// Carries out an operation on a plain list.
 fn carry_out(rt: &impl Abort, alloc: Global, pairs: &mut Vec<(Key, Value)>, op: &Op) {
     match op {
         Op::Get { .. } => {}
@@ -272,7 +272,7 @@ fn carry_out(rt: &impl Abort, alloc: Global, pairs: &mut Vec<(Key, Value)>, op: 
     }
 }
 
-// The map after a history, as a plain list.
+// Returns the map after a history, as a plain list.
 fn folded(rt: &impl Abort, alloc: Global, history: &[Entry]) -> Vec<(Key, Value)> {
     let mut pairs = Vec::new(alloc);
     for entry in history {
@@ -281,7 +281,7 @@ fn folded(rt: &impl Abort, alloc: Global, history: &[Entry]) -> Vec<(Key, Value)
     pairs
 }
 
-// Whether a scan shows each of these pairs once, and no other.
+// Returns whether a scan shows each of these pairs once, and no other.
 fn shows(scan: &[Shown], pairs: &[(Key, Value)]) -> bool {
     let mut count = 0usize;
     for shown in scan {
@@ -295,7 +295,7 @@ fn shows(scan: &[Shown], pairs: &[(Key, Value)]) -> bool {
     count == pairs.len()
 }
 
-// Whether the scan of the whole circle after some rows is the map after their history.
+// Returns whether the scan of the whole circle after some rows is the map after their history.
 fn is_map(rt: &impl Abort, alloc: Global, bases: &[Base], rows: &[Row<Mail, OrderLine>]) -> bool
     requires { CoverThroughout bases.now (entries_at as_nodes bases.now rows.now) }
 {
@@ -319,7 +319,8 @@ fn first_rows(rows: &[Row<Mail, OrderLine>], count: usize) -> &[Row<Mail, OrderL
     &rows[..count]
 }
 
-// Whether it is so after so many rows of a journal of which each first part is sound.
+// Returns whether the scan after this number of rows is the map, in a journal of which each prefix
+// is sound.
 fn front_is_map(
     rt: &impl Abort,
     alloc: Global,
@@ -335,7 +336,8 @@ fn front_is_map(
     is_map(rt, alloc, bases, first)
 }
 
-// Whether it is so after every so many rows of a run, and after all.
+// Returns whether the scan is the map after each of `parts` equal parts of the rows of a run, and
+// after all.
 fn are_maps<R: Abort + Threads + Wait + Sync>(
     rt: &R,
     alloc: Global,

@@ -154,13 +154,13 @@ const ORDINARY: &[(&[u8], &[u8])] = &[
     ),
 ];
 
-/// Whether the ring that rows tell covers.
+/// Returns whether the ring that rows decide covers the circle.
 pub fn has_cover(rt: &impl Abort, alloc: Global, world: &World<'_>) -> bool {
     let ring = decided_ring(alloc, world).expect(rt, "memory");
     covers(ring.as_slice())
 }
 
-/// Whether the history that rows tell is legal.
+/// Returns whether the history that rows decide is legal.
 pub fn has_legal(rt: &impl Abort, alloc: Global, world: &World<'_>) -> bool {
     let entries = history(alloc, world).expect(rt, "memory");
     let is_legal = legal(alloc, entries.as_slice()).expect(rt, "memory");
@@ -168,7 +168,8 @@ pub fn has_legal(rt: &impl Abort, alloc: Global, world: &World<'_>) -> bool {
     is_legal
 }
 
-/// Whether a replay takes the rows, and their ring and history are well.
+/// Returns whether a replay takes the rows, their ring covers the circle, and their history is
+/// legal.
 pub fn is_sound(
     rt: &impl Abort,
     alloc: Global,
@@ -181,7 +182,8 @@ pub fn is_sound(
     is_sound
 }
 
-// Two runs of an input, the second by a pool, end settled and are sound, and their reports end so.
+// Checks that two runs of an input, the second by a pool, end settled and are sound, and that their
+// reports end with this.
 fn check_twice<R: Abort + Threads + Wait + Sync>(
     rt: &R,
     alloc: Global,
@@ -195,7 +197,7 @@ fn check_twice<R: Abort + Threads + Wait + Sync>(
     assert!(rt; first && second);
 }
 
-// The merge, with this line of a storm.
+// Returns the scenario of the merge, with this line of a storm.
 fn crash_in(rt: &impl Abort, alloc: Global, storm: &[u8]) -> Vec<u8> {
     let mut text = Vec::new(alloc);
     add(rt, &mut text, CRASH.0);

@@ -94,7 +94,7 @@ pub fn add(rt: &impl Abort, text: &mut Vec<u8>, part: &[u8]) {
     text.extend_from_slice(part).expect(rt, "memory");
 }
 
-// The text with a line of deliveries by so many workers.
+// Returns the text with a line of deliveries by this number of workers.
 fn input_of(rt: &impl Abort, alloc: Global, case: Case, workers: &[u8]) -> Vec<u8> {
     let (before, after, _) = case;
     let mut text = Vec::new(alloc);
@@ -108,7 +108,7 @@ fn input_of(rt: &impl Abort, alloc: Global, case: Case, workers: &[u8]) -> Vec<u
 
 const WORKERS: &[&[u8]] = &[b"1", b"2", b"4", b"8", b"16"];
 
-// Whether a case runs so with that many workers, after this word.
+// Returns whether a case has its replies with this number of workers, after this subcommand.
 fn runs_with<R: Abort + Threads + Wait + Sync>(
     rt: &R,
     alloc: Global,
@@ -123,7 +123,8 @@ fn runs_with<R: Abort + Threads + Wait + Sync>(
     runs_so
 }
 
-/// The replies of each case are the same with any number of workers, and with a pool of them.
+/// Checks that the replies of each case are the same with any number of workers, and with a pool of
+/// them.
 pub fn check_same<R: Abort + Threads + Wait + Sync>(rt: &R, alloc: Global, cases: &[Case]) {
     for case in cases {
         for workers in WORKERS {
@@ -152,8 +153,9 @@ fn replies_do_not_depend_on_the_number_of_workers(rt: HostRuntime) {
     check_same(&rt, rt.alloc(), CASES);
 }
 
-// Holds node 1 and node 2, each in its first pass of the line of deliveries until the other has
-// come to its own, for so many turns of waiting. Node 1 passes once before the line.
+// A gate that holds node 1 and node 2, each in its first pass of the line of deliveries until the
+// other has come to its own, or until a number of turns of waiting is over. Node 1 passes once
+// before the line.
 #[derive(Drop)]
 struct Pair {
     turns: u32,
@@ -163,7 +165,7 @@ struct Pair {
 }
 
 impl Pair {
-    // Waits until the other has come so often.
+    // Waits until the other node has passed this number of times.
     fn hold(&self, other: &AtomicU64, times: u64) {
         for i in 0..self.turns {
             let _ = i;
@@ -209,10 +211,10 @@ const TWO_GROUPS_REPORT: &[u8] =
     b"scatter report 1\nreply 1 1 put none\nreply 2 1 put none\nring 0 group 0.1 members 1\n\
         ring 1828716544 group 0.2 members 2\nrows 12\nmail 10\ndelivered 10\nskipped 0\nquiet yes\n";
 
-// The word, the text and its report.
+// The subcommand, the text and its report.
 type Passage = (&'static str, &'static [u8], &'static [u8]);
 
-// Whether a run through a gate ends with this report, and both nodes came.
+// Returns whether a run through a gate ends with this report, and both nodes came.
 fn is_passed<R: Abort + Threads + Wait + Sync>(
     rt: &R,
     alloc: Global,
@@ -226,7 +228,7 @@ fn is_passed<R: Abort + Threads + Wait + Sync>(
     is_so && came
 }
 
-// How many waits ended late in such a run, or none where there was another.
+// Returns the number of waits that ended late in such a run, or none where the run ended otherwise.
 fn lateness<R: Abort + Threads + Wait + Sync>(
     rt: &R,
     alloc: Global,

@@ -10,7 +10,7 @@ use std::process::Abort;
 
 const TICK: &[u8] = b"scatter 1\nnodes 1\ngroup 0 1\ntick n1\n";
 
-// The rows of one tick of an actor each, which send nothing.
+// Returns rows of one tick of an actor each, which send nothing.
 fn rows_of(rt: &impl Abort, alloc: Global, actors: &[u32]) -> Journal<Mail, OrderLine> {
     let mut rows = Journal::new(alloc);
     for who in actors {
@@ -24,7 +24,7 @@ fn rows_of(rt: &impl Abort, alloc: Global, actors: &[u32]) -> Journal<Mail, Orde
     rows
 }
 
-// The row that a replay of these ticks names, or 0 where they are lawful.
+// Returns the row that a replay of these ticks names, or 0 where they are lawful.
 fn named_of(rt: &impl Abort, alloc: Global, actors: &[u32]) -> u32 {
     let rows = rows_of(rt, alloc, actors);
     let at = named(rt, alloc, TICK, &rows);

@@ -1,6 +1,6 @@
 //! Runs in which groups are divided, merged and moved, and one in which a merge is given up. What
-//! their rows tell in the end is as a second implementation of the rules tells it: the decided
-//! ring, which covers, the history, which is legal, and the effective record of each group.
+//! their rows decide is compared with a second implementation of the rules: the ring, which covers
+//! the circle, the history, which is legal, and the effective record of each group.
 use crate::replay_tests::{Question, tells};
 use sc_base::Draw;
 use sc_cmd::Base;
@@ -31,8 +31,8 @@ const LATE: u32 = 3_000_000_000;
 // A position before that of the key a.
 const BEFORE_A: u32 = 1_610_612_736;
 
-/// A group of the decided ring: the beginning and the length of its cut, and of its effective record
-/// the neighbours, the members, and how many pairs it holds.
+/// A group of the decided ring: the beginning and the length of its cut, and of its effective
+/// record the neighbours, the members, and the number of pairs.
 pub struct Told {
     group: Draw,
     lo: u32,
@@ -43,7 +43,8 @@ pub struct Told {
     pairs: usize,
 }
 
-// A scenario, the groups of the ring that its run leaves, and how many requests took effect.
+// A scenario, the groups of the ring that its run leaves, and the number of requests that took
+// effect.
 type Case = (&'static [u8], &'static [Told], usize);
 
 // A lone group is divided, and its child serves the requests.
@@ -269,7 +270,7 @@ fn has_cut(ring: &[Cut], told: &Told) -> bool {
     ring.iter().any(|cut| is_cut(cut, told))
 }
 
-// Whether the cuts of a ring that covers are those of the groups.
+// Returns whether the cuts of a ring that covers are those of the groups.
 fn is_ring(ring: &[Cut], tolds: &[Told]) -> bool {
     let has_each = tolds.iter().all(|told| has_cut(ring, told));
     has_each && ring.len() == tolds.len() && covers(ring)
@@ -280,7 +281,7 @@ fn has_ring(rt: &impl Abort, alloc: Global, world: &World<'_>, tolds: &[Told]) -
     is_ring(ring.as_slice(), tolds)
 }
 
-// Whether a history is legal and has so many entries.
+// Returns whether a history is legal and has this number of entries.
 fn has_history(rt: &impl Abort, alloc: Global, world: &World<'_>, count: usize) -> bool {
     let entries = history(alloc, world).expect(rt, "memory");
     let is_legal = legal(alloc, entries.as_slice()).expect(rt, "memory");
@@ -318,7 +319,7 @@ fn has_records(rt: &impl Abort, alloc: Global, world: &World<'_>, tolds: &[Told]
     true
 }
 
-/// Whether a world tells the groups and as many requests.
+/// Returns whether a world has these groups and this number of requests that took effect.
 pub fn has_groups(
     rt: &impl Abort,
     alloc: Global,
@@ -331,7 +332,7 @@ pub fn has_groups(
         && has_history(rt, alloc, world, count)
 }
 
-// Whether the rows of a run tell the groups and as many requests.
+// Returns whether the rows of a run decide these groups and this number of requests.
 fn leaves<R: Abort + Threads + Wait + Sync>(rt: &R, alloc: Global, case: &Case) -> bool {
     let (input, tolds, count) = *case;
     tells(rt, alloc, input, Question::Groups(tolds, count))

@@ -4,7 +4,8 @@
 use crate::run_tests::{TableRow, check_rows};
 use crate::thread_tests::{Case, check_same};
 
-// A call that the parent did is asked again after a split: the child's client answers it as before.
+// A request that the parent executed is asked again after a split: the child answers it as before,
+// from its client table.
 const REPEAT_AFTER_SPLIT: &[u8] =
     b"scatter 1\nnodes 2\ngroup 0 1 2\nclient 1\nput m x\nend\ngo 1\ndeliver n1 1\n\
         deliver n1 1\ndeliver n2 1\ndeliver n1 1\ndeliver n1 1\ndrop c1 1\n\

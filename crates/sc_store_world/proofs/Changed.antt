@@ -1,5 +1,5 @@
 -- The ring after an entry, step by step.
-use Rattle.std.proofs.Common.{◌≡◌, List, Option, sym, ap, ◌∙◌}
+use Rattle.std.proofs.Common.{◌≡◌, List, Option, ap, ◌∙◌}
 use Rattle.sc_cmd.specs.declared.commands.Command.{Command}
 use Rattle.sc_cmd.specs.declared.cores.Core.{Core}
 use Rattle.sc_cmd.specs.declared.effects.Effect.{Effect}

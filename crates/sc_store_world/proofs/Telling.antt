@@ -1,5 +1,5 @@
 -- What first entries make, and one more.
-use Rattle.std.proofs.Common.{◌≡◌, ℕ, ◌<◌, suc, List, [], ◌∷◌, ◌++◌, fold, get_or, length, take, refl, sym, ap, ◌∙◌}
+use Rattle.std.proofs.Common.{◌≡◌, ℕ, ◌<◌, suc, List, [], ◌∷◌, ◌++◌, get_or, length, take, refl, sym, ap, ◌∙◌}
 use Rattle.std.proofs.Math.Seq.{take-suc}
 use Rattle.sc_cmd.specs.declared.cores.Base.{Base}
 use Rattle.sc_log_entries.specs.Worlds.{StoreWorld, first_world, told, world_after, world_of}

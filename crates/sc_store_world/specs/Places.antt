@@ -4,7 +4,7 @@ use Rattle.sc_base.specs.declared.names.Draw.{Draw}
 use Rattle.sc_machine_table.specs.Group.{Group}
 use Rattle.sc_log_entries.specs.Worlds.{named_group}
 
--- the first group with a name stands at this place
+-- The first group with a name stands at this place.
 pub record IsFirstNamed (name : Draw) (groups : List Group) (at : ℕ) : Type 0 where
   -- the place is one of the groups'
   pub within : at < length groups

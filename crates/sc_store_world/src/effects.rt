@@ -1,4 +1,4 @@
-//! Effects, and what they decide.
+//! What an entry decides by its effect.
 ghost use Rattle.std.specs.Prelude.{◌≡◌};
 ghost use Rattle.std.specs.Option.{option_copied};
 ghost use Rattle.sc_log_entries.specs.Births.{division_in, division_of};
@@ -7,7 +7,7 @@ ghost use Rattle.sc_log_entries.specs.Rings.{decided_by};
 use sc_cmd::{Body, Command, Core, Effect, Lock, Outcome};
 use sc_log_entries::Division;
 
-// The division that a group coordinates, if it does.
+// Returns the division that a group coordinates by its lock, if it coordinates one.
 fn division_in(lock: &Lock) -> Option<Division>
     ensures { result ≡ division_in lock.now }
 {
@@ -23,7 +23,8 @@ fn division_in(lock: &Lock) -> Option<Division>
     }
 }
 
-/// The division that an entry makes of a group, whose record was this before, if it makes one.
+/// Returns the division that an entry makes of a group with this record before the entry, if it
+/// makes one.
 pub(crate) fn division_of(core: &Core, command: &Command, effect: &Effect) -> Option<Division>
     ensures { result ≡ division_of core.now command.now effect.now }
 {
@@ -47,7 +48,8 @@ pub(crate) fn division_of(core: &Core, command: &Command, effect: &Effect) -> Op
     }
 }
 
-/// What an entry decides for its group as coordinator: by its participant's vote or its watcher's.
+/// Returns what an entry decides for its group as coordinator, by the vote of the participant or of
+/// the watcher, if it decides something.
 pub(crate) fn decided_by<'a>(command: &Command, effect: &'a Effect) -> Option<&'a Outcome>
     ensures { option_copied result ≡ decided_by command.now effect.now }
 {

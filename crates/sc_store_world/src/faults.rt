@@ -1,8 +1,8 @@
-//! Why entries are not told.
+//! Why an entry is not taken.
 
 use sc_base::OutOfMemory;
 
-/// Why an entry is not told.
+/// Why an entry is not taken.
 #[derive(Clone, Copy, Debug, PartialEq, Eq)]
 pub enum TellFault {
     /// The entry would leave a cut that is no arc of the ring. No entry of a lawful journal does.

@@ -1,4 +1,4 @@
-//! The groups, as their own logs make them.
+//! The groups, each as its own log makes it.
 ghost use Rattle.std.specs.Prelude.{◌≡◌, ◌<◌, ◌++◌, List, length, map, set, slice_get, if◌then◌else◌, Some, None, MatchOption, IfOk, OnOk};
 ghost use Rattle.std.specs.Option.{option_to_list};
 ghost use Rattle.sc_machine_table.specs.Group.{Group, group_of};
@@ -13,7 +13,7 @@ use sc_log_entries::births_are_children;
 use sc_machine::Machine;
 use std::alloc::Global;
 
-/// The groups that these records start.
+/// Returns the groups that start with these records.
 pub(crate) fn born(alloc: Global, bases: &[Base]) -> Result<Vec<Machine>, OutOfMemory>
     ensures { IfOk result (λ groups. groups.items ≡ map group_of bases.now) }
 {
@@ -30,7 +30,7 @@ pub(crate) fn is_named(group: &Machine, name: Draw) -> bool
     same_draw(group.core().id, name)
 }
 
-/// Where the first group with a name stands, if it was born.
+/// Returns the place of the first group with a name, if there is one.
 pub(crate) fn place_of(groups: &[Machine], name: Draw) -> Option<usize>
     ensures { MatchOption result (named_group name groups.now ≡ None)
         (λ at. IsFirstNamed name groups.now at) }
@@ -51,7 +51,7 @@ pub(crate) fn again(alloc: Global, group: &Machine) -> Result<Machine, OutOfMemo
     Machine::born(alloc, group.base()?)
 }
 
-// The group at one place becomes the same as that at another.
+// Replaces the group at `i` by a copy of the group at `at`.
 fn copy(alloc: Global, groups: &mut Vec<Machine>, at: usize, i: usize) -> Result<(), OutOfMemory>
     requires at { at < length groups.old.items }
     requires i { i < length groups.old.items }
@@ -64,7 +64,7 @@ fn copy(alloc: Global, groups: &mut Vec<Machine>, at: usize, i: usize) -> Result
     Ok(())
 }
 
-// Another group with the name of the one at this place becomes the same as that one.
+// Replaces the group at `i` by a copy of the group at `at`, if it has this name.
 fn copy_at(
     alloc: Global,
     groups: &mut Vec<Machine>,
@@ -89,7 +89,7 @@ fn copy_at(
     Ok(())
 }
 
-// So does each of them.
+// Replaces each group with this name by a copy of the group at `at`.
 fn copy_over(
     alloc: Global,
     groups: &mut Vec<Machine>,
@@ -106,7 +106,7 @@ fn copy_over(
     Ok(())
 }
 
-// A child is born last.
+// Adds a child, if there is one, behind the groups.
 fn add_child(
     alloc: Global,
     groups: &mut Vec<Machine>,
@@ -124,7 +124,8 @@ fn add_child(
     }
 }
 
-// The record of the group at a place, and the child that a command makes of it.
+// Returns the record of the group at a place, and the child that a command creates there, if it
+// creates one.
 fn look(
     alloc: Global,
     groups: &[Machine],
@@ -153,8 +154,8 @@ fn apply_at(groups: &mut Vec<Machine>, at: usize, command: &Command) -> Result<E
     Ok(effect)
 }
 
-/// The group at a place executes a command, and a child may be born. Answers the group's record
-/// before, and the effect.
+/// Executes a command at the group at a place, and adds the child that it creates, if it creates
+/// one. Returns the group's record before the command, and the effect.
 pub(crate) fn execute(
     alloc: Global,
     groups: &mut Vec<Machine>,

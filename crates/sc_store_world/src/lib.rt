@@ -1,5 +1,5 @@
 //! What the entries of all logs make of all groups: their states, the transactions, the ring and
-//! the history, one entry after another; and what an entry makes of the transactions and of
+//! the history, one entry after another; and what one entry makes of the transactions alone, and of
 //! the ring alone.
 #![tactic(auto)]
 

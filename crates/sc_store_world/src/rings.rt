@@ -13,7 +13,7 @@ use sc_cmd::{Base, Command, Core, Effect, Outcome};
 use sc_log_entries::{Cut, Division};
 use std::alloc::Global;
 
-/// The cut of each group of a scenario.
+/// Returns the cut of each group of a scenario.
 pub fn first_cuts(alloc: Global, bases: &[Base]) -> Result<Vec<Cut>, OutOfMemory>
     ensures { IfOk result (λ ring. ring.items ≡ map first_cut bases.now) }
 {
@@ -161,7 +161,8 @@ fn after_outcome(
 
 // ---- each entry
 
-// What a coordinator decides by its participant's vote or its watcher's.
+// Returns the ring after what a coordinator decided by the vote of the participant or the watcher,
+// if it decided something.
 fn after_decision(
     alloc: Global,
     core: &Core,
@@ -192,8 +193,8 @@ fn after_division(
     }
 }
 
-/// The ring after an entry of the log of a group, whose record was this before. Refused for want of
-/// memory, and where the entry would leave a cut that is no arc.
+/// Returns the ring after an entry of the log of a group with this record before the entry. Fails
+/// where it runs out of memory, and where the entry would leave a cut that is no arc.
 pub fn ring_after(
     alloc: Global,
     core: &Core,

@@ -1,5 +1,5 @@
-//! Cuts while the ring is changed: their arcs have any length, so that a change needs no test. What
-//! comes of it is tested once, when it becomes the ring.
+//! Cuts while the ring is changed: their arcs may have any length, so that a change needs no test.
+//! The cuts are tested once, when they become the ring.
 ghost use Rattle.std.specs.Prelude.{◌≡◌, ◌++◌, ◌∷◌, [], if◌then◌else◌, IfOk, OnOk, MatchOption, MatchResult};
 ghost use Rattle.sc_base.specs.Arc.{IsArc, offset, before, from, joined};
 ghost use Rattle.sc_log_entries.specs.Rings.{HaveArcs, is_cut_of};
@@ -11,7 +11,7 @@ use sc_log_entries::Cut;
 use std::alloc::Global;
 use std::marker::Model;
 
-/// The positions from `lo` on, `len` of them: an arc where they are 1 to 2^32.
+/// The `len` positions from `lo` on: an arc where there are 1 to 2^32.
 #[derive(Clone, Copy)]
 pub(crate) struct Stretch {
     lo: u32,
@@ -29,7 +29,7 @@ impl Model for Stretch {
 }
 
 impl Stretch {
-    /// The arc.
+    /// Returns an arc as a stretch.
     pub(crate) fn of(arc: RingArc) -> Stretch
         ensures { result ≡ arc }
     {
@@ -39,7 +39,7 @@ impl Stretch {
         }
     }
 
-    /// Two arcs as one.
+    /// Returns the positions of two arcs, the second behind the first, as one stretch.
     pub(crate) fn joined(arc: RingArc, next: RingArc) -> Stretch
         ensures { result ≡ joined arc next }
     {
@@ -55,7 +55,7 @@ impl Stretch {
         at.wrapping_sub(self.lo) as u64
     }
 
-    /// The part before a position.
+    /// Returns the part before a position.
     pub(crate) fn before(self, at: u32) -> Stretch
         ensures { result ≡ before self at }
     {
@@ -65,7 +65,7 @@ impl Stretch {
         }
     }
 
-    /// The part from a position on.
+    /// Returns the part from a position on.
     pub(crate) fn from(self, at: u32) -> Stretch
         ensures { result ≡ from self at }
     {
@@ -76,7 +76,7 @@ impl Stretch {
     }
 }
 
-/// A cut of the ring, or what is to be one.
+/// A cut of the ring while the ring is changed.
 #[derive(Clone, Copy)]
 pub(crate) struct Span {
     pub(crate) arc: Stretch,
@@ -94,7 +94,7 @@ impl Model for Span {
 }
 
 impl Span {
-    /// The cut.
+    /// Returns a cut as a span.
     pub(crate) fn of(cut: &Cut) -> Span
         ensures { result ≡ cut.now }
     {
@@ -104,14 +104,14 @@ impl Span {
         }
     }
 
-    /// Whether it is a group's.
+    /// Returns whether it is the span of a group.
     pub(crate) fn is_of(&self, group: Draw) -> bool
         ensures { result ≡ is_cut_of group self.now }
     {
         same_draw(self.group, group)
     }
 
-    /// With another arc, if it is the group's.
+    /// Returns it with another arc, if it is the span of the group, and else unchanged.
     pub(crate) fn with_arc(self, group: Draw, arc: Stretch) -> Span
         ensures { result ≡ (if is_cut_of group self then record self { arc = arc } else self) }
     {
@@ -125,7 +125,7 @@ impl Span {
     }
 }
 
-/// The ring, to be changed.
+/// Returns the cuts of a ring as spans.
 pub(crate) fn spans_of(alloc: Global, ring: &[Cut]) -> Result<Vec<Span>, OutOfMemory>
     ensures { IfOk result (λ spans. spans.items ≡ ring.now) }
 {
@@ -155,7 +155,8 @@ fn add(ring: &mut Vec<Cut>, cut: Cut) -> Result<(), OutOfMemory>
     Ok(())
 }
 
-/// The ring after a change, if each cut is an arc.
+/// Returns the ring that these spans are. Fails where it runs out of memory, and where a span is no
+/// arc.
 pub(crate) fn cuts_of(alloc: Global, spans: &[Span]) -> Result<Vec<Cut>, TellFault>
     ensures { MatchResult result (λ ring. ring.items ≡ spans.now)
         (λ fault. fault ≡ NoArc → HaveArcs spans.now → ⊥) }

@@ -1,4 +1,4 @@
-//! What the entries of coordinators tell of their transactions.
+//! What the entries of coordinators say of their transactions.
 ghost use Rattle.std.specs.Prelude.{◌≡◌, ◌++◌, ◌∷◌, [], map, if◌then◌else◌, Some, IfOk, OnOk};
 ghost use Rattle.std.specs.Option.{option_copied};
 ghost use Rattle.sc_cmd.specs.Effects.{is_changed, decided_in};
@@ -41,7 +41,7 @@ fn begun_split(core: &Core, at: u32, child: Draw) -> Transaction
     }
 }
 
-// The watcher that a participant names whose vote was heard.
+// Returns the watcher that a participant names in its vote, if the vote is Yes.
 fn named_watcher(vote: &Vote) -> Option<Draw>
     ensures { result ≡ named_watcher vote.now }
 {
@@ -60,7 +60,7 @@ fn watch(tx: Draw, coordinator: Draw, watcher: Option<Draw>, transaction: &mut T
     }
 }
 
-// The watcher of a transaction becomes known.
+// Sets the watcher of a transaction of a coordinator.
 fn watch_all(transactions: &mut [Transaction], tx: Draw, coordinator: Draw, watcher: Option<Draw>)
     ensures { transactions.new ≡ amended tx coordinator (with_watcher watcher) transactions.old }
 {
@@ -101,7 +101,7 @@ fn decide_all(
     Ok(())
 }
 
-// A transaction is decided, if the effect decides something.
+// Sets the outcome of a transaction, if the effect of the entry decides one.
 fn conclude(
     alloc: Global,
     transactions: &mut [Transaction],
@@ -118,7 +118,7 @@ fn conclude(
     }
 }
 
-// A participant's vote is heard: its watcher becomes known, or something is decided.
+// Takes a participant's vote: its watcher becomes known, or the transaction is decided.
 fn hear(
     alloc: Global,
     transactions: &mut [Transaction],
@@ -138,8 +138,7 @@ fn hear(
     conclude(alloc, transactions, core, tx, effect)
 }
 
-/// What is told of the transactions after an entry of the log of a group, whose record was this
-/// before.
+/// Brings the transactions up to an entry of the log of a group with this record before the entry.
 pub fn tell(
     alloc: Global,
     transactions: &mut Vec<Transaction>,
@@ -181,7 +180,7 @@ fn transaction_in(transactions: &[Transaction], tx: Draw) -> Option<&Transaction
         .find(|transaction| same_draw(transaction.tx, tx))
 }
 
-/// What was decided of a transaction, if it was begun and is not open.
+/// Returns what was decided of a transaction, if it was begun and is decided.
 pub fn decision(
     alloc: Global,
     transactions: &[Transaction],

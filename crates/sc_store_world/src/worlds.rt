@@ -8,6 +8,7 @@ ghost use Rattle.sc_machine_table.specs.Logs.{entry_of};
 ghost use Rattle.sc_log_entries.specs.Effective.{is_commit, effective, effective_by, after_outcome};
 ghost use Rattle.sc_log_entries.specs.Rings.{HaveArcs, ring_after};
 ghost use Rattle.sc_log_entries.specs.Worlds.{CoverThroughout, first_world, named_group, told, with_result, world_of};
+ghost use Rattle.sc_store_world.specs.Effects.{effect_in};
 ghost use Rattle.sc_store_world.specs.Places.{IsFirstNamed};
 ghost use Rattle.sc_store_world.specs.declared.faults.TellFault.TheVariants.{NoArc};
 
@@ -22,8 +23,8 @@ use std::alloc::Global;
 use std::marker::Model;
 use std::mem;
 
-/// All groups, after some entries: each as its own log makes it, what is told of transactions, the
-/// ring, and the history.
+/// All groups after some entries: each group as its own log makes it, the transactions, the ring,
+/// and the history.
 #[derive(Drop)]
 pub struct StoreWorld {
     groups: Vec<Machine>,
@@ -49,15 +50,15 @@ impl Model for StoreWorld {
     ghost view = { λ w. record { groups = w.groups.items; transactions = w.transactions.items; ring = w.ring.items; history = w.history.items } };
 }
 
-// The entry of a history that a command is with its effect, if it is one.
+// Adds to the history the entry that a command is with its effect, if it is one.
 fn note(
     alloc: Global,
     history: &mut Vec<Entry>,
     command: &Command,
-    effect: Effect,
+    effect: &Effect,
 ) -> Result<(), OutOfMemory>
     ensures { OnOk result (history.new.items ≡
-        history.old.items ++ entry_of command.now effect) }
+        history.old.items ++ entry_of command.now effect.now) }
 {
     match command {
         Command::Call { client, seq, op } => {
@@ -66,7 +67,7 @@ fn note(
                     client: *client,
                     seq: *seq,
                     op: op.dup(alloc)?,
-                    reply,
+                    reply: reply.dup(alloc)?,
                 })?;
             }
             Ok(())
@@ -75,7 +76,7 @@ fn note(
     }
 }
 
-// The ring after an entry of the log of a group, whose record was this before.
+// Brings the ring up to an entry of the log of a group with this record before the entry.
 fn change_ring(
     alloc: Global,
     ring: &mut Vec<Cut>,
@@ -99,7 +100,7 @@ fn change_ring(
 }
 
 impl StoreWorld {
-    /// The groups of a scenario, before any entry.
+    /// Returns the world of the groups of a scenario before any entry.
     pub fn first(alloc: Global, bases: &[Base]) -> Result<StoreWorld, OutOfMemory>
         ensures { IfOk result (λ world. world ≡ first_world bases.now) }
     {
@@ -112,23 +113,42 @@ impl StoreWorld {
         })
     }
 
-    /// One more entry is told. Refused for want of memory, and where the entry would leave a cut
-    /// that is no arc; then the world may only be dropped.
+    /// Takes one more entry. Fails where it runs out of memory, and where the entry would leave a
+    /// cut that is no arc; then the world may only be dropped.
     pub fn tell(&mut self, entry: &LogEntry) -> Result<(), TellFault>
         ensures { MatchResult result (λ _. self.new ≡ told self.old entry.now)
             (λ fault. fault ≡ NoArc → HaveArcs (told self.old entry.now).ring → ⊥) }
     {
-        match place_of(self.groups.as_slice(), entry.group) {
-            None => Ok(()),
-            Some(at) => self.execute(entry.group, at, &entry.command),
+        match self.take(entry) {
+            Ok(_effect) => Ok(()),
+            Err(fault) => Err(fault),
         }
     }
 
-    fn execute(&mut self, name: Draw, at: usize, command: &Command) -> Result<(), TellFault>
+    /// Takes one more entry, and returns its effect, if its group was created. Fails where it runs
+    /// out of memory, and where the entry would leave a cut that is no arc; then the world may only
+    /// be dropped.
+    pub fn take(&mut self, entry: &LogEntry) -> Result<Option<Effect>, TellFault>
+        ensures { MatchResult result
+            (λ effect. (self.new ≡ told self.old entry.now) ×
+            (effect ≡ effect_in self.old entry.now))
+            (λ fault. fault ≡ NoArc → HaveArcs (told self.old entry.now).ring → ⊥) }
+    {
+        match place_of(self.groups.as_slice(), entry.group) {
+            None => Ok(None),
+            Some(at) => match self.execute(entry.group, at, &entry.command) {
+                Ok(effect) => Ok(Some(effect)),
+                Err(fault) => Err(fault),
+            },
+        }
+    }
+
+    fn execute(&mut self, name: Draw, at: usize, command: &Command) -> Result<Effect, TellFault>
         requires { IsFirstNamed name self.old.groups at }
         ensures { MatchResult result
-            (λ _. (group : Group) → named_group name self.old.groups ≡ Some group →
-            self.new ≡ with_result self.old group command.now (applied group command.now))
+            (λ effect. (group : Group) → named_group name self.old.groups ≡ Some group →
+            (self.new ≡ with_result self.old group command.now (applied group command.now)) ×
+            (effect ≡ (applied group command.now).1))
             (λ fault. fault ≡ NoArc →
             (group : Group) → named_group name self.old.groups ≡ Some group →
             HaveArcs (with_result self.old group command.now (applied group command.now)).ring →
@@ -140,25 +160,33 @@ impl StoreWorld {
             Ok(()) => {}
             Err(fault) => return Err(fault),
         }
-        note(self.alloc, &mut self.history, command, effect)?;
-        Ok(())
+        note(self.alloc, &mut self.history, command, &effect)?;
+        Ok(effect)
     }
 
-    /// The decided ring.
+    /// Returns all groups that were created, in the order of their creation, each as its own log
+    /// makes it.
+    pub fn groups(&self) -> &[Machine]
+        ensures { result.now ≡ self.now.groups }
+    {
+        self.groups.as_slice()
+    }
+
+    /// Returns the decided ring.
     pub fn ring(&self) -> &[Cut]
         ensures { result.now ≡ self.now.ring }
     {
         self.ring.as_slice()
     }
 
-    /// The calls that took effect.
+    /// Returns the requests that took effect, each with its reply, in their order.
     pub fn history(&self) -> &[Entry]
         ensures { result.now ≡ self.now.history }
     {
         self.history.as_slice()
     }
 
-    /// The ring and the history alone.
+    /// Returns the ring and the history.
     pub fn into_parts(self) -> (Vec<Cut>, Vec<Entry>)
         ensures ring { result.0.items ≡ self.ring }
         ensures history { result.1.items ≡ self.history }
@@ -166,15 +194,15 @@ impl StoreWorld {
         (self.ring, self.history)
     }
 
-    /// The group with a name, as its own log makes it, if it was born.
+    /// Returns the group with a name, as its own log makes it, if it was created.
     pub fn group(&self, name: Draw) -> Option<&Machine>
         ensures { option_copied result ≡ named_group name self.now.groups }
     {
         self.groups.iter().find(|group| is_named(group, name))
     }
 
-    /// The effective record of a group, if it was born: as its own log makes it and as what was
-    /// decided elsewhere makes it.
+    /// Returns the effective record of a group, if it was created: as its own log makes it, and as
+    /// the outcome of its transaction, decided by another group, makes it.
     pub fn effective(&self, name: Draw) -> Result<Option<Base>, OutOfMemory>
         ensures { IfOk result (λ base. base ≡ option_map base_of (effective self.now name)) }
     {
@@ -217,7 +245,7 @@ fn finish(machine: &mut Machine, command: &Command) -> Result<(), OutOfMemory>
     Ok(())
 }
 
-// A group's record, after what was decided.
+// Returns a group's record after this outcome of its transaction.
 fn finished(alloc: Global, outcome: Outcome, tx: Draw, group: &Machine) -> Result<Base, OutOfMemory>
     ensures { IfOk result (λ base. base ≡ base_of
         (if is_commit outcome then (applied group.now (Finish tx outcome)).0 else group.now)) }
@@ -233,7 +261,7 @@ fn finished(alloc: Global, outcome: Outcome, tx: Draw, group: &Machine) -> Resul
     Ok(base)
 }
 
-// A group's record, after what its transaction decided, if it did.
+// Returns a group's record after the outcome of its transaction, if there is one.
 fn after_outcome(
     alloc: Global,
     outcome: Option<Outcome>,
@@ -248,8 +276,8 @@ fn after_outcome(
     }
 }
 
-/// What these entries make of the groups of a scenario, where the ring covers after each of them.
-/// Refused only for want of memory.
+/// Returns what these entries make of the groups of a scenario, where the ring covers the circle
+/// after each of them. Fails only where it runs out of memory.
 pub fn world_of(
     alloc: Global,
     bases: &[Base],

@@ -1,6 +1,5 @@
-use Rattle.std.proofs.Common.{◌≡◌, ◌<◌, length, subst, arith}
+use Rattle.std.proofs.Common.{arith}
 use Rattle.sc_base.specs.Among.{Among}
-use Rattle.sc_log_entries.specs.declared.Cut.{Cut}
 use Rattle.sc_store_world.proofs.Changes.{among_at}
 use Rattle.sc_store_world.proofs.spans.cuts_of.Goals as goal
 

@@ -1,4 +1,4 @@
-use Rattle.std.proofs.Common.{◌≡◌, List, sym, ap, subst}
+use Rattle.std.proofs.Common.{List, sym, ap, subst}
 use Rattle.sc_log_entries.specs.Rings.{HaveArcs, ring_after}
 use Rattle.sc_log_entries.specs.declared.Cut.{Cut}
 use Rattle.sc_store_world.proofs.worlds.change_ring.Goals as goal

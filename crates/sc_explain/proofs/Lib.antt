@@ -1,0 +1,8 @@
+mod Calls
+mod Changed
+mod Counted
+mod Following
+mod RingGroups
+mod RowLines
+mod Rows
+mod Takings

@@ -1,0 +1,96 @@
+//! The entries of a row, which a world takes one after another.
+ghost use Rattle.std.specs.Prelude.{◌≡◌, ◌∷◌, ◌++◌, [], MatchResult};
+ghost use Rattle.sc_explain.specs.Said.{HasTaken, HaveArcsThroughout};
+ghost use Rattle.sc_store_world.specs.declared.faults.TellFault.TheVariants.{NoArc};
+ghost use Rattle.sc_facts.specs.Facts.{entry_line};
+ghost use Rattle.sc_log_entries.specs.Rings.{HaveArcs};
+ghost use Rattle.sc_log_entries.specs.Worlds.{StoreWorld, told};
+ghost use Rattle.sc_store_world.specs.Effects.{effect_in};
+ghost use Rattle.sc_explain.specs.Explained.{ring_groups_in};
+
+use crate::adding::add_line;
+use crate::groups::follow;
+use sc_cmd::Effect;
+use sc_facts::{RingGroup, entry_line};
+use sc_log_entries::LogEntry;
+use sc_report::ReportLine;
+use sc_store_world::{StoreWorld, TellFault};
+use std::alloc::Global;
+
+/// The lines of entries, and what is said of the groups of the ring after these entries.
+#[derive(Drop)]
+pub(crate) struct Taken {
+    pub lines: Vec<ReportLine>,
+    pub groups: Vec<RingGroup>,
+}
+
+// Adds the line of an entry that the world has just taken, with this effect.
+fn after_entry(
+    alloc: Global,
+    row: u64,
+    world: &StoreWorld,
+    taken: Taken,
+    entry: &LogEntry,
+    effect: &Option<Effect>,
+) -> Result<Taken, TellFault>
+    ensures { MatchResult result (λ more.
+        (more.lines.items ≡ taken.lines.items ++ entry_line row entry.now effect.now ∷ []) ×
+        ((before : StoreWorld) → world.now ≡ told before entry.now →
+        effect.now ≡ effect_in before entry.now →
+        taken.groups.items ≡ ring_groups_in before →
+        more.groups.items ≡ ring_groups_in world.now))
+        (λ fault. fault ≡ NoArc → ⊥) }
+{
+    let Taken { mut lines, groups } = taken;
+    let line = entry_line(alloc, row, entry, effect.as_ref())?;
+    add_line(&mut lines, line)?;
+    let groups = follow(alloc, world, groups, entry, effect)?;
+    Ok(Taken { lines, groups })
+}
+
+// Lets the world take an entry, and adds the line of the entry.
+fn take_one(
+    alloc: Global,
+    row: u64,
+    world: &mut StoreWorld,
+    taken: Taken,
+    entry: &LogEntry,
+) -> Result<Taken, TellFault>
+    ensures { MatchResult result (λ more. (world.new ≡ told world.old entry.now) ×
+        (more.lines.items ≡
+        taken.lines.items ++ entry_line row entry.now (effect_in world.old entry.now) ∷ []) ×
+        (taken.groups.items ≡ ring_groups_in world.old →
+        more.groups.items ≡ ring_groups_in world.new))
+        (λ fault. fault ≡ NoArc → HaveArcs (told world.old entry.now).ring → ⊥) }
+{
+    match world.take(entry) {
+        Ok(effect) => after_entry(alloc, row, world, taken, entry, &effect),
+        Err(fault) => Err(fault),
+    }
+}
+
+/// Lets the world take the entries of a row, and returns their lines. Fails where it runs out of
+/// memory, and where an entry would leave a cut that is no arc; then the world may only be dropped.
+pub(crate) fn take_all(
+    alloc: Global,
+    row: u64,
+    world: &mut StoreWorld,
+    groups: Vec<RingGroup>,
+    entries: &[LogEntry],
+) -> Result<Taken, TellFault>
+    ensures { MatchResult result (λ taken. HasTaken row world.old entries.now groups.items
+        world.new taken.lines.items taken.groups.items)
+        (λ fault. fault ≡ NoArc → HaveArcsThroughout world.old entries.now → ⊥) }
+{
+    let mut taken = Taken {
+        lines: Vec::new(alloc),
+        groups,
+    };
+    for entry in entries {
+        match take_one(alloc, row, world, taken, entry) {
+            Ok(more) => taken = more,
+            Err(fault) => return Err(fault),
+        }
+    }
+    Ok(taken)
+}

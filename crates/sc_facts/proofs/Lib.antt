@@ -1,0 +1,3 @@
+pub mod Itself
+mod Rings
+mod Whole
