@@ -1,5 +1,5 @@
 //! A `settle` line: many deliveries, each of the lowest-numbered pending mail of all actors.
-ghost use Rattle.std.specs.Prelude.{◌≡◌, ◌<◌, [], ◌∷◌, IfOk, OnOk, IsOk, IsErrOf, Some, None};
+ghost use Rattle.std.specs.Prelude.{◌<◌, [], ◌∷◌, IfOk, OnOk, IsErrOf, Some};
 ghost use Rattle.sc_actor.specs.Walk.{Settles};
 ghost use Rattle.sc_workers.specs.Ends.{IsFirst};
 ghost use Rattle.sc_drive.specs.Lowest.{FindsLowest, IsFirstPlaced};
@@ -53,8 +53,7 @@ fn placed<A: Actor, R: Wait>(
 ) -> Result<Option<usize>, OutOfMemory>
     requires together { AreTogether company.old }
     requires first { IsFirst company.old.net found }
-    ensures found { IfOk result (HasFound company.old company.new) }
-    ensures none { found ≡ None → IsOk result }
+    ensures { IfOk result (HasFound company.old company.new) }
 {
     let Some(who) = found else {
         return Ok(None);

@@ -1,5 +1,5 @@
 //! Lines of one row.
-ghost use Rattle.std.specs.Prelude.{◌≡◌, ◌+◌, ◌<◌, ◌^◌, [], ◌∷◌, OnOk, IsOk, IsErrOf};
+ghost use Rattle.std.specs.Prelude.{◌≡◌, ◌+◌, [], ◌∷◌, OnOk, IsErrOf};
 ghost use Rattle.sc_actor.specs.Walk.{Once, line_row};
 ghost use Rattle.sc_drive.specs.Numbers.{is_in};
 ghost use Rattle.sc_drive.specs.Goings.{IsCalm};
@@ -19,7 +19,6 @@ fn skip(score: &mut Score) -> Result<(), Stop>
     ensures kept { (score.new.unsettled ≡ score.old.unsettled)
         × (score.new.gone.items ≡ score.old.gone.items) }
     ensures why { IsErrOf result Stop.Full → ⊥ }
-    ensures fits { score.old.skipped + 1 < 2 ^ 64 → IsOk result }
 {
     let Some(count) = score.skipped.checked_add(1) else {
         return Err(Stop::OutOfMemory);

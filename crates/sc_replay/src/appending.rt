@@ -1,5 +1,5 @@
 //! Appending of a row to a stage, with all that is kept beside the rows.
-ghost use Rattle.std.specs.Prelude.{◌≡◌, ℕ, ◌<◌, ◌≤◌, ◌+◌, ◌^◌, ◌++◌, ◌∷◌, [], ◌||◌, ◌&&◌, ◌==◌, nat_lt, false, ◌≢◌, length, replicate, OnOk, IsOk};
+ghost use Rattle.std.specs.Prelude.{◌≡◌, ℕ, ◌<◌, ◌≤◌, ◌+◌, ◌^◌, ◌++◌, ◌∷◌, [], ◌||◌, ◌&&◌, ◌==◌, nat_lt, length, replicate, OnOk};
 ghost use Rattle.std.specs.List.{list_any, prefix_len};
 ghost use Rattle.sc_actor.specs.Mail.{mails, numbered, is_crash};
 ghost use Rattle.sc_actor.specs.System.{numbers_of, is_go};
@@ -83,11 +83,10 @@ fn note_event<A, M: Parcel, O>(
     who: u32,
     event: &Event<O>,
 ) -> Result<(), OutOfMemory>
-    ensures pending { OnOk result
+    ensures { OnOk result
         (pending.new.items
         ≡ opened M.receiver (runs (numbers_of seats.now) crashed.now) mails.now pending.old.items who
         event.now) }
-    ensures others { ((mail : ℕ) → event.now ≢ Event.Again mail) → IsOk result }
 {
     match event {
         Event::Deliver(mail) | Event::Drop(mail) => close_one(pending, *mail),
@@ -100,10 +99,9 @@ fn note_event<A, M: Parcel, O>(
 
 // Adds the actor of a Go to those that have gone.
 fn note_go<O>(gone: &mut Vec<u32>, who: u32, event: &Event<O>) -> Result<(), OutOfMemory>
-    ensures gone { OnOk result
+    ensures { OnOk result
         ((number : ℕ) → list_any (λ n. n == number) gone.new.items
         ≡ (list_any (λ n. n == number) gone.old.items || (who == number && is_go event.now))) }
-    ensures others { is_go event.now ≡ false → IsOk result }
 {
     if is_go(event) {
         gone.push(who)?;
@@ -113,10 +111,9 @@ fn note_go<O>(gone: &mut Vec<u32>, who: u32, event: &Event<O>) -> Result<(), Out
 
 // Adds the actor of a Crash to the crashed ones.
 fn note_crash<O>(crashed: &mut Vec<u32>, who: u32, event: &Event<O>) -> Result<(), OutOfMemory>
-    ensures crashed { OnOk result
+    ensures { OnOk result
         ((number : ℕ) → list_any (λ n. n == number) crashed.new.items
         ≡ (list_any (λ n. n == number) crashed.old.items || (who == number && is_crash event.now))) }
-    ensures others { is_crash event.now ≡ false → IsOk result }
 {
     if is_crash(event) {
         crashed.push(who)?;
@@ -134,12 +131,11 @@ fn add_open<A, M: Parcel>(
     sent: &[M],
 ) -> Result<(), OutOfMemory>
     requires few { first + length sent.now < 2 ^ 32 }
-    ensures pending { OnOk result
+    ensures { OnOk result
         (pending.new.items
         ≡ pending.old.items
         ++ opens M.receiver (runs (numbers_of seats.now) crashed.now) first sent.now
         (replicate (length sent.now) 1)) }
-    ensures none { sent.now ≡ [] → IsOk result }
 {
     for i in 0..sent.len() {
         let to = sent[i].to();
@@ -157,8 +153,7 @@ pub(crate) fn add_mails<M: Dup + Drop>(
     mails: &mut Vec<M>,
     sent: &[M],
 ) -> Result<(), OutOfMemory>
-    ensures mails { OnOk result (mails.new.items ≡ mails.old.items ++ sent.now) }
-    ensures none { sent.now ≡ [] → IsOk result }
+    ensures { OnOk result (mails.new.items ≡ mails.old.items ++ sent.now) }
 {
     for mail in sent {
         mails.push(mail.dup(alloc)?)?;

@@ -1,5 +1,5 @@
 //! Plain functions that read a journal from its start.
-ghost use Rattle.std.specs.Prelude.{◌≡◌, ◌<◌, ◌-◌, ◌^◌, ◌++◌, All, replicate, length, IfOk, OnOk, IsOk, if◌then◌else◌};
+ghost use Rattle.std.specs.Prelude.{◌≡◌, ◌<◌, ◌-◌, ◌^◌, ◌++◌, All, replicate, length, IfOk, OnOk, if◌then◌else◌};
 ghost use Rattle.sc_actor.specs.Mail.{mails, copies, counts_at, has_crashed, may_get, is_for, pending};
 ghost use Rattle.sc_actor.specs.System.{numbers_of};
 
@@ -33,8 +33,7 @@ fn count<O>(copies: &mut Vec<u32>, event: &Event<O>)
 
 // Appends a count of one copy for each of `n` mails that are sent.
 fn add_copies(copies: &mut Vec<u32>, n: usize) -> Result<(), OutOfMemory>
-    ensures copies { OnOk result (copies.new.items ≡ copies.old.items ++ replicate n 1) }
-    ensures none { n ≡ 0 → IsOk result }
+    ensures { OnOk result (copies.new.items ≡ copies.old.items ++ replicate n 1) }
 {
     for i in 0..n {
         let _ = i;
@@ -118,8 +117,7 @@ fn mails_of<M: Dup + Drop, O>(alloc: Global, rows: &[Row<M, O>]) -> Result<Vec<M
 
 // Appends a number `times` times.
 fn add_number(found: &mut Sequence<u32>, number: u32, times: u32) -> Result<(), OutOfMemory>
-    ensures found { OnOk result (found.new ≡ found.old ++ replicate times number) }
-    ensures none { times ≡ 0 → IsOk result }
+    ensures { OnOk result (found.new ≡ found.old ++ replicate times number) }
 {
     for i in 0..times {
         let _ = i;

@@ -1,5 +1,5 @@
 //! The step of an action: what it makes of its actor, and its row.
-ghost use Rattle.std.specs.Prelude.{◌≡◌, ◌<◌, length, IfSome, None, IfOk, OnOk, IsOk, true};
+ghost use Rattle.std.specs.Prelude.{◌≡◌, ◌<◌, length, IfSome, IfOk, OnOk, true};
 ghost use Rattle.sc_actor.specs.Replay.{acted, input_of};
 ghost use Rattle.sc_actor.specs.System.{numbers_of};
 ghost use Rattle.sc_replay.specs.Actions.{is_of_network, can_act};
@@ -29,10 +29,7 @@ fn input_of<M: Dup, O: Dup>(
     mails: &[M],
     event: &Event<O>,
 ) -> Result<Option<Input<M, O>>, OutOfMemory>
-    ensures input { IfOk result (λ input. input ≡ input_of mails.now event.now) }
-    ensures none { input_of mails.now event.now ≡ None → IsOk result }
-    ensures tick { event.now ≡ Event.Tick → IsOk result }
-    ensures go { event.now ≡ Event.Go → IsOk result }
+    ensures { IfOk result (λ input. input ≡ input_of mails.now event.now) }
 {
     match event {
         Event::Deliver(mail) => {
@@ -58,9 +55,8 @@ fn respond<A: Actor>(
     mails: &[A::Mail],
     event: &Event<A::Order>,
 ) -> Result<Sequence<A::Mail>, OutOfMemory>
-    ensures sent { IfOk result
+    ensures { IfOk result
         (λ sent. acted A.table actor.old (input_of mails.now event.now) ≡ (actor.new, sent)) }
-    ensures none { input_of mails.now event.now ≡ None → IsOk result }
 {
     match input_of(alloc, mails, event)? {
         None => Ok(Sequence::new(alloc)),
@@ -89,7 +85,6 @@ pub(crate) fn make_row<A: Actor>(
     ensures makes { IfOk result
         (λ row. Makes A.table mails.now seats.old.items seats.new.items action row) }
     ensures numbers { OnOk result (numbers_of seats.new.items ≡ numbers_of seats.old.items) }
-    ensures network { is_of_network action.event ≡ true → IsOk result }
 {
     let Action { who, event } = action;
     if is_of_network(&event) {

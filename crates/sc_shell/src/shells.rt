@@ -1,5 +1,5 @@
 //! The shells, each with an actor and its port.
-ghost use Rattle.std.specs.Prelude.{◌≡◌, ◌≢◌, ◌<◌, ◌++◌, [], ◌||◌, List, not, true, false, None, Some, IfOk, IsOk};
+ghost use Rattle.std.specs.Prelude.{◌≡◌, ◌<◌, ◌++◌, [], ◌||◌, List, not, true, false, None, Some, IfOk};
 ghost use Rattle.sc_turn.specs.Turn.{StartsWith as Begins};
 ghost use Rattle.sc_actor.specs.declared.rows.Row.{Row};
 ghost use Rattle.sc_actor.specs.Mail.{mails};
@@ -238,8 +238,7 @@ fn sent_at<A: Actor>(
     actor: &mut A,
     input: &Option<Input<A::Mail, A::Order>>,
 ) -> Result<Sequence<A::Mail>, OutOfMemory>
-    ensures sent { IfOk result (λ sent. acted A.table actor.old input.now ≡ (actor.new, sent)) }
-    ensures none { input.now ≡ None → IsOk result }
+    ensures { IfOk result (λ sent. acted A.table actor.old input.now ≡ (actor.new, sent)) }
 {
     match input {
         None => Ok(Sequence::new(alloc)),
@@ -250,8 +249,7 @@ fn sent_at<A: Actor>(
 // Returns the input of an event that is no delivery; a crash has none.
 fn input_at<M, O: Dup>(alloc: Global, event: &Event<O>) -> Result<Option<Input<M, O>>, OutOfMemory>
     requires { MayHappen event.now }
-    ensures input { IfOk result (λ input. input ≡ input_of [] event.now) }
-    ensures untold { ((order : O) → event.now ≢ Event.Told order) → IsOk result }
+    ensures { IfOk result (λ input. input ≡ input_of [] event.now) }
 {
     match event {
         Event::Tick => Ok(Some(Input::Tick)),
