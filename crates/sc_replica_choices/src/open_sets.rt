@@ -73,7 +73,7 @@ impl Sets {
         &self.sets[i]
     }
 
-    /// The set of a slot so many after the next one, if it is open.
+    /// Returns the set of the slot that is this far behind the next one, if it is open.
     pub fn get(&self, i: usize) -> Option<&Members>
         ensures { option_copied result ≡ slice_get self.now i }
     {

@@ -13,7 +13,7 @@ use std::alloc::Global;
 /// How many ticks a coordinator waits before it gives up.
 const PATIENCE: u32 = 8;
 
-/// Whether a coordinator that has waited for so many ticks gives up.
+/// Returns whether a coordinator that has waited for this number of ticks gives up.
 pub fn has_waited(waits: u32) -> bool
     ensures { result ≡ nat_le patience waits }
 {

@@ -1,4 +1,4 @@
--- A list whose first items were changed, so many of them.
+-- A list of which the items of a prefix were changed.
 use Rattle.std.proofs.Common.{◌≡◌, ℕ, zero, suc, ◌+◌, ◌<◌, ◌≤◌, List, [], ◌∷◌, map, length, get_or, set, Option, Some, None, inl, inr, refl, ap, sym, ◌∙◌, arith}
 use Rattle.std.specs.Prelude.{slice_get}
 use Rattle.sc_base.specs.Among.{Among}
