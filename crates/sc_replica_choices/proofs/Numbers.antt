@@ -3,7 +3,7 @@ use Rattle.std.proofs.Common.{◌≡◌, ℕ, ◌+◌, ◌-◌, ◌<◌, Bool, t
 use Rattle.std.proofs.Math.Seq.{append_snoc}
 use Rattle.sc_node_table.specs.Definitions.{numbers_from}
 
--- so many numbers before an end
+-- the numbers from one on up to an end
 abbrev pub numbers_to : ℕ → ℕ → List ℕ
 numbers_to end from = numbers_from from (end - from)
 

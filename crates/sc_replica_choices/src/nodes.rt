@@ -10,7 +10,7 @@ use sc_base::{Members, OutOfMemory};
 use sc_paxos::Leader;
 use std::alloc::Global;
 
-/// The nodes that are not in a set.
+/// Returns the nodes that are not in a set.
 pub fn not_among(alloc: Global, nodes: &[u16], set: &Members) -> Result<Vec<u16>, OutOfMemory>
     ensures others { IfOk result
         (λ others. others.items ≡ filter (λ node. not (is_member set.now node)) nodes.now) }
@@ -25,7 +25,7 @@ pub fn not_among(alloc: Global, nodes: &[u16], set: &Members) -> Result<Vec<u16>
     Ok(others)
 }
 
-/// The members of a slot whose vote was not counted.
+/// Returns the members of a slot whose votes were not counted.
 pub fn uncounted<V>(
     alloc: Global,
     leader: &Leader<V>,
@@ -47,7 +47,7 @@ pub fn uncounted<V>(
     Ok(nodes)
 }
 
-/// The nodes, of 1 to so many, that are in one of these sets.
+/// Returns the nodes from 1 to `most` that are in one of these sets.
 #[tactic(auto, unfolding(sc_node_table::specs::Election::nodes_to))]
 pub fn nodes_to(alloc: Global, most: u16, sets: &Sets) -> Result<Vec<u16>, OutOfMemory>
     requires { most ≤ most_nodes }
