@@ -1,5 +1,5 @@
 //! The ports.
-ghost use Rattle.std.specs.Prelude.{◌≡◌, ◌≢◌, ℕ, ◌++◌, ◌∷◌, [], ◌<◌, ◌≤◌, ◌^◌, true, false, length, map, IfOk, OnErr, IfErr, OnOk, Contains, is_some};
+ghost use Rattle.std.specs.Prelude.{◌≡◌, ◌≢◌, ℕ, ◌++◌, ◌∷◌, [], ◌<◌, ◌≤◌, ◌^◌, true, false, length, map, None, IfOk, IsOk, OnErr, IfErr, OnOk, Contains, is_some};
 ghost use Rattle.std.specs.List.{list_any};
 ghost use Rattle.sc_turn.specs.Seats.{known, AllJoined};
 ghost use Rattle.sc_turn.specs.Turn.{rows_by, StartsWith, StartsWith as Begins, IsTrueOf};
@@ -97,6 +97,8 @@ impl<M: Parcel + Drop, O: Drop> Port<M, O> {
         ensures looked { HasLooked self.old self.new (number_in result) }
         ensures found { IfOk result
             (λ found. IsFetch M.receiver self.old.actors (seen self.new) self.old.who k found) }
+        ensures empty { kth_pending M.receiver self.old.actors (seen self.new) self.old.who k ≡ None
+            → IsOk result }
     {
         self.fetched = None;
         let found = fetch_at(rt, self.alloc, &mut self.seat, self.actors, self.who, k);
@@ -224,6 +226,7 @@ impl<M: Parcel + Drop, O: Drop> Port<M, O> {
             waits.items
             ≡ map (λ who. is_some (kth_pending M.receiver self.new.actors (seen self.new) who 1))
             whos.now) }
+        ensures none { whos.now ≡ [] → IsOk result }
     {
         waiting_at(rt, self.alloc, &mut self.seat, self.actors, whos)
     }

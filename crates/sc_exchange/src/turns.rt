@@ -1,5 +1,5 @@
 //! What is done at one turn.
-ghost use Rattle.std.specs.Prelude.{◌≡◌, ◌<◌, ◌≤◌, ◌+◌, ◌^◌, ◌++◌, ◌∷◌, [], true, false, length, map, IfOk, IfErr, OnOk, OnErr, MatchBool, is_some, Some, IsSome};
+ghost use Rattle.std.specs.Prelude.{◌≡◌, ◌<◌, ◌≤◌, ◌+◌, ◌^◌, ◌++◌, ◌∷◌, [], true, false, length, map, IfOk, IsOk, IfErr, OnOk, OnErr, MatchBool, is_some, None, Some, IsSome};
 ghost use Rattle.sc_turn.specs.Seats.{known, OfOneStart};
 ghost use Rattle.sc_turn.specs.Turn.{with_turn, with_row};
 ghost use Rattle.sc_actor.specs.Counted.{row_bytes, journal_bytes};
@@ -133,6 +133,7 @@ pub(crate) fn waiting_at<M: Parcel + Drop, O: Drop, R: Wait>(
         ≡ map
         (λ who. is_some (kth_pending M.receiver actors (rows_from (known seat.new).seen) who 1))
         whos.now) }
+    ensures none { whos.now ≡ [] → IsOk result }
 {
     let exchange = seat.enter(rt);
     let waits = waiting_in(&exchange.ledger, alloc, actors, whos);
@@ -146,11 +147,12 @@ fn waiting_in<M: Parcel + Drop, O: Drop>(
     actors: u32,
     whos: &[u32],
 ) -> Result<Vec<bool>, OutOfMemory>
-    ensures { IfOk result
+    ensures waiting { IfOk result
         (λ waits.
         waits.items
         ≡ map (λ who. is_some (kth_pending M.receiver actors ledger.now.rows.items who 1))
         whos.now) }
+    ensures none { whos.now ≡ [] → IsOk result }
 {
     let mut waits = Vec::new(alloc);
     for who in whos {
@@ -194,6 +196,8 @@ pub(crate) fn fetch_at<M: Parcel + Drop, O: Drop, R: Wait>(
     ensures looked { SeatLooked seat.old seat.new }
     ensures found { IfOk result
         (λ found. IsFetch M.receiver actors (rows_from (known seat.new).seen) who k found) }
+    ensures empty { kth_pending M.receiver actors (rows_from (known seat.new).seen) who k ≡ None →
+        IsOk result }
 {
     let exchange = seat.enter(rt);
     let Some(number) = exchange.ledger.kth(actors, who, k) else {

@@ -1,5 +1,6 @@
-use Rattle.std.proofs.Common.{rules, ◌≡◌, ap, ◌∙◌, sym, subst}
+use Rattle.std.proofs.Common.{rules, ◌≡◌, Some, ap, ◌∙◌, sym, subst}
 use Rattle.sc_turn.specs.Definitions.{known}
+use Rattle.sc_ledger.specs.Pending.{kth_pending}
 use Rattle.sc_exchange.specs.Definitions.{rows_from, IsFetch}
 use Rattle.sc_exchange.proofs.Results.{ok_maps}
 use Rattle.sc_exchange.proofs.Views.{seen_same}
@@ -25,3 +26,10 @@ pub returns-in_default-clause-found : goal.returns-in_default-clause-found
 returns-in_default-clause-found g c =
     let rows : rows_from (known c.keep_same.new.seat).seen ≡ c.enter-exchange.result.ledger.value.rows.items = seen_same (known c.args.seat.now) (known c.enter-exchange.new.self) (known c.keep_same.new.seat) c.enter-exchange.result.ledger.value.rows.items c.enter-exchange.ensures.view c.keep_same.ensures.view in
     search rules
+
+pub returns-clause-empty : goal.returns-clause-empty
+returns-clause-empty g c = λ none.
+    let rows : rows_from (known c.keep_same-2.new.seat).seen ≡ c.enter-exchange.result.ledger.value.rows.items = seen_same (known c.args.seat.now) (known c.enter-exchange.new.self) (known c.keep_same-2.new.seat) c.enter-exchange.result.ledger.value.rows.items c.enter-exchange.ensures.view c.keep_same-2.ensures.view in
+    let found : kth_pending g.M.Parcel.receiver c.args.actors (rows_from (known c.keep_same-2.new.seat).seen) c.args.who c.args.k ≡ Some c.in-Some.number =
+    ap (λ l. kth_pending g.M.Parcel.receiver c.args.actors l c.args.who c.args.k) (rows ∙ sym (ap (λ ledger. ledger.rows.items) c.deref.ensures)) ∙ sym c.kth.ensures.kth ∙ c.in-Some.is in
+    absurd (cc)
