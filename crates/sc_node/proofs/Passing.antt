@@ -72,7 +72,7 @@ is_learnt-where slot r h = where_by (nat_lt last_slot slot) (nat_lt slot (next r
     where_by true c slot next l m h = inl (ltb-true last_slot slot l)
     where_by false c slot next l m h = inr (ltb-true slot next (m ∙ h))
 
--- .. where the replica of its group stands at a place
+-- a mail that the node passes by is passed by by the replica at the place of its group
 pub passed-at : (group : Draw) (from : ℕ) (body : MailBody) (node : NodeState) (n : ℕ) (d : ReplicaState) → StandsAt group node.replicas n
     → IsPassedByOne (replica_of group node.replicas) node.me from body → IsPassedBy from body (get_or node.replicas n d)
 passed-at group from body node n d stands p = subst (λ o. IsPassedByOne o node.me from body) (stands.found d) p

@@ -1,4 +1,4 @@
--- Inputs that a node or one of its replicas ignores: nothing is sent and nothing is queued, and no memory is taken.
+-- Inputs that a node or one of its replicas passes by: nothing is sent or queued for them and nothing of them is copied, so they take no memory.
 use Rattle.std.specs.Prelude.{◌≡◌, ℕ, ◌≤◌, ◌==◌, ◌||◌, ◌&&◌, nat_lt, not, Bool, true, false, List, [], length, Option, Some, None}
 use Rattle.sc_actor.specs.declared.rows.Input.{Input}
 use Rattle.sc_actor.specs.declared.rows.Input.TheVariants.{Got, Tick, Go, Told}
@@ -62,7 +62,7 @@ watcher_asks Cast.Yes None = false
 watcher_asks (Cast.No why) outcome = false
 watcher_asks Cast.Ended outcome = false
 
--- a mail that a replica ignores: it changes nothing and is not answered
+-- a mail that a replica passes by: nothing is sent or queued for it, and nothing of it is copied
 abbrev pub IsPassedBy : ℕ → MailBody → ReplicaState → Type 0
 IsPassedBy from (Request group client seq op) r = (refused_at r.group.core.gone op r ≡ None) × IsWaiting (call_of r.calls client) seq
 IsPassedBy from (Prepare group ballot from_slot) r = ⊥
@@ -82,26 +82,26 @@ IsPassedBy from (TxWatch tx watch) r = standing_vote r.group.core tx ≡ Some Ca
 IsPassedBy from (TxWatched tx coord part vote) r = (watcher_asks vote (noted_outcome r.group.core tx) || (r.running && awaits_watch r.group.core.lock tx)) ≡ false
 IsPassedBy from (ToldMail order result) r = Unit {0}
 
--- a mail that a node ignores where it has no replica of the mail's group
+-- a mail that a node passes by where it has no replica of the mail's group
 abbrev pub IsUnknownPassedBy : ℕ → ℕ → MailBody → Type 0
 IsUnknownPassedBy me from (Install group slot base sets) = (not (length sets == slots_ahead) || nat_lt last_slot slot) ≡ true
 IsUnknownPassedBy me from body = absent me from body ≡ []
 
--- a mail that a node ignores where this is its replica of the mail's group, if it has one
+-- a mail that a node passes by where this is its replica of the mail's group, if it has one
 abbrev pub IsPassedByOne : Option ReplicaState → ℕ → ℕ → MailBody → Type 0
 IsPassedByOne None me from body = IsUnknownPassedBy me from body
 IsPassedByOne (Some r) me from body = IsPassedBy from body r
 
--- a mail that a node ignores where the mail is for this group, or for none
+-- a mail that a node passes by where the mail is for this group, or for none
 abbrev pub IsRoutedBy : Option Draw → ℕ → MailBody → NodeState → Type 0
 IsRoutedBy None from body node = Unit {0}
 IsRoutedBy (Some group) from body node = IsPassedByOne (replica_of group node.replicas) node.me from body
 
--- a mail that a node ignores: any mail that may not come from its sender, and of others one that the group's replica, or the lack of one, leaves without effect
+-- a mail that a node passes by: one that may not come from its sender, one for no group, and one that the replica of its group passes by, or the node where it has no such replica
 abbrev pub IsMailPassedBy : ℕ → MailBody → NodeState → Type 0
 IsMailPassedBy from body node = may_come from body ≡ true → IsRoutedBy (group_of_mail body) from body node
 
--- an input that a node ignores: the start, a tick of a node without replicas, and a mail that it ignores. An order is always answered or queued
+-- an input that a node passes by: the start, a tick of a node without replicas, and a mail that it passes by. An order is always answered or queued
 abbrev pub IsInputPassedBy : Input Mail OrderLine → NodeState → Type 0
 IsInputPassedBy (Got mail) node = IsMailPassedBy mail.from mail.body node
 IsInputPassedBy Tick node = node.replicas ≡ []

@@ -16,7 +16,7 @@ use Rattle.sc_node_table.specs.Replica.{ReplicaState, Place, may_offer, taken_at
 use Rattle.sc_node_table.specs.Pump.{Found, is_act, waits, turned_down, next_call, from_calls, from_acts, from_queues, found_by, found_for, offered, pumped_from}
 use Rattle.sc_replica_parts.proofs.Silence.{answered-before, sent_all-before}
 
--- ---- mails are only put behind those that are there
+-- ---- mails are only appended
 
 call-before : (b : Bool) (down : Option AnswerBody) (waiting : Option Command × List Command × List Mail) (command : Command) (calls : List Command) (mails : List Mail) (on : AnswerBody → Option Command × List Command × List Mail)
     → waiting.2 ≡ mails → ((answer : AnswerBody) → (on answer).2 ≡ [] → mails ≡ [])

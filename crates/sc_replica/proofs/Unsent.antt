@@ -36,7 +36,7 @@ answered-none me group answer r i slot less at e =
     let n : more ≡ [] = answered_all-before me group answer (left_from r (i + 1)) more h in
     (n, ap (answered_all me group answer (left_from r (i + 1))) (sym n) ∙ h)
 
--- .. a command that is taken there
+-- of a command that is in flight or ready at a slot
 pub answered-listed : (me : ℕ) (group : Draw) (answer : AnswerBody) (o : Option Command) (c : Command) → Some c ≡ o → answered_all me group answer (listed o) [] ≡ [] → is_call c ≡ false
 unfolding answered_all
 answered-listed me group answer None c is e = absurd (cc)

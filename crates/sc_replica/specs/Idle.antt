@@ -1,4 +1,4 @@
--- Inputs that leave a replica's queues as they are, or that it ignores: they take no memory.
+-- Inputs that leave a replica's queues as they are, or that it passes by: nothing is sent for them and nothing of them is copied, so they take no memory.
 use Rattle.std.specs.Prelude.{◌≡◌, ℕ, ◌≤◌, ◌==◌, ◌||◌, nat_lt, not, Bool, true, false, List, [], length}
 use Rattle.sc_mail.specs.declared.bodies.MailBody.{MailBody}
 use Rattle.sc_mail.specs.declared.bodies.MailBody.TheVariants.{Request, Prepare, Promise, Accept, Accepted, Nack, Learn, Ask, Install, Answer, TxPrepare, TxVote, TxOutcome, TxElsewhere, TxWatch, TxWatched, Told}
@@ -14,7 +14,7 @@ KeepsQueues before after = (after.calls ≡ before.calls) × (after.acts ≡ bef
 abbrev pub ignores : ℕ → List (List ℕ) → ReplicaState → Bool
 ignores slot sets r = not (length sets == length r.sets) || (nat_lt last_slot slot || nat_lt slot (next r))
 
--- a mail of a round of votes that changes nothing and is not answered: a promise of another ballot than the one with which the replica runs, a Nack that sends nothing, an Ask from a slot that is not executed, an Install that is ignored
+-- a mail of a round of votes that a replica passes by, since nothing is sent for it and nothing of it is copied: a promise of another ballot than the one with which the replica runs, a Nack that sends nothing, an Ask from a slot that is not executed, an Install that is ignored
 abbrev pub IsRoundPassedBy : MailBody → ReplicaState → Type 0
 IsRoundPassedBy (Promise group ballot reports) r = leads ballot r ≡ false
 IsRoundPassedBy (Nack group promised) r = (saw promised (r, [])).1 ≡ []

@@ -1,4 +1,4 @@
-//! The commands of transactions: which two are of one kind and one transaction.
+//! Commands of transactions: which two are of one kind and one transaction.
 ghost use Rattle.std.specs.Prelude.{◌≡◌};
 ghost use Rattle.std.specs.List.{list_any};
 ghost use Rattle.sc_node_table.specs.Acts.{is_prepared, is_vote_record, is_giving_up, is_finish, is_watched, is_watch_record, is_of_kind};
@@ -7,6 +7,7 @@ use sc_base::{Draw, same_draw};
 use sc_cmd::Command;
 use std::collections::VecDeque;
 
+/// Returns whether a command is the vote on an offer in this transaction.
 fn is_prepared(tx: Draw, command: &Command) -> bool
     ensures { result ≡ is_prepared tx command.now }
 {
@@ -16,6 +17,7 @@ fn is_prepared(tx: Draw, command: &Command) -> bool
     }
 }
 
+/// Returns whether a command is the record of a participant's vote in this transaction.
 fn is_vote_record(tx: Draw, command: &Command) -> bool
     ensures { result ≡ is_vote_record tx command.now }
 {
@@ -25,6 +27,7 @@ fn is_vote_record(tx: Draw, command: &Command) -> bool
     }
 }
 
+/// Returns whether a command gives this transaction up.
 fn is_giving_up(tx: Draw, command: &Command) -> bool
     ensures { result ≡ is_giving_up tx command.now }
 {
@@ -34,6 +37,7 @@ fn is_giving_up(tx: Draw, command: &Command) -> bool
     }
 }
 
+/// Returns whether a command is the outcome of this transaction.
 fn is_finish(tx: Draw, command: &Command) -> bool
     ensures { result ≡ is_finish tx command.now }
 {
@@ -43,6 +47,7 @@ fn is_finish(tx: Draw, command: &Command) -> bool
     }
 }
 
+/// Returns whether a command is the vote on becoming a watcher in this transaction.
 fn is_watched(tx: Draw, command: &Command) -> bool
     ensures { result ≡ is_watched tx command.now }
 {
@@ -52,6 +57,7 @@ fn is_watched(tx: Draw, command: &Command) -> bool
     }
 }
 
+/// Returns whether a command is the record of a watcher's vote in this transaction.
 fn is_watch_record(tx: Draw, command: &Command) -> bool
     ensures { result ≡ is_watch_record tx command.now }
 {
@@ -61,8 +67,8 @@ fn is_watch_record(tx: Draw, command: &Command) -> bool
     }
 }
 
-/// Whether another command is of the same kind and the same transaction; calls, orders and a Noop
-/// are of none.
+/// Returns whether another command is of the same kind and the same transaction. Calls, orders and
+/// a Noop are of none.
 pub fn is_of_kind(act: &Command, other: &Command) -> bool
     ensures { result ≡ is_of_kind act.now other.now }
 {
@@ -82,7 +88,7 @@ pub fn is_of_kind(act: &Command, other: &Command) -> bool
     }
 }
 
-/// Whether one of these commands is of that kind and transaction.
+/// Returns whether one of these commands is of this one's kind and transaction.
 pub fn has_kind(act: &Command, commands: &VecDeque<Command>) -> bool
     ensures { result ≡ list_any (is_of_kind act.now) commands.now.items }
 {

@@ -1,4 +1,4 @@
-//! Choices that look at the executed state, or at a number.
+//! Choices that depend on the executed state, or on a number.
 ghost use Rattle.std.specs.Prelude.{◌≡◌, ◌≤◌, ◌==◌, ◌&&◌, length};
 ghost use Rattle.sc_ideal.specs.IdealStore.{key_of, holds_key};
 ghost use Rattle.sc_node_table.specs.Replica.{floor_of, waits_in};
@@ -12,7 +12,7 @@ use sc_mail::AnswerBody;
 use sc_node_table::CUT_UNIT;
 use std::collections::VecDeque;
 
-// Whether calls are served under this lock.
+// Returns whether calls are served under this lock.
 fn serves_calls(lock: &Lock) -> bool
     ensures { result ≡ serves_calls lock.now }
 {
@@ -22,15 +22,16 @@ fn serves_calls(lock: &Lock) -> bool
     }
 }
 
-// Whether an arc holds the key of an operation.
+// Returns whether an arc holds the key of an operation.
 fn holds_key(arc: &RingArc, op: &Op) -> bool
     ensures { result ≡ holds_key arc.now (key_of op.now) }
 {
     arc.holds(op.key().pos())
 }
 
-/// Why a request is not taken, the first that holds: the group is gone, the replica does not run,
-/// or another group has the key. Whatever it asks for, a request that is taken waits for a slot.
+/// Returns why a request is not taken, the first of these that holds: the group is gone, the
+/// replica does not run, another group has the key. None where it is taken; then it waits for a
+/// slot, whatever it asks for.
 pub fn call_refusal(core: &Core, running: bool, hint: Option<u16>, op: &Op) -> Option<AnswerBody>
     ensures { result ≡ call_refusal core.now.gone core.now running hint op.now }
 {
@@ -49,8 +50,8 @@ pub fn call_refusal(core: &Core, running: bool, hint: Option<u16>, op: &Op) -> O
     None
 }
 
-/// Whether a command at the head of the calls waits: a call for the lock, and an order also for
-/// what is under way.
+/// Returns whether a command at the head of the queue has to wait: a call for the lock, and an
+/// order also for what is in flight or ready.
 pub fn waits(idle: bool, lock: &Lock, command: &Command) -> bool
     ensures { result ≡ waits idle lock.now command.now }
 {
@@ -60,7 +61,7 @@ pub fn waits(idle: bool, lock: &Lock, command: &Command) -> bool
     }
 }
 
-/// The answer of a call that the group does not serve.
+/// Returns the answer to a call that the group does not serve. None for another command.
 pub fn turned_down(core: &Core, command: &Command) -> Option<AnswerBody>
     ensures { result ≡ turned_down core.now command.now }
 {
@@ -70,6 +71,7 @@ pub fn turned_down(core: &Core, command: &Command) -> Option<AnswerBody>
     }
 }
 
+/// Returns why the group does not serve an operation: it is gone, or another group has the key.
 fn refused_by(core: &Core, op: &Op) -> Option<AnswerBody>
     ensures { result ≡ refused_by core.now.gone core.now op.now }
 {
@@ -85,7 +87,7 @@ fn refused_by(core: &Core, op: &Op) -> Option<AnswerBody>
     })
 }
 
-// Whether no transaction holds a group.
+// Returns whether no transaction holds a group.
 fn is_free(lock: &Lock) -> bool
     ensures { result ≡ is_free lock.now }
 {
@@ -95,8 +97,8 @@ fn is_free(lock: &Lock) -> bool
     }
 }
 
-/// Whether a replica is at rest: nothing is in flight or ready (`idle`), nothing waits, and no
-/// transaction holds its group.
+/// Returns whether a replica is at rest: nothing is in flight or ready (`idle`), nothing is queued,
+/// and no transaction holds its group.
 pub fn is_at_rest(
     idle: bool,
     acts: &VecDeque<Command>,
@@ -109,7 +111,7 @@ pub fn is_at_rest(
     idle && acts.is_empty() && calls.is_empty() && is_free(lock)
 }
 
-/// How long a transaction has waited: it waits no more where the group is not locked.
+/// Returns the number of ticks that a transaction has waited: 0 where the group is not locked.
 pub fn waits_in(lock: &Lock, waits: u32) -> u32
     ensures { result ≡ waits_in lock.now waits }
 {
@@ -119,7 +121,8 @@ pub fn waits_in(lock: &Lock, waits: u32) -> u32
     }
 }
 
-/// The slot up to which entries and accepted commands are forgotten, by the last executed slot.
+/// Returns the slot up to which entries and accepted commands are forgotten, by the last executed
+/// slot.
 pub fn floor_of(last: u32) -> u32
     ensures same { result ≡ floor_of last }
     ensures most { floor_of last ≤ last }

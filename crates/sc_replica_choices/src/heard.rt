@@ -1,12 +1,12 @@
-//! What a node queues of what it hears.
+//! What a node queues for the votes that it receives.
 ghost use Rattle.std.specs.Prelude.{◌≡◌};
 ghost use Rattle.sc_cmd.specs.declared.commands.Command.TheVariants.{RecordVote};
 
 use sc_base::Draw;
 use sc_cmd::{Command, Vote};
 
-/// What the leader of a coordinator queues for a vote that it hears: the vote's record. What the
-/// vote decides is said by the log alone, once it has the record.
+/// Returns the record of a vote, which the leader of a coordinator queues. What the vote decides is
+/// sent only once the log has the record.
 pub fn record_of(tx: Draw, vote: Vote, by: u16) -> Command
     ensures { result ≡ RecordVote tx vote by }
 {

@@ -1,6 +1,6 @@
 //! What a replica chooses from a part of what it keeps: why a request is not taken, the members of
-//! the open slots, which nodes are asked or told, what a group has noted of transactions, and what an
-//! entry decided. Nothing here drops a mail or a command.
+//! the open slots, which nodes are asked, and what a group has noted of transactions. Nothing here
+//! drops a mail or a command.
 #![tactic(auto)]
 
 mod acts;

@@ -10,7 +10,7 @@ use sc_base::{Members, OutOfMemory};
 use sc_paxos::Leader;
 use std::alloc::Global;
 
-/// The nodes that are not in a set.
+/// Returns the nodes that are not in a set.
 pub fn not_among(alloc: Global, nodes: &[u16], set: &Members) -> Result<Vec<u16>, OutOfMemory>
     ensures others { IfOk result
         (λ others. others.items ≡ filter (λ node. not (is_member set.now node)) nodes.now) }
@@ -25,7 +25,7 @@ pub fn not_among(alloc: Global, nodes: &[u16], set: &Members) -> Result<Vec<u16>
     Ok(others)
 }
 
-/// The members of a slot whose vote was not counted.
+/// Returns the members of a slot whose votes were not counted.
 pub fn uncounted<V>(
     alloc: Global,
     leader: &Leader<V>,

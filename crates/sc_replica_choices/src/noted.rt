@@ -10,6 +10,7 @@ ghost use Rattle.sc_node_table.specs.Transactions.{noted_vote, noted_outcome, go
 use sc_base::{Draw, same_draw};
 use sc_cmd::{Body, Core, Heard, Lock, No, Outcome, Past, Route};
 
+/// Returns the vote that a group has noted in a transaction.
 fn noted_vote(core: &Core, tx: Draw) -> Option<Past>
     ensures { result ≡ noted_vote core.now tx }
 {
@@ -24,7 +25,7 @@ fn noted_vote(core: &Core, tx: Draw) -> Option<Past>
     }
 }
 
-/// What a group has noted of its decision.
+/// Returns the outcome that a group has noted of a transaction that it decided.
 pub fn noted_outcome(core: &Core, tx: Draw) -> Option<&Outcome>
     ensures { option_copied result ≡ noted_outcome core.now tx }
 {
@@ -39,6 +40,7 @@ pub fn noted_outcome(core: &Core, tx: Draw) -> Option<&Outcome>
     }
 }
 
+/// Returns the vote of a group that is gone: No. None where it is not gone.
 fn gone_vote(gone: &Option<Route>) -> Option<Past>
     ensures { result ≡ gone_vote gone.now }
 {
@@ -48,6 +50,7 @@ fn gone_vote(gone: &Option<Route>) -> Option<Past>
     }
 }
 
+/// Returns whether the group's lock is of this transaction.
 fn is_locked_in(lock: &Lock, tx: Draw) -> bool
     ensures { result ≡ is_locked_in (locked_in lock.now) tx }
 {
@@ -59,6 +62,7 @@ fn is_locked_in(lock: &Lock, tx: Draw) -> bool
     }
 }
 
+/// Returns the vote that stands, by the noted vote, the lock, and whether the group is gone.
 fn standing_by(noted: Option<Past>, locked: bool, gone: &Option<Route>) -> Option<Past>
     ensures { result ≡ standing_by noted locked gone.now }
 {
@@ -76,8 +80,8 @@ fn standing_by(noted: Option<Past>, locked: bool, gone: &Option<Route>) -> Optio
     }
 }
 
-/// The vote that needs no entry any more: a No, a Yes under whose lock the group is, or one that
-/// has ended; and of a group that is gone, No.
+/// Returns the vote that stands without a further entry: a No, a Yes under whose lock the group is,
+/// or one whose transaction has ended; and No where the group is gone.
 pub fn standing_vote(core: &Core, tx: Draw) -> Option<Past>
     ensures { result ≡ standing_vote core.now tx }
 {
@@ -88,6 +92,8 @@ pub fn standing_vote(core: &Core, tx: Draw) -> Option<Past>
     )
 }
 
+/// Returns whether a coordinator asks its watcher: for a split at once, else once the participant
+/// was heard.
 fn asks_watcher(body: &Body, heard: &Option<Heard>) -> bool
     ensures { result ≡ asks_watcher body.now heard.now }
 {
@@ -97,7 +103,7 @@ fn asks_watcher(body: &Body, heard: &Option<Heard>) -> bool
     }
 }
 
-/// Whether a group waits for its participant's vote in this transaction.
+/// Returns whether a group waits for its participant's vote in this transaction.
 pub fn awaits_vote(lock: &Lock, tx: Draw) -> bool
     ensures { result ≡ awaits_vote lock.now tx }
 {
@@ -112,7 +118,7 @@ pub fn awaits_vote(lock: &Lock, tx: Draw) -> bool
     }
 }
 
-/// Whether it waits for its watcher's vote.
+/// Returns whether a group waits for its watcher's vote in this transaction.
 pub fn awaits_watch(lock: &Lock, tx: Draw) -> bool
     ensures { result ≡ awaits_watch lock.now tx }
 {
@@ -127,7 +133,7 @@ pub fn awaits_watch(lock: &Lock, tx: Draw) -> bool
     }
 }
 
-/// Whether a group is bound by a Yes of its own in this transaction.
+/// Returns whether a group is bound by a Yes of its own in this transaction.
 pub fn is_bound(lock: &Lock, tx: Draw) -> bool
     ensures { result ≡ is_bound lock.now tx }
 {

@@ -29,7 +29,7 @@ impl Model for Sets {
 }
 
 impl Sets {
-    /// One set for each open slot.
+    /// Returns this set for each open slot.
     pub fn born(alloc: Global, members: &Members) -> Result<Sets, OutOfMemory>
         ensures { IfOk result (λ sets. sets ≡ replicate slots_ahead members.now) }
     {
@@ -40,7 +40,7 @@ impl Sets {
         Ok(Sets { sets })
     }
 
-    /// These sets, one for each open slot.
+    /// Returns these sets, one for each open slot.
     pub fn of(alloc: Global, sets: &MemberSets) -> Result<Sets, OutOfMemory>
         requires { length sets.now ≡ slots_ahead }
         ensures { IfOk result (λ made. made ≡ sets.now) }
@@ -50,14 +50,14 @@ impl Sets {
         })
     }
 
-    /// The sets as a mail carries them.
+    /// Returns the sets as a mail carries them.
     pub fn list(&self, alloc: Global) -> Result<MemberSets, OutOfMemory>
         ensures { IfOk result (λ list. list ≡ self.now) }
     {
         Ok(Sequence::from_vec(copied(alloc, self.sets.as_slice())?))
     }
 
-    /// How many slots are open.
+    /// Returns the number of open slots.
     pub fn len(&self) -> usize
         ensures four { result ≡ slots_ahead }
         ensures all { result ≡ length self.now }
@@ -65,7 +65,7 @@ impl Sets {
         self.sets.len()
     }
 
-    /// The set of an open slot, counted from the next one.
+    /// Returns the set of an open slot, counted from the next one.
     pub fn at(&self, i: usize) -> &Members
         requires { i < slots_ahead }
         ensures { result.now ≡ slice_index_or self.now i [] }
@@ -80,21 +80,21 @@ impl Sets {
         self.sets.as_slice().get(i)
     }
 
-    /// The set of the next slot.
+    /// Returns the set of the next slot.
     pub fn first(&self) -> &Members
         ensures { result.now ≡ first_set self.now }
     {
         &self.sets[0]
     }
 
-    /// Whether a node is in one of the sets.
+    /// Returns whether a node is in one of the sets.
     pub fn has(&self, node: u16) -> bool
         ensures { result ≡ is_in_some self.now node }
     {
         self.sets.as_slice().iter().any(|set| set.has(node))
     }
 
-    /// The first set goes, and the new one comes last.
+    /// Drops the first set, and appends the new one.
     pub fn shift(&mut self, last: Members) -> Result<(), OutOfMemory>
         ensures { OnOk result (self.new ≡ rest_of self.old ++ last ∷ []) }
     {
@@ -104,6 +104,7 @@ impl Sets {
     }
 }
 
+/// Returns a copy of the sets.
 fn copied(alloc: Global, sets: &[Members]) -> Result<Vec<Members>, OutOfMemory>
     ensures { IfOk result (λ copy. copy.items ≡ sets.now) }
 {

@@ -1,4 +1,4 @@
--- Mails are only put behind those that are there: where there is none in the end, there was none before, and nobody was sent one.
+-- Mails are only appended: where there is none in the end, there was none before, and nobody was sent one.
 use Rattle.std.proofs.Common.{◌≡◌, ℕ, Bool, true, false, ◌==◌, not, List, [], ◌∷◌, ◌++◌, if◌then◌else◌, cond, filter, Option, refl, sym, ap, ◌∙◌, All, arith, suc, ◌+◌, ◌<◌, add-one, length, get_or, drop}
 use Rattle.std.proofs.lemmas.List.Elements.{All-nil, All-cons}
 use Rattle.std.proofs.lemmas.Bool.{eqb-true, ltb-false}
@@ -43,7 +43,7 @@ unfolding sent_all
 sent_all-none me [] body mails e = refl
 sent_all-none me (node ∷ nodes) body mails e = absurd (one_more mails _ (sent_all-before me nodes body (sent me node body mails) e))
 
--- .. but the sender
+-- to each of several nodes but the sender
 pub sent_others-before : (me : ℕ) (nodes : List ℕ) (body : MailBody) (mails : List Mail) → sent_others me nodes body mails ≡ [] → mails ≡ []
 unfolding sent_others
 sent_others-before me [] body mails e = e
@@ -148,7 +148,7 @@ dismissed_all-cons me group hint answer command commands e =
     let n : dismissed me group hint answer command [] ≡ [] = dismissed_all-before me group hint answer commands _ e in
     (n, ap (dismissed_all me group hint answer commands) (sym n) ∙ e)
 
--- .. a command at a time
+-- to several clients and the desk, a command at a time
 dismissed_all-again : (me : ℕ) (group : Draw) (hint : Option ℕ) (answer : AnswerBody) (command : Command) (commands : List Command) (mails : List Mail)
     → dismissed_all me group hint answer commands (dismissed me group hint answer command mails) ≡ dismissed_all me group hint answer (command ∷ commands) mails
 unfolding dismissed_all

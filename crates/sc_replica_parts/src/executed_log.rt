@@ -34,6 +34,7 @@ impl Model for Entries {
 }
 
 impl Entries {
+    /// Returns an empty log.
     pub fn born(alloc: Global) -> Entries
         ensures { result ≡ empty_log }
     {
@@ -42,7 +43,7 @@ impl Entries {
         }
     }
 
-    /// A log that starts after a slot.
+    /// Returns an empty log that starts after a slot.
     pub fn after(alloc: Global, slot: u32) -> Entries
         requires { slot ≤ last_slot }
         ensures { result ≡ installed slot }
@@ -54,7 +55,7 @@ impl Entries {
         Entries { log }
     }
 
-    /// The slot after the last entry.
+    /// Returns the slot after the last entry.
     pub fn next(&self) -> u32
         ensures same { result ≡ next_of self.now }
         ensures most { next_of self.now ≤ last_slot + slots_ahead }
@@ -62,7 +63,7 @@ impl Entries {
         self.log.next()
     }
 
-    /// The entry of a slot, if it is held.
+    /// Returns the entry of a slot, if it is held.
     pub fn entry(&self, slot: u32) -> Option<&Command>
         ensures same { option_copied result ≡ entry_at slot self.now }
         ensures most { next_of self.now ≤ last_slot + slots_ahead }
@@ -70,7 +71,7 @@ impl Entries {
         self.log.entry(slot)
     }
 
-    /// Puts the entry of the next slot in.
+    /// Appends the entry of the next slot.
     pub fn put(&mut self, command: Command) -> Result<(), OutOfMemory>
         requires { next_of self.old < last_slot + slots_ahead }
         ensures { OnOk result (self.new ≡ with_entry command self.old) }

@@ -1,5 +1,5 @@
-//! The parts of a replica: the executed entries, what waits and what is ready, and the mails that
-//! it sends.
+//! Parts of a replica: the executed entries, queued and ready commands, and the mails that it
+//! sends.
 #![tactic(auto)]
 
 mod executed_log;

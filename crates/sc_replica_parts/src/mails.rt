@@ -1,4 +1,4 @@
-//! Mails: each function puts some behind those that are there.
+//! Mails: each function appends some to those that are there.
 ghost use Rattle.std.specs.Prelude.{◌≡◌, [], false, OnOk, IsOk};
 ghost use Rattle.sc_cmd.specs.declared.orders.ToldResult.TheVariants.{Refused};
 ghost use Rattle.sc_cmd.specs.declared.orders.OrderRefusal.TheVariants.{NotLeader};
@@ -12,7 +12,7 @@ use sc_policy::is_told;
 use std::alloc::Global;
 use std::collections::VecDeque;
 
-/// One mail more.
+/// Appends a mail.
 pub fn send(me: u16, to: u32, body: MailBody, out: &mut Sequence<Mail>) -> Result<(), OutOfMemory>
     ensures { OnOk result (out.new ≡ sent me to body out.old) }
 {
@@ -23,7 +23,7 @@ pub fn send(me: u16, to: u32, body: MailBody, out: &mut Sequence<Mail>) -> Resul
     })
 }
 
-/// An answer to a client.
+/// Appends an answer to a client.
 pub fn answer(
     me: u16,
     group: Draw,
@@ -42,7 +42,7 @@ pub fn answer(
     )
 }
 
-/// The client of a call is answered so.
+/// Appends this answer to the client of a call. Does nothing for another command.
 #[tactic(auto, unfolding(sc_node_table::specs::Mails::answered))]
 pub fn answer_command(
     alloc: Global,
@@ -63,7 +63,7 @@ pub fn answer_command(
     }
 }
 
-/// The desk is told what became of an order.
+/// Appends a report to the desk of what became of an order.
 pub fn tell_desk(
     me: u16,
     number: u32,
@@ -83,7 +83,8 @@ pub fn tell_desk(
     )
 }
 
-/// The number of the order that a command is of: 0 where a policy made it, and where it is of none.
+/// Returns the number of the order that a command is of. 0 where a policy made it, and where it is
+/// of none.
 pub fn order_number(command: &Command) -> u32
     ensures { result ≡ order_number command.now }
 {
@@ -103,7 +104,7 @@ pub fn order_number(command: &Command) -> u32
     }
 }
 
-/// The desk is told what became of an order, if it has a number.
+/// Appends a report to the desk of what became of an order, if the order has a number.
 #[tactic(auto, unfolding(sc_node_table::specs::Mails::told_order))]
 pub fn tell_order(
     me: u16,
@@ -120,8 +121,8 @@ pub fn tell_order(
     tell_desk(me, number, told, out)
 }
 
-/// The client of a waiting call is answered so, and of a waiting order the desk is told that its
-/// node does not lead.
+/// Appends this answer to the client of a queued call, and for a queued order the report to the
+/// desk that its node does not lead.
 #[tactic(auto, unfolding(sc_node_table::specs::Mails::dismissed))]
 fn dismiss(
     alloc: Global,
@@ -146,7 +147,7 @@ fn dismiss(
     }
 }
 
-/// ... each of these commands.
+/// Appends what `dismiss` does, for each of these queued commands.
 #[tactic(auto, unfolding(sc_node_table::specs::Mails::dismissed_all))]
 pub fn dismiss_all(
     alloc: Global,

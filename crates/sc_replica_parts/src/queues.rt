@@ -1,4 +1,4 @@
-//! The waiting commands, in queues of std.
+//! Queued commands, in queues of std.
 ghost use Rattle.std.specs.Prelude.{◌≡◌, ℕ, ◌<◌, ◌≤◌, ◌∷◌, ◌++◌, [], length, is_none, remove, OnOk, IsOk};
 ghost use Rattle.std.specs.Option.{option_copied};
 ghost use Rattle.sc_cmd.specs.declared.commands.Command.TheVariants.{Call};
@@ -11,14 +11,14 @@ use sc_cmd::Command;
 use std::alloc::Global;
 use std::collections::VecDeque;
 
-/// Whether nothing waits.
+/// Returns whether the queue is empty.
 pub fn is_empty(queue: &VecDeque<Command>) -> bool
     ensures { result ≡ is_none (head_of queue.now.items) }
 {
     queue.is_empty()
 }
 
-/// The first one.
+/// Returns the head of the queue.
 pub fn head(queue: &VecDeque<Command>) -> Option<&Command>
     ensures { option_copied result ≡ head_of queue.now.items }
 {
@@ -28,7 +28,7 @@ pub fn head(queue: &VecDeque<Command>) -> Option<&Command>
     Some(&queue[0])
 }
 
-/// Takes the first one out.
+/// Takes the head of the queue out.
 pub fn take_head(queue: &mut VecDeque<Command>) -> Option<Command>
     ensures head { result ≡ head_of queue.old.items }
     ensures rest { queue.new.items ≡ rest_of queue.old.items }
@@ -36,7 +36,7 @@ pub fn take_head(queue: &mut VecDeque<Command>) -> Option<Command>
     queue.pop_front()
 }
 
-/// Puts one before the first.
+/// Inserts a command at the head of the queue.
 pub fn push_front(queue: &mut VecDeque<Command>, command: Command) -> Result<(), OutOfMemory>
     ensures { OnOk result (queue.new.items ≡ command ∷ queue.old.items) }
 {
@@ -44,7 +44,7 @@ pub fn push_front(queue: &mut VecDeque<Command>, command: Command) -> Result<(),
     Ok(())
 }
 
-/// Puts one behind the last.
+/// Appends a command.
 pub fn push_back(queue: &mut VecDeque<Command>, command: Command) -> Result<(), OutOfMemory>
     ensures { OnOk result (queue.new.items ≡ queue.old.items ++ command ∷ []) }
 {
@@ -52,7 +52,7 @@ pub fn push_back(queue: &mut VecDeque<Command>, command: Command) -> Result<(), 
     Ok(())
 }
 
-/// Puts a call behind the last.
+/// Appends a call.
 pub fn add_call(
     alloc: Global,
     calls: &mut VecDeque<Command>,
@@ -66,7 +66,7 @@ pub fn add_call(
     push_back(calls, Command::Call { client, seq, op })
 }
 
-/// Takes the one at a place out.
+/// Takes out the command at a place.
 fn drop_at(queue: &mut VecDeque<Command>, i: usize)
     requires { i < length queue.old.items }
     ensures { queue.new.items ≡ remove queue.old.items i }
@@ -74,7 +74,7 @@ fn drop_at(queue: &mut VecDeque<Command>, i: usize)
     let _gone = queue.remove(i);
 }
 
-/// The number of a client's call.
+/// Returns the number of a client's call, if one is queued.
 pub fn call_of(commands: &VecDeque<Command>, client: u16) -> Option<u32>
     ensures { result ≡ call_of commands.now.items client }
 {
@@ -88,6 +88,7 @@ pub fn call_of(commands: &VecDeque<Command>, client: u16) -> Option<u32>
     None
 }
 
+/// Returns whether a command is a call of this client.
 fn is_call_of(client: u16, command: &Command) -> bool
     ensures { result ≡ is_call_of client command.now }
 {
@@ -97,7 +98,7 @@ fn is_call_of(client: u16, command: &Command) -> bool
     }
 }
 
-/// Takes a client's call out.
+/// Takes out a client's call.
 pub fn drop_call(calls: &mut VecDeque<Command>, client: u16)
     ensures { calls.new.items ≡ without_call calls.old.items client }
 {
@@ -109,7 +110,8 @@ pub fn drop_call(calls: &mut VecDeque<Command>, client: u16)
     }
 }
 
-/// A call goes to the front; of two calls of a client the higher number stays.
+/// Inserts a call at the head of the queue. Of two calls of one client the one with the higher
+/// number stays.
 pub fn put_call(
     calls: &mut VecDeque<Command>,
     client: u16,

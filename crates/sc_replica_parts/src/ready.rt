@@ -1,4 +1,4 @@
-//! The ready commands by their slots, in an ordered map of std.
+//! Ready commands by their slots, in an ordered map of std.
 ghost use Rattle.std.specs.Prelude.{◌≡◌, OnOk};
 ghost use Rattle.std.specs.Option.{option_copied};
 ghost use Rattle.sc_node_table.specs.Slots.{at_slot, with_slot, without_slot};
@@ -7,14 +7,14 @@ use sc_base::OutOfMemory;
 use sc_cmd::Command;
 use std::collections::BTreeMap;
 
-/// The command of a slot.
+/// Returns the command that is ready at a slot.
 pub fn ready_at(ready: &BTreeMap<u32, Command>, slot: u32) -> Option<&Command>
     ensures { option_copied result ≡ at_slot ready.now.entries slot }
 {
     ready.get(&slot)
 }
 
-/// Puts the command of a slot in.
+/// Sets the command that is ready at a slot.
 pub fn put_ready(
     ready: &mut BTreeMap<u32, Command>,
     slot: u32,
@@ -26,7 +26,7 @@ pub fn put_ready(
     Ok(())
 }
 
-/// Takes the command of a slot out.
+/// Takes out the command that is ready at a slot.
 pub fn drop_ready(ready: &mut BTreeMap<u32, Command>, slot: u32)
     ensures { ready.new.entries ≡ without_slot ready.old.entries slot }
 {

@@ -1,4 +1,4 @@
-//! One mail to one or to each of several nodes.
+//! The same mail to each of several nodes, and the mail with a group's state.
 ghost use Rattle.std.specs.Prelude.{◌≡◌, [], All, OnOk, IsOk};
 ghost use Rattle.sc_mail.specs.declared.bodies.MailBody.TheVariants.{Prepare, Accept, Learn, Install};
 ghost use Rattle.sc_node_table.specs.Mails.{sent, sent_all, sent_others};
@@ -9,7 +9,7 @@ use sc_cmd::{Base, Command, MemberSets};
 use sc_mail::{Mail, MailBody};
 use std::alloc::Global;
 
-/// A prepare to each of several nodes.
+/// Appends a prepare of a ballot to each of these nodes (Paxos Made Simple, section 2.2, phase 1a).
 #[tactic(auto, unfolding(sc_node_table::specs::Mails::sent_all))]
 pub fn send_prepares(
     me: u16,
@@ -38,7 +38,8 @@ pub fn send_prepares(
     Ok(())
 }
 
-/// An accept to each of several nodes.
+/// Appends an accept of a command at a slot to each of these nodes (Paxos Made Simple, section 2.2,
+/// phase 2a).
 #[tactic(auto, unfolding(sc_node_table::specs::Mails::sent_all))]
 pub fn send_accepts(
     alloc: Global,
@@ -70,7 +71,7 @@ pub fn send_accepts(
     Ok(())
 }
 
-// One learn.
+// Appends a learn of a command to a node.
 fn send_learn(
     alloc: Global,
     me: u16,
@@ -94,7 +95,8 @@ fn send_learn(
     )
 }
 
-/// The chosen command of a slot to each of several nodes but the sender.
+/// Appends a learn of the chosen command of a slot to each of these nodes but the sender (Paxos
+/// Made Simple, section 2.3).
 #[tactic(auto, unfolding(sc_node_table::specs::Mails::sent_others))]
 pub fn send_learns(
     alloc: Global,
@@ -117,7 +119,7 @@ pub fn send_learns(
     Ok(())
 }
 
-/// The state after a slot, with the members of the open slots, to a node.
+/// Appends a mail to a node with the state after a slot and the members of the open slots.
 pub fn send_install(
     alloc: Global,
     me: u16,

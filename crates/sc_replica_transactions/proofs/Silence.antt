@@ -35,7 +35,7 @@ unasked (Coordinating tx body order heard) me core e = absurd (cc)
 unasked (Promised tx offer) me core e = refl
 unasked (Watching tx watch) me core e = refl
 
--- mails are only put behind those that are there
+-- mails are only appended
 asked_first-before : (lock : Lock) (me : ℕ) (core : Core) (mails : List Mail) → asked_first lock me core mails ≡ [] → mails ≡ []
 asked_first-before Free me core mails e = e
 asked_first-before (Coordinating tx body order heard) me core mails e = absurd (one_more mails _ e)

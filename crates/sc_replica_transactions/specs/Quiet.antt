@@ -1,4 +1,4 @@
--- Where a group has nothing to ask.
+-- Groups that have nothing to ask.
 use Rattle.std.specs.Prelude.{Bool, true, false}
 use Rattle.sc_cmd.specs.declared.cores.Lock.{Lock}
 use Rattle.sc_cmd.specs.declared.cores.Lock.TheVariants.{Free, Coordinating, Promised, Watching}

@@ -1,4 +1,4 @@
-//! What a coordinator tells of its decision.
+//! What a coordinator sends of its decision.
 ghost use Rattle.std.specs.Prelude.{◌≡◌, [], OnOk, IsOk};
 ghost use Rattle.sc_cmd.specs.declared.votes.Outcome.TheVariants.{Abort};
 ghost use Rattle.sc_cmd.specs.Effects.{decided_in};
@@ -14,7 +14,7 @@ use sc_node_table::Before;
 use sc_replica_parts::send;
 use std::alloc::Global;
 
-/// Each of several nodes is told that nothing comes of it.
+/// Tells each of several nodes that the transaction is given up.
 #[tactic(auto, unfolding(sc_node_table::specs::Mails::sent_all))]
 fn send_aborts(
     me: u16,
@@ -39,7 +39,7 @@ fn send_aborts(
     Ok(())
 }
 
-/// Each member of a party is told so.
+/// Tells each member of a party that the transaction is given up.
 fn abort_to(me: u16, tx: Draw, link: &Link, out: &mut Sequence<Mail>) -> Result<(), OutOfMemory>
     ensures mails { OnOk result (out.new ≡ aborted_to me tx link.now out.old) }
     ensures none { aborted_to me tx link.now [] ≡ [] → IsOk result }
@@ -47,6 +47,8 @@ fn abort_to(me: u16, tx: Draw, link: &Link, out: &mut Sequence<Mail>) -> Result<
     send_aborts(me, link.members.as_slice(), tx, link.group, out)
 }
 
+/// Tells each member of the watcher, where the participant was heard, that the transaction is given
+/// up.
 fn abort_watcher(
     me: u16,
     tx: Draw,
@@ -62,7 +64,7 @@ fn abort_watcher(
     }
 }
 
-/// Of a transaction that is given up, the participant is told, and the watcher where one was asked
+/// Tells the participant that the transaction is given up, and the watcher where one was asked
 /// after it.
 pub(crate) fn give_up(
     effect: &Effect,
@@ -82,7 +84,8 @@ pub(crate) fn give_up(
     abort_watcher(me, tx, &before.heard, out)
 }
 
-/// What a participant's Yes decided is told to the node that brought it.
+/// Tells the node that brought a participant's Yes what it decided, where it decided the
+/// transaction.
 pub(crate) fn answer_vote(
     alloc: Global,
     effect: &Effect,
@@ -107,8 +110,8 @@ pub(crate) fn answer_vote(
     }
 }
 
-/// What a watcher's Yes decided is told to the participant that was heard, and then to the node
-/// that brought the vote.
+/// Tells the participant that was heard what a watcher's Yes decided, and then the node that
+/// brought the vote.
 fn release(
     alloc: Global,
     me: u16,
@@ -131,7 +134,7 @@ fn release(
     }
 }
 
-/// What a watcher's vote decided.
+/// Sends what a watcher's vote decided, where it decided the transaction.
 pub(crate) fn answer_watch(
     alloc: Global,
     effect: &Effect,

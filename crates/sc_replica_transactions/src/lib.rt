@@ -1,6 +1,6 @@
-//! What a replica says in transactions: questions, votes, outcomes and what the desk is told. All
-//! from the group's state and from what an executed command did to it; nothing here changes a
-//! replica.
+//! What a replica sends in transactions (Scatter, SOSP 2011, multi-group operations): questions,
+//! votes, outcomes and reports to the desk. All of it comes from the group's state and from what an
+//! executed command did to it; nothing here changes a replica.
 #![tactic(auto)]
 
 mod endings;

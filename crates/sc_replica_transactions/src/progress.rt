@@ -1,4 +1,4 @@
-//! How a transaction goes on when an entry of it was executed.
+//! How a transaction proceeds once an entry of it is executed.
 ghost use Rattle.std.specs.Prelude.{◌≡◌, [], OnOk, IsOk};
 ghost use Rattle.sc_node_table.specs.Spoken.{heard_from, is_merge, before_in, before_of, asked_on, begun_asks, vote_sent, watch_sent, went_on, spoken_mails};
 
@@ -13,6 +13,8 @@ use sc_mail::Mail;
 use sc_node_table::Before;
 use std::alloc::Global;
 
+/// Returns the node that brought the participant's vote that was heard, and the link of the group
+/// behind the participant.
 fn heard_from(heard: &Option<Heard>) -> Option<(u16, Link)>
     ensures { result ≡ heard_from heard.now }
 {
@@ -22,6 +24,7 @@ fn heard_from(heard: &Option<Heard>) -> Option<(u16, Link)>
     }
 }
 
+/// Returns whether a transaction is a merge.
 fn is_merge(body: &Body) -> bool
     ensures { result ≡ is_merge body.now }
 {
@@ -31,7 +34,7 @@ fn is_merge(body: &Body) -> bool
     }
 }
 
-/// The group as it is before an entry, as far as the mails by the entry's effect need it.
+/// Returns what of the group before an entry the mails by the entry's effect need.
 pub fn before_of(core: &Core) -> Before
     ensures { result ≡ before_of core.now }
 {
@@ -60,7 +63,8 @@ pub fn before_of(core: &Core) -> Before
     }
 }
 
-/// A group that only locks to be split, or has heard its participant, asks its watcher.
+/// Sends the watcher's question of a group that only locks to be split, or that has heard its
+/// participant.
 fn ask_by(
     alloc: Global,
     effect: &Effect,
@@ -78,7 +82,7 @@ fn ask_by(
     }
 }
 
-/// A group that has begun asks its successor.
+/// Sends the question of a group that has begun to its successor.
 fn ask_begun(
     alloc: Global,
     effect: &Effect,
@@ -99,7 +103,7 @@ fn ask_begun(
     }
 }
 
-/// The vote goes to the node that asked.
+/// Sends the vote on an offer to the node that asked.
 fn send_vote(
     alloc: Global,
     vote: Option<Past>,
@@ -118,6 +122,7 @@ fn send_vote(
     }
 }
 
+/// Sends the vote on becoming a watcher to the node that asked.
 fn send_watch(
     vote: Option<Past>,
     me: u16,
@@ -134,7 +139,7 @@ fn send_watch(
     }
 }
 
-/// The mails of a counted command of a transaction, after it was executed.
+/// Sends the mails of a counted command of a transaction, once it is executed.
 #[tactic(auto, unfolding(sc_node_table::specs::Spoken::went_on))]
 fn go_on(
     alloc: Global,
@@ -175,8 +180,8 @@ fn go_on(
     }
 }
 
-/// What is said of a split or a transaction after its entry was executed: each replica tells the
-/// desk, and the one that counted the entry goes on with the transaction.
+/// Sends what a split or a transaction has to say once its entry is executed: each replica reports
+/// to the desk, and the one that counted the entry proceeds with the transaction.
 #[tactic(auto, unfolding(sc_node_table::specs::Spoken::spoken_mails))]
 pub fn speak(
     alloc: Global,

@@ -17,6 +17,7 @@ use sc_replica_parts::send;
 use sc_txn::{can_split, plan_split};
 use std::alloc::Global;
 
+/// Returns the offer of a coordinator to its participant.
 fn offer_of(me: u16, core: &Core, body: &Body) -> Offer
     ensures { result ≡ offer_of me core.now body.now }
 {
@@ -30,7 +31,7 @@ fn offer_of(me: u16, core: &Core, body: &Body) -> Offer
     }
 }
 
-/// The group behind a participant that was heard.
+/// Returns the group behind a participant that was heard.
 pub(crate) fn heard_link(heard: &Option<Heard>) -> Option<Link>
     ensures { result ≡ heard_link heard.now }
 {
@@ -40,7 +41,7 @@ pub(crate) fn heard_link(heard: &Option<Heard>) -> Option<Link>
     }
 }
 
-/// The watcher's link, where the watcher is asked.
+/// Returns the watcher's link, where the watcher is asked.
 fn watcher_link(core: &Core, body: &Body, heard: &Option<Heard>) -> Option<Link>
     ensures { result ≡ watcher_link core.now body.now heard.now }
 {
@@ -50,7 +51,7 @@ fn watcher_link(core: &Core, body: &Body, heard: &Option<Heard>) -> Option<Link>
     }
 }
 
-/// That link, or else the successor.
+/// Returns this link, and the successor where there is none.
 pub(crate) fn or_successor(core: &Core, link: Option<Link>) -> Link
     ensures { result ≡ or_successor core.now link }
 {
@@ -60,13 +61,15 @@ pub(crate) fn or_successor(core: &Core, link: Option<Link>) -> Link
     }
 }
 
-/// Whom a coordinator asks.
+/// Returns the link of the group that a coordinator asks.
 fn asked_link(core: &Core, body: &Body, heard: &Option<Heard>) -> Link
     ensures { result ≡ asked_link core.now body.now heard.now }
 {
     or_successor(core, watcher_link(core, body, heard))
 }
 
+/// Returns the question of a coordinator to its watcher, which is to take `next` for its neighbour
+/// in place of `old`.
 fn watch_of(me: u16, core: &Core, watcher: &Link, old: Draw, next: Link) -> Watch
     ensures { result ≡ watch_of me core.now watcher.now old next }
 {
@@ -80,8 +83,8 @@ fn watch_of(me: u16, core: &Core, watcher: &Link, old: Draw, next: Link) -> Watc
     }
 }
 
-/// The child with the members that go to it; a group that cannot be split there, which is never
-/// asked for it, names its own.
+/// Returns the link of the child with the members that go to it. For a group that cannot be split
+/// there, which is never asked for it, these are its own.
 fn child_link(alloc: Global, core: &Core, at: u32, child: Draw) -> Result<Link, OutOfMemory>
     ensures link { IfOk result (λ link. link ≡ child_link core.now at child) }
     ensures whole { can_split core.now at ≡ false → IsOk result }
@@ -99,8 +102,8 @@ fn child_link(alloc: Global, core: &Core, at: u32, child: Draw) -> Result<Link, 
     })
 }
 
-/// The group with the members of both; where these are more than nine, which are never merged, with
-/// its own.
+/// Returns the link of the group with the members of both. Where these are more than nine, which
+/// are never merged, they are its own.
 fn both_link(core: &Core, frozen: &Frozen) -> Link
     ensures { result ≡ both_link core.now frozen.now }
 {
@@ -116,6 +119,7 @@ fn both_link(core: &Core, frozen: &Frozen) -> Link
     }
 }
 
+/// Returns the question to the watcher of a split.
 fn split_watch(
     alloc: Global,
     me: u16,
@@ -130,6 +134,7 @@ fn split_watch(
     Ok(watch_of(me, core, &core.succ, core.id, next))
 }
 
+/// Returns the question to the watcher of a merge.
 fn union_watch(me: u16, core: &Core, heard: &Heard) -> Watch
     ensures { result ≡ union_watch me core.now heard.now }
 {
@@ -137,6 +142,7 @@ fn union_watch(me: u16, core: &Core, heard: &Heard) -> Watch
     watch_of(me, core, &heard.frozen.succ, core.succ.group, next)
 }
 
+/// Returns the watcher's question once the participant was heard.
 fn heard_question(
     alloc: Global,
     me: u16,
@@ -159,7 +165,7 @@ fn heard_question(
     }
 }
 
-/// What a coordinator asks: its participant, and then the watcher.
+/// Returns what a coordinator asks: its participant first, and then the watcher.
 fn question(
     alloc: Global,
     me: u16,
@@ -181,7 +187,7 @@ fn question(
     }
 }
 
-/// The question of a coordinator to one node.
+/// Sends the question of a coordinator to one node.
 fn ask_node(
     alloc: Global,
     me: u16,
@@ -198,7 +204,7 @@ fn ask_node(
     send(me, node as u32, asked, out)
 }
 
-/// .. to the least member of the group that is asked.
+/// Sends the question of a coordinator to the least member of the group that is asked.
 fn ask_least(
     alloc: Global,
     me: u16,
@@ -214,7 +220,7 @@ fn ask_least(
     ask_node(alloc, me, core, tx, body, heard, node, out)
 }
 
-/// .. to each of these nodes.
+/// Sends the question of a coordinator to each of these nodes.
 #[tactic(auto, unfolding(sc_node_table::specs::Mails::sent_all))]
 fn ask_nodes(
     alloc: Global,
@@ -236,7 +242,7 @@ fn ask_nodes(
     Ok(())
 }
 
-/// .. to each member of the group that is asked.
+/// Sends the question of a coordinator to each member of the group that is asked.
 pub(crate) fn ask_all(
     alloc: Global,
     me: u16,
@@ -263,7 +269,7 @@ pub(crate) fn ask_all(
     )
 }
 
-/// The first question of a group that coordinates; another one has nothing to ask.
+/// Sends the first question of a group that coordinates. Another group has nothing to ask.
 pub(crate) fn ask_first(
     alloc: Global,
     me: u16,
@@ -284,7 +290,7 @@ pub(crate) fn ask_first(
     }
 }
 
-/// The question of a group that has begun: its offer, to the least member of its successor.
+/// Sends the question of a group that has begun, its offer, to the least member of its successor.
 pub(crate) fn ask_successor(
     alloc: Global,
     me: u16,
@@ -303,7 +309,7 @@ pub(crate) fn ask_successor(
     send(me, node as u32, MailBody::TxPrepare { tx, offer }, out)
 }
 
-/// The node that is asked next: the one that was named, or the member after the sender.
+/// Returns the node that is asked next: the one that was named, or the member after the sender.
 fn next_asked(hint: Option<u16>, link: &Link, from: u16) -> u16
     ensures { result ≡ next_asked hint link.now.members from }
 {
@@ -313,8 +319,8 @@ fn next_asked(hint: Option<u16>, link: &Link, from: u16) -> u16
     }
 }
 
-/// The coordinator of this transaction asks again, where a node did not lead the group that it
-/// asked.
+/// Sends the coordinator's question of this transaction again, where a node did not lead the group
+/// that it asked.
 pub fn ask_next(
     alloc: Global,
     me: u16,

@@ -1,4 +1,4 @@
-//! What one that is bound in a transaction says at a tick.
+//! What a replica of a bound group sends at a tick.
 ghost use Rattle.std.specs.Prelude.{◌≡◌, [], OnOk, IsOk, nat_le};
 ghost use Rattle.sc_node_table.specs.Reminders.{one_tick_more, patience, reminders};
 
@@ -10,7 +10,7 @@ use sc_machine::Machine;
 use sc_mail::Mail;
 use std::alloc::Global;
 
-/// How many ticks a coordinator waits before it gives up.
+/// The number of ticks that a coordinator waits before it gives up.
 const PATIENCE: u32 = 8;
 
 /// Returns whether a coordinator that has waited for this number of ticks gives up.
@@ -20,7 +20,7 @@ pub fn has_waited(waits: u32) -> bool
     PATIENCE <= waits
 }
 
-/// One tick more; the count stands still at 2^32 - 1.
+/// Returns the count with one tick more. It stays at 2^32 - 1.
 pub fn one_tick_more(waits: u32) -> u32
     ensures { result ≡ one_tick_more waits }
 {
@@ -30,8 +30,8 @@ pub fn one_tick_more(waits: u32) -> u32
     waits + 1
 }
 
-/// A coordinator asks each member of the group that is asked; a participant and a watcher say their
-/// Yes again to each member of the coordinator.
+/// Sends a coordinator's question to each member of the group that is asked, and the Yes of a
+/// participant or watcher again to each member of the coordinator.
 pub fn remind(
     alloc: Global,
     machine: &Machine,

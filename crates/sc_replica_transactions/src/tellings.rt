@@ -12,6 +12,7 @@ use sc_node_table::Before;
 use sc_replica_parts::{send, tell_order};
 use std::alloc::Global;
 
+/// Returns the result that the desk is told of an outcome.
 fn outcome_result(outcome: &Outcome) -> ToldResult
     ensures { result ≡ outcome_result outcome.now }
 {
@@ -24,13 +25,15 @@ fn outcome_result(outcome: &Outcome) -> ToldResult
     }
 }
 
+/// Returns the result that the desk is told where an entry decided the transaction.
 fn decided_result(effect: &Effect) -> Option<ToldResult>
     ensures { result ≡ decided_result effect.now }
 {
     Some(outcome_result(effect.outcome()?))
 }
 
-/// What is told of a split or a transaction, by whether the group was its own successor.
+/// Returns the result of a split or a transaction that the desk is told, by whether the group was
+/// its own successor.
 fn begun_result(alone: bool, effect: &Effect, command: &Command) -> Option<ToldResult>
     ensures { result ≡ begun_result alone effect.now command.now }
 {
@@ -56,8 +59,8 @@ fn begun_result(alone: bool, effect: &Effect, command: &Command) -> Option<ToldR
     }
 }
 
-/// The number of the order that is spoken of: the command's own, or that of the transaction that
-/// the group coordinated.
+/// Returns the number of the order that is reported: the command's own, or that of the transaction
+/// that the group coordinated.
 fn spoken_number(begun: u32, command: &Command) -> u32
     ensures { result ≡ spoken_number begun command.now }
 {
@@ -74,6 +77,7 @@ fn spoken_number(begun: u32, command: &Command) -> u32
     }
 }
 
+/// Reports a result to the desk, if there is one and the order has a number.
 fn tell_result(
     me: u16,
     told: Option<ToldResult>,
@@ -89,7 +93,7 @@ fn tell_result(
     }
 }
 
-/// The desk is told what an entry of a split or of a transaction comes to.
+/// Reports to the desk what an entry of a split or of a transaction comes to.
 #[tactic(auto, unfolding(sc_node_table::specs::Spoken::told_begun))]
 pub(crate) fn tell_begun(
     me: u16,
@@ -106,7 +110,7 @@ pub(crate) fn tell_begun(
     tell_result(me, told, spoken_number(before.order, command), out)
 }
 
-/// What was decided is told to one node.
+/// Sends what was decided to one node.
 pub fn tell_outcome(
     alloc: Global,
     me: u16,
@@ -130,7 +134,8 @@ pub fn tell_outcome(
     )
 }
 
-/// A node that does not lead the asked group names the one that it takes for the leader.
+/// Sends a coordinator the leader that this node takes for that of the asked group, which it does
+/// not lead itself.
 pub fn pass_on(
     me: u16,
     node: u16,

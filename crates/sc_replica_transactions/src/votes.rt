@@ -14,6 +14,7 @@ use sc_mail::{Mail, MailBody};
 use sc_replica_parts::send;
 use std::alloc::Global;
 
+/// Sends a vote on an offer to one node.
 fn send_vote(
     me: u16,
     node: u16,
@@ -38,7 +39,7 @@ fn send_vote(
     )
 }
 
-/// A Yes to one node, with the frozen group.
+/// Sends a Yes to one node, with the frozen group.
 fn send_yes(
     alloc: Global,
     machine: &Machine,
@@ -57,8 +58,8 @@ fn send_yes(
     send_vote(me, node, tx, offer, Vote::Yes(frozen), out)
 }
 
-/// A vote on an offer to one node: a Yes brings the frozen group. Of a transaction that has ended
-/// nothing is said.
+/// Sends a vote on an offer to one node. A Yes carries the frozen group. Of a transaction that has
+/// ended nothing is sent.
 pub fn tell_vote(
     alloc: Global,
     machine: &Machine,
@@ -80,6 +81,7 @@ pub fn tell_vote(
     }
 }
 
+/// Sends a vote on becoming a watcher to one node.
 fn send_watched(
     me: u16,
     node: u16,
@@ -104,7 +106,7 @@ fn send_watched(
     )
 }
 
-/// A vote on becoming a watcher to one node.
+/// Sends a vote on becoming a watcher to one node.
 pub fn tell_watch(
     me: u16,
     node: u16,
@@ -123,7 +125,7 @@ pub fn tell_watch(
     }
 }
 
-/// A Yes on an offer to each of several nodes.
+/// Sends a Yes on an offer to each of several nodes.
 #[tactic(auto, unfolding(sc_node_table::specs::Mails::sent_all))]
 pub(crate) fn send_yes_to_all(
     alloc: Global,
@@ -146,7 +148,7 @@ pub(crate) fn send_yes_to_all(
     Ok(())
 }
 
-/// A watcher's Yes to each of several nodes.
+/// Sends a watcher's Yes to each of several nodes.
 #[tactic(auto, unfolding(sc_node_table::specs::Mails::sent_all))]
 pub(crate) fn send_watched_to_all(
     me: u16,
