@@ -22,7 +22,7 @@ fn is_call(command: &Command) -> bool
     }
 }
 
-/// Returns the result of a join or a leave that the desk is told. None for other commands: splits
+/// Returns the result of a join or a leave that is reported to the desk. None for other commands: splits
 /// and transactions are reported apart.
 fn order_result(command: &Command, effect: &Effect) -> Option<ToldResult>
     ensures { result ≡ order_result command.now effect.now }

@@ -1,4 +1,4 @@
-//! What the desk is told of splits and transactions, and mails of one line.
+//! What is reported to the desk of splits and transactions, and mails of one line.
 ghost use Rattle.std.specs.Prelude.{◌≡◌, [], OnOk, IsOk};
 ghost use Rattle.sc_mail.specs.declared.bodies.MailBody.TheVariants.{TxElsewhere};
 ghost use Rattle.sc_node_table.specs.Mails.{sent};
@@ -12,7 +12,7 @@ use sc_node_table::Before;
 use sc_replica_parts::{send, tell_order};
 use std::alloc::Global;
 
-/// Returns the result that the desk is told of an outcome.
+/// Returns the result of an outcome that is reported to the desk.
 fn outcome_result(outcome: &Outcome) -> ToldResult
     ensures { result ≡ outcome_result outcome.now }
 {
@@ -25,14 +25,14 @@ fn outcome_result(outcome: &Outcome) -> ToldResult
     }
 }
 
-/// Returns the result that the desk is told where an entry decided the transaction.
+/// Returns the result that is reported to the desk where an entry decided the transaction.
 fn decided_result(effect: &Effect) -> Option<ToldResult>
     ensures { result ≡ decided_result effect.now }
 {
     Some(outcome_result(effect.outcome()?))
 }
 
-/// Returns the result of a split or a transaction that the desk is told, by whether the group was
+/// Returns the result of a split or a transaction that is reported, by whether the group was
 /// its own successor.
 fn begun_result(alone: bool, effect: &Effect, command: &Command) -> Option<ToldResult>
     ensures { result ≡ begun_result alone effect.now command.now }

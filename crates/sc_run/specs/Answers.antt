@@ -53,7 +53,7 @@ AnswersWithinBudget words source sink done = AnswersWhere IsAtBudget (λ status.
 abbrev pub AnswersCalmly : List (List ℕ) → SourceUse → SinkUse → Done → Type 0
 AnswersCalmly words source sink done = AnswersWhere IsCalmAtBudget (λ status. (status ≡ 7) ⊎ (status ≡ 8)) words source sink done
 
--- Where the words ask for a calm scenario, a run with status 0 answers every request of each client whose `go` line is followed by a line of deliveries.
+-- Where the arguments ask for a calm scenario, a run with status 0 answers every request of each client whose `go` line is followed by a line of deliveries.
 abbrev pub AnswersOnStatusZero : List (List ℕ) → SourceUse → Done → Type 0
 AnswersOnStatusZero words source done =
     (scenario : Scenario) → IsAskedFor (subcommand_by words) source scenario → IsCalm scenario → done.status ≡ 0 → AnswersAll scenario done
