@@ -27,6 +27,6 @@ returns-in_ok-lines-in-None c =
           ∙ ap (λ (read : List Base). explained as_nodes read c.as_slice-read.result.now) c.as_slice-groups.ensures
           ∙ ap (explained as_nodes c.args.scenario.now.groups) c.as_slice-read.ensures;
       journal_is = refl;
-      parties = refl;
+      parties = c.new.ensures;
       said_is = refl;
     })
