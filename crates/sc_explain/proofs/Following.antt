@@ -1,5 +1,5 @@
 -- What a call makes of what is said of the groups of the ring.
-use Rattle.std.proofs.Common.{◌≡◌, ◌⊎◌, ℕ, Bool, true, false, cond, ap₂, true≢false, List, [], ◌∷◌, ◌++◌, length, map, Option, Some, None, inl, inr, refl, sym, ◌∙◌, ap, subst, append-nil}
+use Rattle.std.proofs.Common.{◌≡◌, ◌⊎◌, ℕ, Bool, true, false, ap₂, true≢false, List, [], ◌∷◌, ◌++◌, length, map, Option, Some, None, inl, inr, refl, sym, ◌∙◌, ap, subst, append-nil}
 use Rattle.std.specs.Prelude.{if◌then◌else◌}
 use Rattle.std.specs.FinMap.{entries}
 use Rattle.std.specs.List.{flat_map}
@@ -22,7 +22,7 @@ use Rattle.sc_cmd.specs.declared.votes.Outcome.{Outcome}
 use Rattle.sc_facts.specs.Facts.{ring_group_of}
 use Rattle.sc_facts.specs.declared.facts.RingGroup.{RingGroup}
 use Rattle.sc_law_entries.proofs.HistoryProofs.Found.{found_now, found_still}
-use Rattle.sc_ideal.specs.IdealStore.{after, reply_of}
+use Rattle.sc_ideal.specs.IdealStore.{reply_of}
 use Rattle.sc_log_entries.specs.declared.Cut.{Cut}
 use Rattle.sc_log_entries.specs.declared.LogEntry.{LogEntry}
 use Rattle.sc_log_entries.specs.declared.Transaction.{Transaction}

@@ -1,5 +1,5 @@
 -- The lines of a row, one kind of fact after another.
-use Rattle.std.proofs.Common.{◌≡◌, ℕ, List, [], ◌∷◌, ◌++◌, length, map, drop, ◌∙◌, ap, append_assoc}
+use Rattle.std.proofs.Common.{◌≡◌, ℕ, List, ◌++◌, length, map, drop, ◌∙◌, ap, append_assoc}
 use Rattle.sc_facts.specs.Facts.{history_line, record_line, ring_group_line}
 use Rattle.sc_facts.specs.Sameness.{same_record, same_ring_group}
 use Rattle.sc_facts.specs.declared.facts.GroupRecord.{GroupRecord}

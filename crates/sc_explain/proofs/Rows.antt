@@ -1,13 +1,9 @@
 -- The lines of rows, by the rows that decide entries.
-use Rattle.std.proofs.Common.{◌≡◌, ℕ, ◌+◌, Bool, true, false, List, [], ◌∷◌, ◌++◌, length, map, drop, refl, sym, ◌∙◌, ap, ap₂, subst, append_assoc, append-nil}
+use Rattle.std.proofs.Common.{◌≡◌, ℕ, ◌+◌, List, [], ◌∷◌, ◌++◌, length, map, drop, refl, ◌∙◌, ap, ap₂, append-nil}
 use Rattle.std.specs.List.{flat_map}
 use Rattle.std.proofs.lemmas.Bool.{cond-true}
 use Rattle.std.proofs.lemmas.Grind.{flat_map-append}
 use Rattle.sc_actor.specs.declared.rows.Row.{Row}
-use Rattle.sc_base.proofs.NameLemmas.{same_name}
-use Rattle.sc_base.specs.Arc.{Arc}
-use Rattle.sc_base.specs.Same.{same_draw}
-use Rattle.sc_base.specs.declared.names.Draw.{Draw}
 use Rattle.sc_cmd.specs.declared.cores.Base.{Base}
 use Rattle.sc_cmd.specs.declared.orders.OrderLine.{OrderLine}
 use Rattle.sc_decided.specs.Deciding.{deciding_from, with_entries}
@@ -15,7 +11,6 @@ use Rattle.sc_decided.specs.declared.deciding.DecidingRow.{DecidingRow}
 use Rattle.sc_facts.proofs.Itself.{record_itself, ring_group_itself, ring_itself}
 use Rattle.sc_facts.specs.Facts.{history_line, record_line, ring_group_line, ring_line}
 use Rattle.sc_facts.specs.Sameness.{same_record, same_ring, same_ring_group}
-use Rattle.sc_log_entries.specs.declared.Cut.{Cut}
 use Rattle.sc_log_entries.specs.declared.LogEntry.{LogEntry}
 use Rattle.sc_log_entries.specs.Worlds.{StoreWorld, world_after}
 use Rattle.sc_mail.specs.declared.bodies.Mail.{Mail}

@@ -1,4 +1,4 @@
-use Rattle.std.proofs.Common.{◌≡◌, ◌++◌, ◌∙◌, [], List, sym, ap, subst}
+use Rattle.std.proofs.Common.{◌++◌, ◌∙◌, [], List, sym, ap, subst}
 use Rattle.std.specs.List.{flat_map}
 use Rattle.sc_decided.specs.declared.deciding.DecidingRow.{DecidingRow}
 use Rattle.sc_log_entries.specs.declared.LogEntry.{LogEntry}

@@ -1,10 +1,8 @@
-use Rattle.std.proofs.Common.{◌≡◌, List, Some, map, sym, ap, ◌∙◌}
+use Rattle.std.proofs.Common.{Some, map, sym, ap, ◌∙◌}
 use Rattle.std.proofs.lemmas.Result.{IfOk-weaker}
 use Rattle.std.proofs.lemmas.Option.{none-some, same_Some}
 use Rattle.sc_cmd.specs.declared.effects.Effect.{Effect}
 use Rattle.sc_cmd.specs.declared.effects.Effect.TheVariants.{Done}
-use Rattle.sc_facts.specs.declared.facts.RingGroup.{RingGroup}
-use Rattle.sc_log_entries.specs.Worlds.{StoreWorld, told}
 use Rattle.sc_explain.specs.Counts.{recounted}
 use Rattle.sc_explain.specs.Explained.{ring_groups_in}
 use Rattle.sc_explain.proofs.Following.{follows_done, follows_not}

@@ -1,4 +1,4 @@
-use Rattle.std.proofs.Common.{◌≡◌, ℕ, ap, ◌∙◌}
+use Rattle.std.proofs.Common.{ℕ, ap, ◌∙◌}
 use Rattle.sc_explain.proofs.RingGroups.{said_of_base}
 use Rattle.sc_explain.proofs.groups.said_by.Goals as goal
 

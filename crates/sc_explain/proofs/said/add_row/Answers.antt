@@ -1,4 +1,4 @@
-use Rattle.std.proofs.Common.{◌≡◌, ℕ, List, length, drop, ap, ◌∙◌}
+use Rattle.std.proofs.Common.{ℕ, List, length, drop, ap, ◌∙◌}
 use Rattle.std.proofs.lemmas.Result.{on_ok_weaker}
 use Rattle.sc_facts.specs.Sameness.{same_record, same_ring_group}
 use Rattle.sc_facts.specs.declared.facts.GroupRecord.{GroupRecord}

@@ -1,4 +1,4 @@
-use Rattle.std.proofs.Common.{◌≡◌, ◌++◌, ◌∷◌, [], Option, ap, ◌∙◌}
+use Rattle.std.proofs.Common.{◌++◌, ◌∷◌, [], Option, ap, ◌∙◌}
 use Rattle.std.proofs.lemmas.Result.{MatchResult-weaker}
 use Rattle.sc_cmd.specs.declared.effects.Effect.{Effect}
 use Rattle.sc_facts.specs.Facts.{entry_line}
