@@ -10,15 +10,15 @@ pub mod names;
 pub mod ring;
 
 pub use history::{
-    an_example_of_entries, an_example_of_moves, entries_that_move_tell_a_legal_history,
-    fronts_of_logs_answer_by_history, logs_tell_histories, moves_tell_histories, plans_are_moves,
-    quiet_entries_tell_a_legal_history, told_entries_tell_a_legal_history,
+    an_example_of_entries, an_example_of_moves, applied_entries_make_a_legal_history,
+    entries_that_move_make_a_legal_history, logs_make_histories, moves_make_histories,
+    plans_are_moves, prefixes_of_logs_answer_by_history, quiet_entries_make_a_legal_history,
 };
 pub use logs::{
-    a_split_decides_in_turn, allowed_entries_make_one_map, entries_are_allowed_logs,
-    entries_tell_one_map, groups_allow_others, groups_are_born_under_new_names,
-    history_is_told_by_rows, journals_in_turn_are_sound, rows_decide_for_one_group, told_rows_stay,
-    what_logs_allow_stays_allowed,
+    a_split_decides_in_turn, allowed_entries_make_one_map, deciding_rows_stay,
+    entries_are_allowed_logs, entries_make_one_map, groups_allow_others,
+    groups_are_born_under_new_names, history_is_decided_by_rows, journals_in_turn_are_sound,
+    rows_decide_for_one_group, what_logs_allow_stays_allowed,
 };
 pub use names::{
     a_journal_that_draws, counters_part_names, drawn_names_are_new, logs_name_what_was_drawn,

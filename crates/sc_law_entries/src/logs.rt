@@ -2,7 +2,7 @@
 //! entry by entry, with the groups that entries create: the bridge from decided logs to these laws.
 //! Of mail it uses only what a decided log is. Definitions and laws; no code that runs.
 ghost use Rattle.sc_law_entries.specs.logs.Example.{ExampleInTurn};
-ghost use Rattle.sc_law_entries.specs.logs.Laws.{AllowedStaysAllowed, EntriesAreAllowed, EntriesAreLogs, EntriesTellOneMap, FrontsAllow, GroupsAllowOthers, GroupsAreFound, GroupsAreOldOrNew, HistoryIsTold, JournalsInTurnAreSound, RowsDecideForOne, RowsGoOn, StatesAllow, ToldRowsStay};
+ghost use Rattle.sc_law_entries.specs.logs.Laws.{AllowedStaysAllowed, EntriesAreAllowed, EntriesAreLogs, EntriesMakeOneMap, PrefixesAllow, GroupsAllowOthers, GroupsAreFound, GroupsAreOldOrNew, HistoryIsDecided, JournalsInTurnAreSound, RowsDecideForOne, RowsGoOn, StatesAllow, DecidingRowsStay};
 ghost use Rattle.sc_law_entries.specs.logs.OneMap.{AllowedEntriesMakeOneMap};
 
 /// Shows that after every list of allowed entries, from groups in place that hold nothing, the ring
@@ -43,7 +43,7 @@ pub fn entries_are_allowed_logs()
 /// from then on, whichever groups have learned of it.
 pub fn what_logs_allow_stays_allowed()
     ensures stays { AllowedStaysAllowed }
-    ensures fronts { FrontsAllow }
+    ensures prefixes { PrefixesAllow }
     ensures states { StatesAllow }
 {}
 
@@ -58,22 +58,22 @@ pub fn groups_allow_others()
 /// group that serves a key is that of its range, the history is legal, and the map after it, on
 /// each range, is the pairs of the range's group. What a group's log made it note, after each
 /// prefix of it, has its entry in the history.
-pub fn entries_tell_one_map()
-    ensures { EntriesTellOneMap }
+pub fn entries_make_one_map()
+    ensures { EntriesMakeOneMap }
 {
     allowed_entries_make_one_map();
 }
 
 /// Shows that each entry of the history is decided by one row, as a call in the log of a group that
 /// was there before the row.
-pub fn history_is_told_by_rows()
-    ensures { HistoryIsTold }
+pub fn history_is_decided_by_rows()
+    ensures { HistoryIsDecided }
 {}
 
 /// Shows that with more rows the groups stay, their logs, the entries and the history go on, and
 /// each entry of the history is decided by the same row.
-pub fn told_rows_stay()
-    ensures { ToldRowsStay }
+pub fn deciding_rows_stay()
+    ensures { DecidingRowsStay }
 {}
 
 /// Shows that a journal whose rows decide in turn is sound, whatever its groups order, split and

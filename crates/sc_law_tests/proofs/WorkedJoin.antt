@@ -19,8 +19,8 @@ use Rattle.sc_sound.specs.Example.{alone, put_it, get_it, ballot, mail, row}
 use Rattle.sc_sound.specs.Players.{system_of, schedule, as_nodes, route_of}
 use Rattle.sc_sound.specs.Requests.{kept_replies}
 use Rattle.sc_live_plain.specs.Budget.{AreAnswered}
-use Rattle.sc_live_plain.specs.Calm.{IsCalmAtBudget}
-use Rattle.sc_live_plain.proofs.Worked.{asks, calm_at_budget, lines_of, ordered}
+use Rattle.sc_live_plain.specs.CalmBudget.{IsCalmAtBudget}
+use Rattle.sc_live_plain.proofs.ExampleBudget.{asks, calm_at_budget, lines_of, ordered}
 
 -- node 2 is ordered to join
 abbrev join_it : OrderLine

@@ -3,14 +3,14 @@
 use sc_law_entries::{
     a_journal_that_draws, a_split_decides_in_turn, allowed_entries_make_one_map,
     allowed_entries_stay_allowed, allowed_lists_append, an_example_of_entries, an_example_of_moves,
-    counters_part_names, drawn_names_are_new, draws_are_of_one_log, entries_are_allowed_logs,
-    entries_keep_the_promises, entries_keep_the_ring, entries_tell_one_map,
-    entries_that_move_tell_a_legal_history, fronts_of_logs_answer_by_history, groups_allow_others,
-    groups_are_born_under_new_names, history_is_told_by_rows, journals_in_turn_are_sound,
-    logs_name_what_was_drawn, logs_tell_histories, merge_is_allowed, moves_tell_histories,
-    names_have_one_owner, orders_are_allowed, plans_are_moves, quiet_entries_tell_a_legal_history,
-    rows_decide_for_one_group, split_is_allowed, told_entries_tell_a_legal_history, told_rows_stay,
-    what_logs_allow_stays_allowed,
+    applied_entries_make_a_legal_history, counters_part_names, deciding_rows_stay,
+    drawn_names_are_new, draws_are_of_one_log, entries_are_allowed_logs, entries_keep_the_promises,
+    entries_keep_the_ring, entries_make_one_map, entries_that_move_make_a_legal_history,
+    groups_allow_others, groups_are_born_under_new_names, history_is_decided_by_rows,
+    journals_in_turn_are_sound, logs_make_histories, logs_name_what_was_drawn, merge_is_allowed,
+    moves_make_histories, names_have_one_owner, orders_are_allowed, plans_are_moves,
+    prefixes_of_logs_answer_by_history, quiet_entries_make_a_legal_history,
+    rows_decide_for_one_group, split_is_allowed, what_logs_allow_stays_allowed,
 };
 use sc_law_groups::{
     a_join_is_sound, a_journal_of_two_groups, a_journal_with_a_join, a_journal_with_a_split,
@@ -44,17 +44,17 @@ fn the_laws_of_paxos_are_of_any_value() {
 
 #[test]
 fn the_law_of_a_log_is_called() {
-    logs_tell_histories();
+    logs_make_histories();
 }
 
 #[test]
 fn the_laws_of_what_groups_hold_are_called() {
-    moves_tell_histories();
+    moves_make_histories();
     plans_are_moves();
-    quiet_entries_tell_a_legal_history();
-    entries_that_move_tell_a_legal_history();
-    told_entries_tell_a_legal_history();
-    fronts_of_logs_answer_by_history();
+    quiet_entries_make_a_legal_history();
+    entries_that_move_make_a_legal_history();
+    applied_entries_make_a_legal_history();
+    prefixes_of_logs_answer_by_history();
     an_example_of_moves();
     an_example_of_entries();
 }
@@ -84,9 +84,9 @@ fn the_laws_of_journals_with_births_are_called() {
     entries_are_allowed_logs();
     what_logs_allow_stays_allowed();
     groups_allow_others();
-    entries_tell_one_map();
-    history_is_told_by_rows();
-    told_rows_stay();
+    entries_make_one_map();
+    history_is_decided_by_rows();
+    deciding_rows_stay();
     journals_in_turn_are_sound();
     a_split_decides_in_turn();
 }

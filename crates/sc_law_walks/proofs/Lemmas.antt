@@ -7,6 +7,6 @@ pub use Rattle.sc_law_walks.proofs.Ways.{either_way, either_assoc, either_none}
 pub use Rattle.sc_law_walks.proofs.Counts.{promise_ballot, counted_ballot}
 pub use Rattle.sc_law_walks.proofs.Queues.{back_any}
 pub use Rattle.sc_law_walks.proofs.Walks.{Facts, States, Mails, Walk, Births, Sends, AreSaid, Hears, hears_all, IsReported, ended_replica, Ticks, LateAt}
-pub use Rattle.sc_law_walks.proofs.WalkRows.{bears}
+pub use Rattle.sc_law_walks.proofs.WalkRows.{creation}
 pub use Rattle.sc_law_walks.proofs.WalkNodes.{GivenAny, any_step}
 pub use Rattle.sc_law_walks.proofs.StateWalks.{StateParts, state_walk, state_births, state_ticks, state_hears, StateBirths}

@@ -13,7 +13,7 @@ use Rattle.sc_law_walks.proofs.Ways.{either_way}
 use Rattle.sc_law_walks.proofs.Places.{landed_place}
 use Rattle.sc_law_walks.proofs.Queues.{turned_sets, back_kept, back_runs}
 use Rattle.sc_law_walks.proofs.PlaceWalks.{Talk, grows, entered_place}
-use Rattle.sc_law_walks.proofs.Talks.{others_sent, client_told, desk_told, spoken_said}
+use Rattle.sc_law_walks.proofs.Talks.{others_sent, client_reported, desk_reported, spoken_said}
 
 -- That each part of an entry keeps P, where the commands at slots are as Entry says.
 pub record EntryParts (me : ℕ) (P : Place → Type 0) (Entry : ℕ → Command → Type 0) : Type 0 where
@@ -63,7 +63,7 @@ module _ (me : ℕ) (P : Place → Type 0) (Entry : ℕ → Command → Type 0) 
 
   call_at : (answer : Option AnswerBody) (command : Command) (place : Place) → b ≡ true → At place → At (told_call answer command place)
   unfolding told_call
-  call_at (Some answer) (Call client seq op) (r, mails) on k = (k.0, client_told r.me (λ ms. P (r, ms)) (p.talks r k.0.0) client (name_of r) seq answer mails k.1, k.2)
+  call_at (Some answer) (Call client seq op) (r, mails) on k = (k.0, client_reported r.me (λ ms. P (r, ms)) (p.talks r k.0.0) client (name_of r) seq answer mails k.1, k.2)
   call_at None (Call client seq op) place on k = back_at (Call client seq op) place on k
   call_at (Some answer) _ place on k = k
   call_at None _ place on k = k
@@ -71,7 +71,7 @@ module _ (me : ℕ) (P : Place → Type 0) (Entry : ℕ → Command → Type 0) 
   effect_at : (result : Option ToldResult) (command : Command) (place : Place) → At place → At (told_effect result command place)
   unfolding told_effect
   effect_at None command place k = k
-  effect_at (Some result) command (r, mails) k = (k.0, desk_told r.me (λ ms. P (r, ms)) (p.talks r k.0.0) (order_number command) result mails k.1, k.2)
+  effect_at (Some result) command (r, mails) k = (k.0, desk_reported r.me (λ ms. P (r, ms)) (p.talks r k.0.0) (order_number command) result mails k.1, k.2)
 
   announced_at : (counted : Bool) (effect : Effect) (command : Command) (place : Place) → (counted ≡ true → b ≡ true) → At place → At (announced counted effect command place)
   unfolding announced

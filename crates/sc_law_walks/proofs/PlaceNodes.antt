@@ -11,7 +11,7 @@ use Rattle.sc_node_table.specs.Definitions.{sent, NodeState, replica_of, with_re
 use Rattle.sc_law_walks.proofs.Ways.{either_way}
 use Rattle.sc_law_walks.proofs.PlaceWalks.{PlaceWalk, PlaceBirths, PlaceTicks, Before, After, Hears}
 use Rattle.sc_law_walks.proofs.PlaceParts.{on_late}
-use Rattle.sc_law_walks.proofs.PlaceRows.{takes_mail, orders, bears, makes}
+use Rattle.sc_law_walks.proofs.PlaceRows.{takes_mail, orders, creation, makes}
 use Rattle.sc_law_walks.proofs.PlaceTicks.{ticks}
 use Rattle.sc_law_walks.proofs.MailsGrow.{Begins, begins_itself, tick_grows}
 
@@ -92,7 +92,7 @@ module _ (w : PlaceWalk) (b : PlaceBirths w.facts) where
 
   child_step : (child : Base) (mails : List Mail) (node : NodeState) → b.Rest mails → Stands mails node → Stands mails (with_born child node)
   child_step child mails node rest k =
-      let born = bears w b child in
+      let born = creation w b child in
       let beside : After w.facts (born_replica slots_ahead w.facts.me child, mails) = (born.0, b.beside (born_replica slots_ahead w.facts.me child) [] mails rest born.1) in
       either_way (Stands mails) (is_some (replica_of child.core.id node.replicas)) node (record node { replicas = with_new (born_replica slots_ahead node.me child) node.replicas }) k
       (k.0, new_late (born_replica slots_ahead node.me child) mails node.replicas (subst (λ m. After w.facts (born_replica slots_ahead m child, mails)) (sym k.0) beside) k.1)

@@ -130,9 +130,9 @@ module _ (w : PlaceWalk) where
   pub leader_ends : (hint : Option ℕ) (answer : AnswerBody) (place : Place) → place.0.running ≡ true → Before w.facts place → Before w.facts (ended hint answer place)
   leader_ends hint answer (r, mails) on k = (ended_kept hint answer r mails k.0, w.states.ended hint answer r mails k.0 on k.1)
 
-  pub elects : (place : Place) → Before w.facts place → After w.facts (elected place)
+  pub self_election : (place : Place) → Before w.facts place → After w.facts (elected place)
   unfolding elected
-  elects (r, mails) k = either_way (After w.facts) (eqb r.top.round (2 ^ 32 - 1)) _ _ (on_late (r, mails) k) ((k.0.0, k.0.1, (λ off. absurd (true≢false off), k.0.2.1, k.0.2.2)), w.states.elected r mails k.0 k.1)
+  self_election (r, mails) k = either_way (After w.facts) (eqb r.top.round (2 ^ 32 - 1)) _ _ (on_late (r, mails) k) ((k.0.0, k.0.1, (λ off. absurd (true≢false off), k.0.2.1, k.0.2.2)), w.states.elected r mails k.0 k.1)
 
   pub sees_ballot : (ballot : Ballot) (place : Place) → w.facts.Round ballot → Before w.facts place → Before w.facts (saw ballot place)
   unfolding saw
@@ -174,7 +174,7 @@ module _ (w : PlaceWalk) where
   looks_by (Some into) place off k = on_late place k
   looks_by None (r, mails) off k =
       either_way (After w.facts) (is_among (members r) r.hint) (r, mails) _ (on_late (r, mails) k)
-      (either_way (After w.facts) (eqb (least_of (members r)) r.me) (elected (record r { hint = Some r.me }, mails)) (record r { hint = Some (least_of (members r)) }, mails) (elects (record r { hint = Some r.me }, mails) (hinted_at (Some r.me) r mails off k))
+      (either_way (After w.facts) (eqb (least_of (members r)) r.me) (elected (record r { hint = Some r.me }, mails)) (record r { hint = Some (least_of (members r)) }, mails) (self_election (record r { hint = Some r.me }, mails) (hinted_at (Some r.me) r mails off k))
       (on_late (record r { hint = Some (least_of (members r)) }, mails) (hinted_at (Some (least_of (members r))) r mails off k)))
 
   pub looks : (place : Place) → Before w.facts place → After w.facts (looked place)
@@ -224,5 +224,5 @@ module _ (w : PlaceWalk) where
       let after : Place = executed_one counted command place in
       pumps (all_ready after).0 (ready_executed after.0.ready after (entry_goes counted command place k))
 
-  pub executes : (counted : Bool) (command : Command) (place : Place) → MayEnter counted command place.0 → Before w.facts place → AfterAll w.facts (executed counted command place)
-  executes counted command (r, mails) may k = goes_on counted command (r, mails) (entry_by counted command r mails may k)
+  pub execution : (counted : Bool) (command : Command) (place : Place) → MayEnter counted command place.0 → Before w.facts place → AfterAll w.facts (executed counted command place)
+  execution counted command (r, mails) may k = goes_on counted command (r, mails) (entry_by counted command r mails may k)

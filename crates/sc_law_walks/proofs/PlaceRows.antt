@@ -17,8 +17,8 @@ use Rattle.sc_law_walks.proofs.Places.{promised_place, asked_place}
 use Rattle.sc_law_walks.proofs.Ways.{either_way}
 use Rattle.sc_law_walks.specs.Definitions.{IsFiled, IsAsked, IsOrder, IsKept}
 use Rattle.sc_law_walks.proofs.Queues.{without_asked, waiting, one_asked, order_is_asked}
-use Rattle.sc_law_walks.proofs.Talks.{client_told, vote_told, watch_told, outcome_said, next_one_asked}
-use Rattle.sc_law_walks.proofs.PlaceParts.{on_late, hinted_at, seen_top, pumps, acts_pump, leader_ends, sees_ballot, state_sent, looks, executes}
+use Rattle.sc_law_walks.proofs.Talks.{client_reported, vote_reported, watch_reported, outcome_said, next_one_asked}
+use Rattle.sc_law_walks.proofs.PlaceParts.{on_late, hinted_at, seen_top, pumps, acts_pump, leader_ends, sees_ballot, state_sent, looks, execution}
 use Rattle.sc_law_walks.proofs.PlaceWalks.{PlaceWalk, PlaceBirths, Talk, IsReported, Before, After, AfterAll, Hears}
 
 -- an order is that of a command
@@ -68,7 +68,7 @@ module _ (w : PlaceWalk) where
 
   requests_by : (o : Option AnswerBody) (client seq : ℕ) (op : Op) (place : Place) → refused_at place.0.group.core.gone op place.0 ≡ o → Before w.facts place → After w.facts (requested o client seq op place)
   unfolding requested
-  requests_by (Some answer) client seq op (r, mails) e k = talked r mails (answer_to r.me (name_of r) client seq answer mails) (λ t m. client_told r.me (λ ms. w.facts.Early (r, ms)) t client (name_of r) seq answer mails m) k
+  requests_by (Some answer) client seq op (r, mails) e k = talked r mails (answer_to r.me (name_of r) client seq answer mails) (λ t m. client_reported r.me (λ ms. w.facts.Early (r, ms)) t client (name_of r) seq answer mails m) k
   requests_by None client seq op (r, mails) e k = queues (call_of r.calls client) client seq op (r, mails) refl (taken_runs r.group.core.gone r.group.core r.running r.hint op e) k
 
   requests : (client seq : ℕ) (op : Op) (place : Place) → Before w.facts place → After w.facts (request_row client seq op place)
@@ -133,7 +133,7 @@ module _ (w : PlaceWalk) where
       let after : ReplicaState = record r { ready = with_slot r.ready slot command } in
       cond_both (eqb slot (next r) && has_room r) (executed true command (after, mails)) (childless (after, mails)) (AfterAll w.facts)
       (λ t. (let same = eqb-true slot (next r) (and_parts (eqb slot (next r)) (has_room r) t).0 in
-      executes w true command (after, mails) (on, subst (λ s. at_slot (with_slot r.ready slot command) s ≡ Some command) same (put_there r.ready slot command), subst (λ s. w.facts.Entry s command) same low) k)) (λ _. on_late w (after, mails) k)
+      execution w true command (after, mails) (on, subst (λ s. at_slot (with_slot r.ready slot command) s ≡ Some command) same (put_there r.ready slot command), subst (λ s. w.facts.Entry s command) same low) k)) (λ _. on_late w (after, mails) k)
 
   tallies : (slot : ℕ) (p : Counted Command × LeaderState Command) (place : Place) → place.0.running ≡ true → ((command : Command) → p.0 ≡ Chosen command → w.facts.Entry slot command × w.facts.Early (record place.0 { leader = p.1; ready = with_slot place.0.ready slot command }, place.1))
       → ((count : ℕ) → p.0 ≡ NotYet count → w.facts.Early (record place.0 { leader = p.1 }, place.1)) → IsKept w.facts.me (record place.0 { leader = p.1 }) → AfterAll w.facts (vote_tallied slot p place)
@@ -162,7 +162,7 @@ module _ (w : PlaceWalk) where
       let l : After w.facts (r, mails) = on_late w (r, mails) k in
       either_way (AfterAll w.facts) (nat_lt last_slot slot) _ _ l
       (cond_both (eqb slot (next r)) (executed false command (r, mails)) _ (AfterAll w.facts)
-      (λ t. executes w false command (r, mails) (subst (λ s. w.facts.Learnt s command) (eqb-true slot (next r) t) low) k)
+      (λ t. execution w false command (r, mails) (subst (λ s. w.facts.Learnt s command) (eqb-true slot (next r) t) low) k)
       (λ _. cond_both (nat_lt (next r) slot) (childless (r, sent r.me from (Ask (name_of r) (next r)) mails)) (childless (r, mails)) (AfterAll w.facts)
       (λ t. on_late w (r, sent r.me from (Ask (name_of r) (next r)) mails) (k.0, w.says.wants from slot r mails k.0.0 behind (ltb-true (next r) slot t) k.1)) (λ _. l)))
 
@@ -234,7 +234,7 @@ module _ (w : PlaceWalk) where
   sent_on node tx coord (r, mails) k = talked r mails (sent r.me node (TxElsewhere tx coord r.hint) mails) (λ t m. t.sends_on node tx coord r.hint mails m) k
 
   offers_by : (o : Option Past) (from : ℕ) (tx : Draw) (offer : Offer) (place : Place) → Before w.facts place → After w.facts (offered_by o from tx offer place)
-  offers_by (Some vote) from tx offer (r, mails) k = talked r mails _ (λ t m. vote_told r.me (λ ms. w.facts.Early (r, ms)) t r.group from tx offer vote mails m) k
+  offers_by (Some vote) from tx offer (r, mails) k = talked r mails _ (λ t m. vote_reported r.me (λ ms. w.facts.Early (r, ms)) t r.group from tx offer vote mails m) k
   offers_by None from tx offer (r, mails) k =
       cond_both r.running (act_queued (PreparedAct tx offer) (r, mails)) (sent_elsewhere from tx offer.coord (r, mails)) (After w.facts) (λ t. acts_pump w (PreparedAct tx offer) (r, mails) tt t k) (λ _. sent_on from tx offer.coord (r, mails) k)
 
@@ -243,7 +243,7 @@ module _ (w : PlaceWalk) where
   offers from tx offer (r, mails) k = offers_by (standing_vote r.group.core tx) from tx offer (r, mails) k
 
   watches_by : (o : Option Past) (from : ℕ) (tx : Draw) (watch : Watch) (place : Place) → Before w.facts place → After w.facts (watched_by o from tx watch place)
-  watches_by (Some vote) from tx watch (r, mails) k = talked r mails _ (λ t m. watch_told r.me (λ ms. w.facts.Early (r, ms)) t from tx watch vote mails m) k
+  watches_by (Some vote) from tx watch (r, mails) k = talked r mails _ (λ t m. watch_reported r.me (λ ms. w.facts.Early (r, ms)) t from tx watch vote mails m) k
   watches_by None from tx watch (r, mails) k =
       cond_both r.running (act_queued (Watched tx watch) (r, mails)) (sent_elsewhere from tx watch.coord (r, mails)) (After w.facts) (λ t. acts_pump w (Watched tx watch) (r, mails) tt t k) (λ _. sent_on from tx watch.coord (r, mails) k)
 
@@ -323,8 +323,8 @@ module _ (w : PlaceWalk) where
 
   -- ---- births, and a replica that is made of a state
 
-  pub bears : PlaceBirths w.facts → (base : Base) → After w.facts (born_replica slots_ahead w.facts.me base, [])
-  bears b base = ((refl, refl, (λ off. (refl, refl, refl), tt, tt)), b.born base)
+  pub creation : PlaceBirths w.facts → (base : Base) → After w.facts (born_replica slots_ahead w.facts.me base, [])
+  creation b base = ((refl, refl, (λ off. (refl, refl, refl), tt, tt)), b.born base)
 
   makes_of : PlaceBirths w.facts → (slot : ℕ) (base : Base) (sets : List (List ℕ)) → length sets ≡ slots_ahead → w.facts.State slot base → Before w.facts (installed_replica w.facts.me slot base sets, [])
   unfolding forgotten

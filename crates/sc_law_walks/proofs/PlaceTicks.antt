@@ -11,7 +11,7 @@ use Rattle.sc_law_walks.proofs.Ways.{either_way}
 use Rattle.sc_law_walks.proofs.Queues.{waiting, one_asked, order_is_asked}
 use Rattle.sc_law_walks.proofs.PlaceWalks.{PlaceWalk, PlaceTicks, Before, After}
 use Rattle.sc_law_walks.proofs.Talks.{all_sent, others_sent, all_reminded}
-use Rattle.sc_law_walks.proofs.PlaceParts.{on_late, pumps, act_waits, elects}
+use Rattle.sc_law_walks.proofs.PlaceParts.{on_late, pumps, act_waits, self_election}
 use Rattle.sc_law_walks.proofs.PlaceRows.{order_asked}
 
 not_so : (b : Bool) → not b ≡ false → b ≡ true
@@ -80,7 +80,7 @@ module _ (w : PlaceWalk) (t : PlaceTicks w.facts) where
   ticks on drawer (r, mails) k =
       let l : After w.facts (r, mails) = on_late w (r, mails) k in
       either_way (After w.facts) (is_some r.group.core.gone || not (is_member (members r) r.me)) (r, mails) _ l
-      (cond_both (not (settled r)) (elected (r, mails)) _ (After w.facts) (λ _. elects w (r, mails) k)
+      (cond_both (not (settled r)) (elected (r, mails)) _ (After w.facts) (λ _. self_election w (r, mails) k)
       (λ f. (
       let runs : Runs (r, mails) = (l, (and_parts r.running (may_offer r (first_set r.sets)) (not_so (settled r) f)).0) in
       either_way (After w.facts) (is_idle r) _ _ (settled_ticks on drawer r (told_last (entry_at (next r - 1) r.log) r mails) (last_said (entry_at (next r - 1) r.log) r mails refl runs))

@@ -29,16 +29,16 @@ module _ (me : ℕ) (Q : List Mail → Type 0) (body : MailBody) (puts : (to : �
 module _ (me : ℕ) (Q : List Mail → Type 0) (t : Talk me Q) where
   -- ---- clients and the desk
 
-  pub desk_told : (number : ℕ) (result : ToldResult) (mails : List Mail) → Q mails → Q (told_order me number result mails)
+  pub desk_reported : (number : ℕ) (result : ToldResult) (mails : List Mail) → Q mails → Q (told_order me number result mails)
   unfolding told_order
-  desk_told number result mails m = either_way Q (is_told number) (told_desk me number result mails) mails (t.tells number result mails m) m
+  desk_reported number result mails m = either_way Q (is_told number) (told_desk me number result mails) mails (t.tells number result mails m) m
 
-  pub client_told : (client : ℕ) (group : Draw) (seq : ℕ) (answer : AnswerBody) (mails : List Mail) → Q mails → Q (answer_to me group client seq answer mails)
-  client_told client group seq answer mails m = t.answers client group seq answer mails m
+  pub client_reported : (client : ℕ) (group : Draw) (seq : ℕ) (answer : AnswerBody) (mails : List Mail) → Q mails → Q (answer_to me group client seq answer mails)
+  client_reported client group seq answer mails m = t.answers client group seq answer mails m
 
   pub one_answered : (group : Draw) (answer : AnswerBody) (command : Command) (mails : List Mail) → Q mails → Q (answered me group answer command mails)
   unfolding answered
-  one_answered group answer (Call client seq op) mails m = client_told client group seq answer mails m
+  one_answered group answer (Call client seq op) mails m = client_reported client group seq answer mails m
   one_answered group answer _ mails m = m
 
   pub all_answered : (group : Draw) (answer : AnswerBody) (commands : List Command) (mails : List Mail) → Q mails → Q (answered_all me group answer commands mails)
@@ -48,8 +48,8 @@ module _ (me : ℕ) (Q : List Mail → Type 0) (t : Talk me Q) where
 
   one_dismissed : (group : Draw) (hint : Option ℕ) (answer : AnswerBody) (command : Command) (mails : List Mail) → Q mails → Q (dismissed me group hint answer command mails)
   unfolding dismissed
-  one_dismissed group hint answer (Call client seq op) mails m = client_told client group seq answer mails m
-  one_dismissed group hint answer _ mails m = desk_told _ _ mails m
+  one_dismissed group hint answer (Call client seq op) mails m = client_reported client group seq answer mails m
+  one_dismissed group hint answer _ mails m = desk_reported _ _ mails m
 
   pub all_dismissed : (group : Draw) (hint : Option ℕ) (answer : AnswerBody) (commands : List Command) (mails : List Mail) → Q mails → Q (dismissed_all me group hint answer commands mails)
   unfolding dismissed_all
@@ -90,23 +90,23 @@ module _ (me : ℕ) (Q : List Mail → Type 0) (t : Talk me Q) where
       let to : ℕ = least_of core.succ.members in
       either_way Q (is_changed effect) (sent me to (TxPrepare tx (offer_of me core body)) mails) mails (t.offers to tx (offer_of me core body) mails refl m) m
 
-  pub vote_told : (group : Group) (node : ℕ) (tx : Draw) (offer : Offer) (vote : Past) (mails : List Mail) → Q mails → Q (voted_to me group node tx offer vote mails)
-  vote_told group node tx offer Cast.Yes mails m = t.casts node tx offer.coord offer.part (Says.Yes (frozen_of group)) mails m
-  vote_told group node tx offer (Cast.No why) mails m = t.casts node tx offer.coord offer.part (Says.No why) mails m
-  vote_told group node tx offer Cast.Ended mails m = m
+  pub vote_reported : (group : Group) (node : ℕ) (tx : Draw) (offer : Offer) (vote : Past) (mails : List Mail) → Q mails → Q (voted_to me group node tx offer vote mails)
+  vote_reported group node tx offer Cast.Yes mails m = t.casts node tx offer.coord offer.part (Says.Yes (frozen_of group)) mails m
+  vote_reported group node tx offer (Cast.No why) mails m = t.casts node tx offer.coord offer.part (Says.No why) mails m
+  vote_reported group node tx offer Cast.Ended mails m = m
 
-  pub watch_told : (node : ℕ) (tx : Draw) (watch : Watch) (vote : Past) (mails : List Mail) → Q mails → Q (watched_to me node tx watch vote mails)
-  watch_told node tx watch Cast.Yes mails m = t.sees node tx watch.coord watch.part Cast.Yes mails m
-  watch_told node tx watch (Cast.No why) mails m = t.sees node tx watch.coord watch.part (Cast.No why) mails m
-  watch_told node tx watch Cast.Ended mails m = m
+  pub watch_reported : (node : ℕ) (tx : Draw) (watch : Watch) (vote : Past) (mails : List Mail) → Q mails → Q (watched_to me node tx watch vote mails)
+  watch_reported node tx watch Cast.Yes mails m = t.sees node tx watch.coord watch.part Cast.Yes mails m
+  watch_reported node tx watch (Cast.No why) mails m = t.sees node tx watch.coord watch.part (Cast.No why) mails m
+  watch_reported node tx watch Cast.Ended mails m = m
 
   vote_said : (o : Option Past) (group : Group) (tx : Draw) (offer : Offer) (mails : List Mail) → Q mails → Q (vote_sent o me group tx offer mails)
   vote_said None group tx offer mails m = m
-  vote_said (Some vote) group tx offer mails m = vote_told group offer.by tx offer vote mails m
+  vote_said (Some vote) group tx offer mails m = vote_reported group offer.by tx offer vote mails m
 
   watch_said : (o : Option Past) (tx : Draw) (watch : Watch) (mails : List Mail) → Q mails → Q (watch_sent o me tx watch mails)
   watch_said None tx watch mails m = m
-  watch_said (Some vote) tx watch mails m = watch_told watch.by tx watch vote mails m
+  watch_said (Some vote) tx watch mails m = watch_reported watch.by tx watch vote mails m
 
   aborted_said : (tx : Draw) (link : Link) (mails : List Mail) → Q mails → Q (aborted_to me tx link mails)
   aborted_said tx link mails m = all_sent me Q (TxOutcome tx link.group Is.Abort) (λ to ms q. t.ends to tx link.group Is.Abort ms q) link.members mails m
@@ -154,7 +154,7 @@ module _ (me : ℕ) (Q : List Mail → Type 0) (t : Talk me Q) where
     where
       by : (o : Option ToldResult) → Q (told_result me o (spoken_number before.order command) mails)
       by None = m
-      by (Some result) = desk_told (spoken_number before.order command) result mails m
+      by (Some result) = desk_reported (spoken_number before.order command) result mails m
 
   -- who is bound in a transaction asks again, or says its vote again
   pub all_reminded : (lock : Lock) (group : Group) (mails : List Mail) → Q mails → Q (reminders lock me group mails)

@@ -5,8 +5,8 @@ use Rattle.sc_law_walks.proofs.WalkPlaces.{place_walk, to_place, from_place}
 use Rattle.sc_law_walks.proofs.Walks.{Walk, Before, After}
 
 module _ (w : Walk) where
-  pub elects : (place : Place) → Before w place → After w (elected place)
-  elects place k = from_place w (elected place) (places.elects (place_walk w) place (to_place w place k))
+  pub self_election : (place : Place) → Before w place → After w (elected place)
+  self_election place k = from_place w (elected place) (places.self_election (place_walk w) place (to_place w place k))
 
   pub looks : (place : Place) → Before w place → After w (looked place)
   looks place k = from_place w (looked place) (places.looks (place_walk w) place (to_place w place k))

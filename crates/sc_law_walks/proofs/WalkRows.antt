@@ -17,8 +17,8 @@ module _ (w : Walk) where
   pub looks_up : (from : ℕ) (place : Place) → place.0.running ≡ false → Before w place → After w (looked_up from place)
   looks_up from place off k = from_place w (looked_up from place) (places.looks_up (place_walk w) from place off (to_place w place k))
 
-  pub bears : Births w.facts → (base : Base) → LateAt w (born_replica slots_ahead w.facts.me base)
-  bears b base = (let born = places.bears (place_walk w) (place_births w b) base in (born.0, born.1.0))
+  pub creation : Births w.facts → (base : Base) → LateAt w (born_replica slots_ahead w.facts.me base)
+  creation b base = (let born = places.creation (place_walk w) (place_births w b) base in (born.0, born.1.0))
 
   pub makes : Births w.facts → (from : ℕ) (group : Draw) (slot : ℕ) (base : Base) (sets : List (List ℕ)) → length sets ≡ slots_ahead → w.facts.State slot (named group base) → After w (made_by w.facts.me from group slot base sets)
   makes b from group slot base sets many good = from_place w (made_by w.facts.me from group slot base sets) (places.makes (place_walk w) (place_births w b) from group slot base sets many good)

@@ -10,10 +10,10 @@ pub record Affair : Type 1 where
   pub Parts : Type 0
   pub Does : Draw → Command → Type 0
   pub Is : Draw → Core → Type 0
-  pub Bears : Draw → Base → Type 0
+  pub Creates : Draw → Base → Type 0
   pub calls : (name : Draw) (client seq : ℕ) (op : Op) → Does name (Call client seq op) → ⊥
   pub entered : (name : Draw) (group : Group) (command : Command) → Is name group.core → Does name command → Is name (applied group command).0.core
-  pub bears : (name : Draw) (group : Group) (command : Command) (child : Base) → Is name group.core → Does name command → child_by group command ≡ Some child → Bears name child
+  pub creation : (name : Draw) (group : Group) (command : Command) (child : Base) → Is name group.core → Does name command → child_by group command ≡ Some child → Creates name child
   pub adds : (name : Draw) (group : Group) (command : Command) → Is name group.core → Does name command
       → Parts ⊎ ((node : ℕ) → is_member (applied group command).0.core.members node ≡ true → is_member group.core.members node ≡ true)
   pub asks : (name : Draw) (core : Core) (tx : Draw) (body : Body) (order : ℕ) (heard : Option Heard) → Is name core → core.lock ≡ Coordinating tx body order heard → Parts ⊎ ((at : ℕ) × (child : Draw) × (body ≡ At.Split at child))
@@ -29,7 +29,7 @@ pub record Affair : Type 1 where
 -- an affair in which a group that is free is in such a state, and children begin free
 pub record BeginsFree (a : Affair) : Type 0 where
   pub free : (name : Draw) (core : Core) → core.lock ≡ Free → a.Is name core
-  pub young : (name : Draw) (base : Base) → a.Bears name base → base.core.lock ≡ Free
+  pub young : (name : Draw) (base : Base) → a.Creates name base → base.core.lock ≡ Free
 
 -- what a mail may say then: no client asks or is answered, an entry is one that stands, and a state, an offer and a vote of a participant come only where other groups have a part
 abbrev pub Says : Affair → MailBody → Type 0

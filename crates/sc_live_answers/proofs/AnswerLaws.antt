@@ -1,13 +1,13 @@
 -- What the budget of a calm scenario covers, and where its lines of deliveries end quiet: what is known of births, lines and orders, put together.
-use Rattle.sc_live_answers.proofs.Given.{orders_so}
+use Rattle.sc_live_answers.proofs.GivenOrders.{orders_so}
 use Rattle.sc_scenario.proofs.Lemmas.{valid_scenarios_are_bounded}
 use Rattle.sc_live_plain.proofs.Lemmas.{calm_lines_are_spaced, plain_lines_end_quiet}
-use Rattle.sc_live_answers.specs.Given.{OrdersMayBeGiven}
-use Rattle.sc_live_answers.proofs.Lines.{calm_end_quiet}
+use Rattle.sc_live_answers.specs.GivenOrders.{OrdersMayBeGiven}
+use Rattle.sc_live_answers.proofs.LineEnds.{calm_end_quiet}
 use Rattle.sc_live_steps.proofs.CalmProofs.Lemmas.{kept_calm_ends_quiet}
 use Rattle.sc_live_answers.specs.Definitions.{CalmLinesEndQuiet, QuietJournalsBegin, CalmJournalsAreShort}
-use Rattle.sc_live_answers.proofs.Begins.{journals_begin}
-use Rattle.sc_live_answers.proofs.Short.{journals_short}
+use Rattle.sc_live_answers.proofs.QuietBeginnings.{journals_begin}
+use Rattle.sc_live_answers.proofs.ShortJournals.{journals_short}
 
 -- In each lawful journal of a valid calm scenario each order that is given is one for a node of the scenario's, which names nodes and positions that there are.
 pub orders_may_be_given : OrdersMayBeGiven

@@ -7,7 +7,7 @@ use Rattle.sc_paxos_words.proofs.Lemmas.{at_least_itself}
 use Rattle.sc_node_table.specs.Definitions.{ordered_row, ReplicaState, mailed, at_slot}
 use Rattle.sc_live_journals.specs.mail.Definitions.{IsPlainlyKept}
 use Rattle.sc_live_journals.proofs.MailProofs.Lemmas.{takes_mail, orders, PartWalk, Part, next_in, IsReported, Hears}
-use Rattle.sc_live_answers.proofs.Accepting.{IsPlainMail}
+use Rattle.sc_live_answers.proofs.AcceptedReports.{IsPlainMail}
 
 abbrev pub All_ : Report Command → Type 0
 All_ report = Unit {0}

@@ -1,262 +1,262 @@
-pub mod Above
-pub mod Accepting
-pub mod Acts
+pub mod PrepareSlots
+pub mod AcceptedReports
+pub mod ActsUnderOrders
 pub mod Affairs
-mod Answered
+mod AnsweredRequests
 pub mod Arcs
-pub mod Asked
-pub mod AskedFronts
-pub mod AskedSince
+pub mod PrepareSlotRows
+pub mod KnownRestingPrefixes
+pub mod RequestPhases
 pub mod Ballots
-pub mod Bearing
-pub mod BearingLogs
-pub mod BearingRows
-mod Begins
-pub mod Begun
-pub mod Beside
-pub mod BetweenRequests
-pub mod Born
-pub mod BornAsBegun
-pub mod Borne
-mod Calls
-mod ChartRests
-mod Charted
-pub mod Children
-pub mod Chosen
-pub mod Clients
-pub mod Comers
+pub mod ReplicaChildren
+pub mod LogChildren
+pub mod ChildRows
+mod QuietBeginnings
+pub mod BegunRequests
+pub mod FollowerMail
+pub mod RequestInvariant
+pub mod ChildBeginnings
+pub mod ReplicasAtBirth
+pub mod CreatedGroups
+mod CallEffects
+mod RestingCharts
+mod ChartedScenarios
+pub mod ChildrenUnderOrders
+pub mod LogLengths
+pub mod ClientsUnderOrders
+pub mod JoiningMembers
 pub mod Cores
-mod Covered
-mod Cuts
-pub mod Cycle
-pub mod Delivering
-pub mod Desk
-pub mod Doers
-pub mod Drawn
-pub mod Elsewhere
-mod EndAll
-mod EndGroups
-mod EndStands
-pub mod Ends
-pub mod Entering
-pub mod Even
-pub mod Facts
-pub mod Fates
-pub mod FindingEnding
-pub mod FindingGroups
-pub mod FindingJournals
-pub mod FindingRows
-pub mod Finds
-mod FindsRows
-pub mod Finishes
-pub mod Fits
-pub mod Following
-pub mod FoundRows
+mod BudgetAtBirth
+mod QuietRanges
+pub mod RingCycles
+pub mod OrderDeliveries
+pub mod UnmarkedMail
+pub mod LeaderDeeds
+pub mod DrawnNames
+pub mod LeadersElsewhere
+mod LineEndReplicas
+mod LineEndGroups
+mod LineEndStandingGroups
+pub mod GroupEnds
+pub mod EntriesInFlight
+pub mod EvenReplicas
+pub mod QuietGroupReplicas
+pub mod FormerMembers
+pub mod EndingCommands
+pub mod GroupMailPremises
+pub mod JournalMailPremises
+pub mod FollowerRows
+pub mod GroupMailFacts
+mod RequestRows
+pub mod OutcomesInFlight
+pub mod FittingGroups
+pub mod ChartSequence
+pub mod OrderRowPremises
 mod Frames
-pub mod Freeing
-pub mod FrontBegins
-pub mod Fronts
-pub mod Given
-pub mod Goers
-pub mod GoersBegin
-pub mod GoersGoing
-pub mod GoingOn
-pub mod Gone
-pub mod Grants
-mod Heard
-pub mod Hinting
-pub mod Hintless
-pub mod Hints
-mod Homeward
-mod HomewardAsking
-mod HomewardErrands
-pub mod Keeping
-pub mod KeptAll
-pub mod KeptAsking
-pub mod KeptCounting
-pub mod KeptRising
-pub mod KeptSeen
-pub mod KeptTelling
-pub mod Known
-pub mod KnownBirths
-pub mod KnownBorn
-pub mod KnownFronts
-pub mod KnownGoing
-pub mod KnownGroups
-pub mod KnownHomes
-pub mod KnownLinked
-pub mod KnownMembers
-pub mod KnownReaching
-pub mod KnownTurns
-mod LawfulLines
-pub mod Leader
-pub mod Leaders
-mod LeadersAsked
-pub mod Leading
-pub mod Leads
-pub mod LedBegins
+pub mod FreeLeavers
+pub mod RestAtBirth
+pub mod Prefixes
+pub mod GivenOrders
+pub mod EndingGroups
+pub mod EndingGroupsAtStart
+pub mod EndingGroupsAfterDeliveries
+pub mod GroupEndsInPrefixes
+pub mod GoneGroups
+pub mod VoteEffects
+mod ClientAnswers
+pub mod QuestionTargets
+pub mod QuestionsAtStart
+pub mod QuestionHints
+mod ErrandReceivers
+mod RequestErrands
+mod OrderErrands
+pub mod NewGroupDeliveries
+pub mod QuietReplicaInvariants
+pub mod ChartQuestions
+pub mod CountableVotes
+pub mod ChartHints
+pub mod QuietViews
+pub mod OrderPremises
+pub mod QuietPrefixGroups
+pub mod NamedChildren
+pub mod ChildReplicas
+pub mod QuietPrefixes
+pub mod GoneGroupsInPrefixes
+pub mod QuietPrefixGroupLogs
+pub mod ReplicaNodes
+pub mod LinkEffects
+pub mod MemberNodes
+pub mod ReachableGroups
+pub mod GroupEndOrder
+mod LawfulRequestLines
+pub mod LeaderMail
+pub mod LeadersInTime
+mod AskedLeaders
+pub mod WellLedLeaders
+pub mod LeaderWork
+pub mod GroupBeginnings
 pub mod Lineage
-pub mod Lines
-mod LinesAsk
-mod LinesEnd
-mod LinesKeep
-mod LinesServe
-pub mod LinkEnds
+pub mod LineEnds
+mod RequestLineLeaders
+mod RequestLineEnds
+mod RequestLineClients
+mod RequestLineReplicas
+pub mod LinkOutcomes
 pub mod LinkEntries
-pub mod LinkFronts
-pub mod LinkWorlds
-pub mod Linking
+pub mod LinkLogs
+pub mod BoundGroups
+pub mod QuietLinks
 pub mod Lists
-pub mod Logs
-mod Lone
-pub mod Meeting
-pub mod MergesHome
-pub mod Merging
-pub mod Missed
-pub mod Moving
+pub mod MailEntries
+mod LoneLeaders
+pub mod DeliveredMail
+pub mod MergeStories
+pub mod MergedGroups
+pub mod MailWithoutReplica
+pub mod MemberMoves
 pub mod NameLists
-mod NamedOnce
+mod UniqueReplicas
 pub mod Names
-pub mod NamesStay
-pub mod Near
-pub mod Newest
+pub mod NameBounds
+pub mod RedirectBounds
+pub mod NewestReplicas
 pub mod Nodes
-pub mod NoneWaiting
-pub mod NoneWaits
-pub mod Noted
-pub mod Numbers
-pub mod Offered
-pub mod One
-mod OneLog
-pub mod Opened
-pub mod Ordered
-pub mod OrderedBeginning
-pub mod OrderedGoing
-pub mod OrderedKnown
-pub mod OrderedSending
+pub mod TableWaitingActs
+pub mod WaitingActs
+pub mod NotedRequests
+pub mod SeatNumbers
+pub mod OfferedSlots
+pub mod SingleLogs
+mod EqualReplicas
+pub mod OpenedTransactions
+pub mod OrderCommands
+pub mod OrderInvariantAtStart
+pub mod OrderInvariantAfterDeliveries
+pub mod GuidedGroups
+pub mod SentMailGroups
 pub mod Outcomes
-pub mod Over
-pub mod OverEnding
-pub mod OverJournals
-pub mod OverRequests
+pub mod RestAfterOrders
+pub mod RestCriteria
+pub mod QuietJournalRest
+pub mod RestAfterRequests
 pub mod Parties
 pub mod Parts
-pub mod Pending
-pub mod Places
-pub mod Placing
-pub mod Playing
-pub mod Posted
-pub mod Pumping
+pub mod PendingErrands
+pub mod AffairParts
+pub mod PlayerReplicas
+pub mod WellPlayers
+pub mod QuestionSenders
+pub mod Pumps
 pub mod Questions
-mod QuietEnd
-pub mod Reached
-pub mod Records
-mod RequestsTaking
-pub mod RestStands
-pub mod Resting
-pub mod Ring
-pub mod RiseHinted
-pub mod RiseHomes
-pub mod RiseJournals
-pub mod RiseQuiet
-pub mod RiseRising
-pub mod RiseRounds
-pub mod RiseSeen
-mod Round
-mod RowServes
-pub mod Said
-pub mod SaidNodes
-pub mod SaidParts
-pub mod SaidRows
-pub mod Seeing
+mod QuietLines
+pub mod FirstReplicas
+pub mod RecordedVotes
+mod AcceptAndLearnRows
+pub mod StandingQuietGroups
+pub mod RestingReplicas
+pub mod QuietRing
+pub mod RowHints
+pub mod SeenBallots
+pub mod JournalHints
+pub mod QuietHints
+pub mod HintInvariant
+pub mod RoundBounds
+pub mod RoundsSinceQuiet
+mod GroupRing
+mod RequestRowReplicas
+pub mod RefusalMail
+pub mod PlayerRefusals
+pub mod RefusalsInParts
+pub mod RefusalsInRows
+pub mod GreatestBallots
 mod SegmentParts
 mod SegmentRows
 mod Segments
-pub mod SentHomes
-pub mod SentJournals
-pub mod SentSaying
-pub mod SentSeen
-pub mod SentTurns
-mod Serving
+pub mod MailReceivers
+pub mod GroupMail
+pub mod ReplicaMail
+pub mod SeenBallotBounds
+pub mod PlayerMail
+mod RequestRowEffects
 pub mod Setting
-mod SettingCounting
-mod SettingLinked
-pub mod Settling
-mod Short
-pub mod Since
-pub mod Spoken
+mod SettingCharts
+mod SettingLinks
+pub mod SettledLeaders
+mod ShortJournals
+pub mod PartiesSinceQuiet
+pub mod WellLedGroupMail
 pub mod Stages
-pub mod Standing
-pub mod Starting
-mod Starts
-pub mod Staying
-pub mod Stepping
-pub mod Still
-pub mod Strangers
-pub mod Strays
-mod Taken
-mod Takers
-pub mod Taking
-pub mod Tasks
-pub mod Taught
-pub mod Telling
-pub mod There
-mod TokensClients
-mod TokensIdle
-mod TokensJournal
-mod TokensOne
-mod TokensPump
-mod TokensRows
-pub mod Told
-pub mod Took
-pub mod Topped
-pub mod TrueAsking
-pub mod TrueBeginning
+pub mod StandingStates
+pub mod GroupsAtBirth
+mod RequestLineStarts
+pub mod YoungGroupRows
+pub mod LeaderDeliveries
+pub mod FreeGroups
+pub mod UnknownReceivers
+pub mod StrayMail
+mod RequestPremises
+mod NodeDeliveries
+pub mod AffairRows
+pub mod OrderTasks
+pub mod EntryLearners
+pub mod SlotLeaders
+pub mod GroupReplicas
+mod ClientTokens
+mod IdleTokens
+mod JournalTokens
+mod SingleTokens
+mod PumpTokens
+mod RowTokens
+pub mod RecordedLocks
+pub mod QuestionedGroups
+pub mod PromisedBallots
+pub mod QuestionDeliveries
+pub mod OrderFactsAtStart
 pub mod TrueEntries
-pub mod TrueGoing
-pub mod TrueHinted
-pub mod TruePassing
-pub mod TrueQuiet
-pub mod TrueReaching
-pub mod TrueRounds
-pub mod TrueSending
-pub mod TrueTurns
-pub mod Turned
-pub mod Unborn
-pub mod Unsettled
-pub mod Viewing
-pub mod Views
-pub mod Votes
-pub mod Voting
-pub mod WorkBeginning
-pub mod WorkBirths
-pub mod WorkFronts
-pub mod WorkRows
-pub mod WorkSaying
+pub mod OrderFactsAfterDeliveries
+pub mod QuestionReceivers
+pub mod PassedQuestions
+pub mod QuietLeaders
+pub mod ReachedQuestions
+pub mod RowsWithoutRounds
+pub mod AskedNodes
+pub mod TransactionTurns
+pub mod PlayerEvents
+pub mod UnknownChildren
+pub mod UnsettledMail
+pub mod QuietGroupViews
+pub mod PlayerViews
+pub mod LeaderVotes
+pub mod VotesOfGoneGroups
+pub mod WorkAtStart
+pub mod KnownChildren
+pub mod WorkInPrefixes
+pub mod WorkInRows
+pub mod WorkMail
 pub mod YoungMembers
-pub mod YoungPassing
-pub mod YoungStands
-pub mod YoungTelling
+pub mod PlayerRowReplicas
+pub mod ChildrenInLogs
+pub mod ChildrenAtStart
 pub mod AnswerLaws
-pub mod AskedLaws
-pub mod BetweenLaws
-pub mod FindingLaws
-pub mod FrontLaws
-pub mod GoerLaws
-pub mod HomewardLaws
-pub mod KeptLaws
-pub mod KnownLaws
-pub mod LedLaws
+pub mod RequestPhaseLaws
+pub mod RequestInvariantLaws
+pub mod MailPremiseLaws
+pub mod PrefixLaws
+pub mod EndingGroupLaws
+pub mod ErrandReceiverLaws
+pub mod CalmRowLaws
+pub mod QuietPrefixLaws
+pub mod LedGroupLaws
 pub mod NameLaws
-pub mod OrderedLaws
-pub mod OverLaws
+pub mod OrderInvariantLaws
+pub mod PrefixRestLaws
 pub mod RequestLaws
-pub mod RestLaws
-pub mod RiseLaws
-pub mod SentLaws
+pub mod WellLedQuietLaws
+pub mod HintLaws
+pub mod GroupMailLaws
 pub mod SettingLaws
-pub mod TrueLaws
-pub mod WaitLaws
-pub mod WorkLaws
-pub mod YoungLaws
+pub mod OrderFactLaws
+pub mod WaitingActLaws
+pub mod WaitingWorkLaws
+pub mod YoungGroupLaws
 pub mod Lemmas

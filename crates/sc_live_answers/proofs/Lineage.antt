@@ -10,12 +10,12 @@ use Rattle.sc_machine_table.specs.Definitions.{child_by, Group, state_after, app
 use Rattle.sc_node_table.specs.Definitions.{child_at}
 use Rattle.sc_sound.specs.Definitions.{children_of}
 use Rattle.sc_live_steps.proofs.OrdersProofs.Lemmas.{among-left, among-right}
-use Rattle.sc_live_answers.proofs.WorkBirths.{HasBorn, stays_born, bears_born, new_born}
-use Rattle.sc_live_answers.proofs.Logs.{kids_of}
+use Rattle.sc_live_answers.proofs.KnownChildren.{HasCreated, stays_born, creates_child, new_born}
+use Rattle.sc_live_answers.proofs.MailEntries.{kids_of}
 use Rattle.sc_paxos_law.proofs.Lemmas.{Among-either}
 
 -- it forgets none
-pub log_stays : (name : Draw) (group : Group) (log : List Command) → HasBorn name group.core.born → HasBorn name (state_after group log).core.born
+pub log_stays : (name : Draw) (group : Group) (log : List Command) → HasCreated name group.core.born → HasCreated name (state_after group log).core.born
 log_stays name group [] has = has
 log_stays name group (command ∷ log) has = log_stays name (applied group command).0 log (stays_born group command name has)
 
@@ -30,19 +30,19 @@ pub child_made : (me : ℕ) (kid : Base) → is_member kid.core.members me ≡ t
 child_made me kid is = ap (λ b. cond b (kid ∷ []) []) is
 
 -- it knows each that is made
-pub kids_known : (me : ℕ) (group : Group) (log : List Command) (kid : Base) → Among kid (kids_of me group log) → HasBorn kid.core.id (state_after group log).core.born
+pub kids_known : (me : ℕ) (group : Group) (log : List Command) (kid : Base) → Among kid (kids_of me group log) → HasCreated kid.core.id (state_after group log).core.born
 kids_known me group [] kid is = absurd is
 kids_known me group (command ∷ log) kid is = elim (Among-either kid (child_at me (child_by group command)) (kids_of me (applied group command).0 log) is) [
-  | inl a ↦ log_stays kid.core.id (applied group command).0 log (bears_born group command kid (child_is me (child_by group command) kid a))
+  | inl a ↦ log_stays kid.core.id (applied group command).0 log (creates_child group command kid (child_is me (child_by group command) kid a))
   | inr b ↦ kids_known me (applied group command).0 log kid b
 ]
 
 -- what it knows new is a child of its log
-pub log_gains : (name : Draw) (group : Group) (log : List Command) → HasBorn name (state_after group log).core.born → HasBorn name group.core.born ⊎ ((kid : Base) × Among kid (children_of group log) × (kid.core.id ≡ name))
+pub log_gains : (name : Draw) (group : Group) (log : List Command) → HasCreated name (state_after group log).core.born → HasCreated name group.core.born ⊎ ((kid : Base) × Among kid (children_of group log) × (kid.core.id ≡ name))
 log_gains name group [] has = inl has
 log_gains name group (command ∷ log) has = by (log_gains name (applied group command).0 log has)
   where
-    by : HasBorn name (applied group command).0.core.born ⊎ ((kid : Base) × Among kid (children_of (applied group command).0 log) × (kid.core.id ≡ name)) → HasBorn name group.core.born ⊎ ((kid : Base) × Among kid (children_of group (command ∷ log)) × (kid.core.id ≡ name))
+    by : HasCreated name (applied group command).0.core.born ⊎ ((kid : Base) × Among kid (children_of (applied group command).0 log) × (kid.core.id ≡ name)) → HasCreated name group.core.born ⊎ ((kid : Base) × Among kid (children_of group (command ∷ log)) × (kid.core.id ≡ name))
     by (inr (kid, a, e)) = inr (kid, among-right kid (option_to_list (birth_of group command (applied group command).1)) (children_of (applied group command).0 log) a, e)
     by (inl k) = elim (new_born group command name k) [
       | inl b ↦ inl b

@@ -15,52 +15,52 @@ use Rattle.sc_log_entries.specs.declared.Division.{Division}
 use Rattle.sc_log_entries.specs.declared.LogEntry.{LogEntry}
 use Rattle.sc_log_entries.proofs.Lemmas.{draw_cases, found_name}
 use Rattle.sc_law_entries.proofs.HistoryProofs.Lemmas.{own_first, other_first, logs_make_states, applied_same}
-use Rattle.sc_law_entries.specs.ring.Definitions.{Sources, IsVoteCast, IsAllowed, AreAllowed, ToldWorld, first_told, stories_told, told_on, told_after, Groups, Facts, BeginInPlace, stories_of, Story, Stories, put, unsigned, offer_for, stories_after}
+use Rattle.sc_law_entries.specs.ring.Definitions.{Sources, IsVoteCast, IsAllowed, AreAllowed, StoryWorld, first_recorded, recorded_stories, recorded_next, recorded_after, Groups, Facts, BeginInPlace, stories_of, Story, Stories, put, unsigned, offer_for, stories_after}
 use Rattle.sc_law_entries.proofs.RingProofs.Lemmas.{at-same, at-other, from_at, arcs_in, own_story, same_lock, some_none, allowed_entries_stay_allowed, store_after, at_start, groups_in, with_child, groups_are, KeptWorld, kept_after, fits}
 use Rattle.sc_paxos_words.proofs.Lemmas.{find_found}
 use Rattle.sc_paxos_law.proofs.Lemmas.{from_map}
-use Rattle.sc_law_entries.proofs.LogsProofs.Lemmas.{allowed_parts, allows, groups_allow_others, told_append}
+use Rattle.sc_law_entries.proofs.LogsProofs.Lemmas.{allowed_parts, allows, groups_allow_others, recorded_append}
 use Rattle.sc_law_entries.specs.logs.Definitions.{MakesAllowed}
-use Rattle.sc_live_answers.proofs.LinkEnds.{Good, IsLinkedSo, IsToldSo}
-use Rattle.sc_live_answers.proofs.KnownLinked.{Lands, lands}
-use Rattle.sc_live_answers.proofs.LinkWorlds.{stays_or_ends, takes_node}
+use Rattle.sc_live_answers.proofs.LinkOutcomes.{Good, IsLinkedSo, GivesAllowedOrder}
+use Rattle.sc_live_answers.proofs.LinkEffects.{Lands, lands}
+use Rattle.sc_live_answers.proofs.BoundGroups.{stays_or_ends, takes_node}
 
 -- ---- all entries
 
-module _ (sources : Sources) (bases : List Base) (start : BeginInPlace sources bases) (entries : List LogEntry) (all_allowed : AreAllowed sources (first_told bases) entries) where
-  abbrev pub at_front : List LogEntry → ToldWorld
-  at_front front = told_after (first_told bases) front
+module _ (sources : Sources) (bases : List Base) (start : BeginInPlace sources bases) (entries : List LogEntry) (all_allowed : AreAllowed sources (first_recorded bases) entries) where
+  abbrev pub at_prefix : List LogEntry → StoryWorld
+  at_prefix front = recorded_after (first_recorded bases) front
 
   abbrev pub groups_then : List LogEntry → Groups
-  groups_then front = groups_in (at_front front).store.groups
+  groups_then front = groups_in (at_prefix front).store.groups
 
-  kept : (front more : List LogEntry) → entries ≡ front ++ more → KeptWorld sources.owner (at_front front)
-  kept front more are = kept_after sources (first_told bases) front (at_start sources bases start) (allowed_parts sources (first_told bases) front more (subst (AreAllowed sources (first_told bases)) are all_allowed)).0
+  kept : (front more : List LogEntry) → entries ≡ front ++ more → KeptWorld sources.owner (at_prefix front)
+  kept front more are = kept_after sources (first_recorded bases) front (at_start sources bases start) (allowed_parts sources (first_recorded bases) front more (subst (AreAllowed sources (first_recorded bases)) are all_allowed)).0
 
-  next_allowed : (front : List LogEntry) (e : LogEntry) (more : List LogEntry) → entries ≡ front ++ e ∷ more → IsAllowed sources (at_front front).stories e.group e.command
-  next_allowed front e more are = (allowed_parts sources (first_told bases) front (e ∷ more) (subst (AreAllowed sources (first_told bases)) are all_allowed)).1.0
+  next_allowed : (front : List LogEntry) (e : LogEntry) (more : List LogEntry) → entries ≡ front ++ e ∷ more → IsAllowed sources (at_prefix front).stories e.group e.command
+  next_allowed front e more are = (allowed_parts sources (first_recorded bases) front (e ∷ more) (subst (AreAllowed sources (first_recorded bases)) are all_allowed)).1.0
 
   -- what is allowed stays so to the end
-  to_end : (front more : List LogEntry) → entries ≡ front ++ more → (name : Draw) (command : Command) → IsAllowed sources (at_front front).stories name command → IsAllowed sources (stories_of bases entries) name command
+  to_end : (front more : List LogEntry) → entries ≡ front ++ more → (name : Draw) (command : Command) → IsAllowed sources (at_prefix front).stories name command → IsAllowed sources (stories_of bases entries) name command
   to_end front more are name command a =
-      let parts = allowed_parts sources (first_told bases) front more (subst (AreAllowed sources (first_told bases)) are all_allowed) in
-      subst (λ (w : ToldWorld). IsAllowed sources w.stories name command) (sym (ap (told_after (first_told bases)) are ∙ told_append (first_told bases) front more))
+      let parts = allowed_parts sources (first_recorded bases) front more (subst (AreAllowed sources (first_recorded bases)) are all_allowed) in
+      subst (λ (w : StoryWorld). IsAllowed sources w.stories name command) (sym (ap (recorded_after (first_recorded bases)) are ∙ recorded_append (first_recorded bases) front more))
       (allowed_entries_stay_allowed sources bases front more start parts.0 parts.1 name command a)
 
   longer : (front : List LogEntry) (e : LogEntry) (more : List LogEntry) → entries ≡ front ++ e ∷ more → entries ≡ (front ++ e ∷ []) ++ more
   longer front e more are = are ∙ sym (append_assoc front (e ∷ []) more)
 
-  next_world : (front : List LogEntry) (e : LogEntry) → at_front (front ++ e ∷ []) ≡ told_on (at_front front) e
-  next_world front e = told_append (first_told bases) front (e ∷ [])
+  next_world : (front : List LogEntry) (e : LogEntry) → at_prefix (front ++ e ∷ []) ≡ recorded_next (at_prefix front) e
+  next_world front e = recorded_append (first_recorded bases) front (e ∷ [])
 
   -- a group that an entry names, and every other one
   own_then : (front : List LogEntry) (e : LogEntry) (s : Group) → groups_then front e.group ≡ Some s → groups_then (front ++ e ∷ []) e.group ≡ Some (applied s e.command).0
   own_then front e s found =
-      ap (λ (w : ToldWorld). named_group e.group w.store.groups) (next_world front e) ∙ logs_make_states (at_front front).store e.group s found (e ∷ []) ∙ ap (λ cs. Some (state_after s cs)) (own_first e.group e [] refl)
+      ap (λ (w : StoryWorld). named_group e.group w.store.groups) (next_world front e) ∙ logs_make_states (at_prefix front).store e.group s found (e ∷ []) ∙ ap (λ cs. Some (state_after s cs)) (own_first e.group e [] refl)
 
   other_then : (front : List LogEntry) (e : LogEntry) (name : Draw) (p : Group) → (e.group ≡ name → ⊥) → groups_then front name ≡ Some p → groups_then (front ++ e ∷ []) name ≡ Some p
   other_then front e name p ne found =
-      ap (λ (w : ToldWorld). named_group name w.store.groups) (next_world front e) ∙ logs_make_states (at_front front).store name p found (e ∷ []) ∙ ap (λ cs. Some (state_after p cs)) (other_first name e [] ne)
+      ap (λ (w : StoryWorld). named_group name w.store.groups) (next_world front e) ∙ logs_make_states (at_prefix front).store name p found (e ∷ []) ∙ ap (λ cs. Some (state_after p cs)) (other_first name e [] ne)
 
   module _ (Were : Draw → ℕ → Type 0) (were : (front more : List LogEntry) → entries ≡ front ++ more → (name : Draw) (u : Group) → groups_then front name ≡ Some u → Good Were name u.core.members) where
     -- a node moves to a group that has promised, and the story says so
@@ -97,8 +97,8 @@ module _ (sources : Sources) (bases : List Base) (start : BeginInPlace sources b
             elim (stays_or_ends p tx offer lock e.command) [
               | inl stays ↦ walk more (front ++ e ∷ []) (longer front e more are) (applied p e.command).0 now stays
               | inr end ↦ (
-                  let may = subst (λ n. IsAllowed sources (at_front front).stories n e.command) same (next_allowed front e more are) in
-                  let last = to_end front (e ∷ more) are name (Finish tx end.outcome) (subst (IsAllowed sources (at_front front).stories name) end.by may) in
+                  let may = subst (λ n. IsAllowed sources (at_prefix front).stories n e.command) same (next_allowed front e more are) in
+                  let last = to_end front (e ∷ more) are name (Finish tx end.outcome) (subst (IsAllowed sources (at_prefix front).stories name) end.by may) in
                   let takes = ap (λ o. participant_after o p offer) (sym (same_outcome end.outcome last)) ∙ end.takes in
                   (were (front ++ e ∷ []) more (longer front e more are) name (applied p e.command).0 now).1 node
                   (ap (λ (g : Group). is_member g.core.members node) end.is ∙ takes_node p tx offer lock node end.left takes))
@@ -116,14 +116,14 @@ module _ (sources : Sources) (bases : List Base) (start : BeginInPlace sources b
 
     -- what holds of groups and of stories
     abbrev pub AreLinkedSo : Groups → Stories → Type 0
-    AreLinkedSo gs ys = ((name : Draw) (u : Group) → gs name ≡ Some u → IsLinkedSo Were Come come u.core) × ((tx : Draw) (y : Story) → ys tx ≡ Some y → IsToldSo Were Come come y)
+    AreLinkedSo gs ys = ((name : Draw) (u : Group) → gs name ≡ Some u → IsLinkedSo Were Come come u.core) × ((tx : Draw) (y : Story) → ys tx ≡ Some y → GivesAllowedOrder Were Come come y)
 
     module _ (front : List LogEntry) (e : LogEntry) (more : List LogEntry) (are : entries ≡ front ++ e ∷ more) (s : Group) (found : groups_then front e.group ≡ Some s) where
       abbrev gs : Groups
       gs = groups_then front
 
       abbrev ys : Stories
-      ys = (at_front front).stories
+      ys = (at_prefix front).stories
 
       abbrev r : Group × Effect
       r = applied s e.command
@@ -131,7 +131,7 @@ module _ (sources : Sources) (bases : List Base) (start : BeginInPlace sources b
       abbrev division : Option Division
       division = division_of s.core e.command r.1
 
-      k : KeptWorld sources.owner (at_front front)
+      k : KeptWorld sources.owner (at_prefix front)
       k = kept front (e ∷ more) are
 
       may : IsAllowed sources ys e.group e.command
@@ -141,13 +141,13 @@ module _ (sources : Sources) (bases : List Base) (start : BeginInPlace sources b
       facts = k.kept.0
 
       named : s.core.id ≡ e.group
-      named = found_name e.group (at_front front).store.groups s found
+      named = found_name e.group (at_prefix front).store.groups s found
 
       here : gs s.core.id ≡ Some s
       here = ap gs named ∙ found
 
       new_child : (d : Division) → division ≡ Some d → gs d.child ≡ None
-      new_child d is = (fits sources (arcs_in (at_front front).store.ring) gs ys e.group s k.kept found e.command may).births d is
+      new_child d is = (fits sources (arcs_in (at_prefix front).store.ring) gs ys e.group s k.kept found e.command may).births d is
 
       new_base : (o : Option Division) → ((d : Division) → o ≡ Some d → gs d.child ≡ None) → (base : Base) → option_map (λ (d : Division). child_of s d.at d.child) o ≡ Some base → put gs s.core.id (Some r.0) base.core.id ≡ None
       new_base None fresh base q = absurd (none-some base q)
@@ -157,9 +157,9 @@ module _ (sources : Sources) (bases : List Base) (start : BeginInPlace sources b
 
       names_now : (h : Draw) → groups_then (front ++ e ∷ []) h ≡ with_child (put gs s.core.id (Some r.0)) (birth_of s e.command r.1) h
       names_now h =
-          ap (λ (w : ToldWorld). named_group h w.store.groups) (next_world front e)
-          ∙ (ap (λ o. named_group h (after_command (at_front front).store o e.command).groups) found
-          ∙ groups_are s r.0 (birth_of s e.command r.1) (at_front front).store.groups (applied_same s e.command).0 here (new_base division new_child) h)
+          ap (λ (w : StoryWorld). named_group h w.store.groups) (next_world front e)
+          ∙ (ap (λ o. named_group h (after_command (at_prefix front).store o e.command).groups) found
+          ∙ groups_are s r.0 (birth_of s e.command r.1) (at_prefix front).store.groups (applied_same s e.command).0 here (new_base division new_child) h)
 
       child_now : (d : Division) → division ≡ Some d → groups_then (front ++ e ∷ []) d.child ≡ Some (group_of (child_of s d.at d.child))
       child_now d is =
@@ -225,7 +225,7 @@ module _ (sources : Sources) (bases : List Base) (start : BeginInPlace sources b
       moves_there tx vote by node is w =
           let decided : (applied s (RecordVote tx vote by)).1 ≡ Was.Decided (Migrated node) = ap (λ c. (applied s c).1) (sym is) ∙ w in
           let has = has_promised tx by node vote (subst (IsAllowed sources ys e.group) is may) s.core.lock refl decided in
-          let there : named_group e.group (world_of bases front).groups ≡ Some s = ap (λ (x : StoreWorld). named_group e.group x.groups) (sym (store_after (first_told bases) front)) ∙ found in
+          let there : named_group e.group (world_of bases front).groups ≡ Some s = ap (λ (x : StoreWorld). named_group e.group x.groups) (sym (store_after (first_recorded bases) front)) ∙ found in
           let makes = (groups_allow_others sources e.group s).votes tx vote by (Migrated node) decided s.core.succ.group in
           inr (record {
             tx = tx;
@@ -238,7 +238,7 @@ module _ (sources : Sources) (bases : List Base) (start : BeginInPlace sources b
             is = ap gs (sym has.part) ∙ has.is;
             lock = has.lock;
             told = subst (λ es. IsAllowed sources (stories_of bases es) s.core.succ.group (Finish tx (Migrated node))) (sym are)
-                (allows sources bases start front e s there s.core.succ.group (Finish tx (Migrated node)) (subst (λ c. MakesAllowed sources e.group s c s.core.succ.group (Finish tx (Migrated node))) (sym is) makes) more (subst (AreAllowed sources (first_told bases)) are all_allowed));
+                (allows sources bases start front e s there s.core.succ.group (Finish tx (Migrated node)) (subst (λ c. MakesAllowed sources e.group s c s.core.succ.group (Finish tx (Migrated node))) (sym is) makes) more (subst (AreAllowed sources (first_recorded bases)) are all_allowed));
           })
 
       module _ (linked : AreLinkedSo gs ys) where
@@ -253,10 +253,10 @@ module _ (sources : Sources) (bases : List Base) (start : BeginInPlace sources b
         linked_group h u (inr (inl was)) = linked.0 h u was
         linked_group h u (inr (inr c)) = subst (λ (g : Group). IsLinkedSo Were Come come g.core) c.2 (landed.born c.0 c.1)
 
-        stories_now : (at_front (front ++ e ∷ [])).stories ≡ stories_after s e.command r.1 ys
-        stories_now = ap (λ (w : ToldWorld). w.stories) (next_world front e) ∙ ap (λ o. stories_told ys o e.command) found
+        stories_now : (at_prefix (front ++ e ∷ [])).stories ≡ stories_after s e.command r.1 ys
+        stories_now = ap (λ (w : StoryWorld). w.stories) (next_world front e) ∙ ap (λ o. recorded_stories ys o e.command) found
 
-        linked_next : AreLinkedSo (groups_then (front ++ e ∷ [])) (at_front (front ++ e ∷ [])).stories
+        linked_next : AreLinkedSo (groups_then (front ++ e ∷ [])) (at_prefix (front ++ e ∷ [])).stories
         linked_next = (
           λ h u w. linked_group h u (who_now division refl h u (sym (names_now h) ∙ w)),
           λ tx y w. landed.told tx y (ap (λ (z : Stories). z tx) (sym stories_now) ∙ w),
@@ -264,18 +264,18 @@ module _ (sources : Sources) (bases : List Base) (start : BeginInPlace sources b
 
     -- ---- after each prefix
 
-    linked_on : (front : List LogEntry) (e : LogEntry) (more : List LogEntry) → entries ≡ front ++ e ∷ more → (o : Option Group) → groups_then front e.group ≡ o → AreLinkedSo (groups_then front) (at_front front).stories
-        → AreLinkedSo (groups_then (front ++ e ∷ [])) (at_front (front ++ e ∷ [])).stories
+    linked_on : (front : List LogEntry) (e : LogEntry) (more : List LogEntry) → entries ≡ front ++ e ∷ more → (o : Option Group) → groups_then front e.group ≡ o → AreLinkedSo (groups_then front) (at_prefix front).stories
+        → AreLinkedSo (groups_then (front ++ e ∷ [])) (at_prefix (front ++ e ∷ [])).stories
     linked_on front e more are (Some s) found k = linked_next front e more are s found k
     linked_on front e more are None found k =
-        let same : at_front (front ++ e ∷ []) ≡ at_front front = next_world front e ∙ ap (λ o. record { store = after_command (at_front front).store o e.command; stories = stories_told (at_front front).stories o e.command }) found in
-        subst (λ (w : ToldWorld). AreLinkedSo (groups_in w.store.groups) w.stories) (sym same) k
+        let same : at_prefix (front ++ e ∷ []) ≡ at_prefix front = next_world front e ∙ ap (λ o. record { store = after_command (at_prefix front).store o e.command; stories = recorded_stories (at_prefix front).stories o e.command }) found in
+        subst (λ (w : StoryWorld). AreLinkedSo (groups_in w.store.groups) w.stories) (sym same) k
 
-    linked_from : (more front : List LogEntry) → entries ≡ front ++ more → AreLinkedSo (groups_then front) (at_front front).stories → AreLinkedSo (groups_then entries) (at_front entries).stories
-    linked_from [] front are k = subst (λ es. AreLinkedSo (groups_then es) (at_front es).stories) (sym (are ∙ append-nil front)) k
+    linked_from : (more front : List LogEntry) → entries ≡ front ++ more → AreLinkedSo (groups_then front) (at_prefix front).stories → AreLinkedSo (groups_then entries) (at_prefix entries).stories
+    linked_from [] front are k = subst (λ es. AreLinkedSo (groups_then es) (at_prefix es).stories) (sym (are ∙ append-nil front)) k
     linked_from (e ∷ more) front are k = linked_from more (front ++ e ∷ []) (longer front e more are) (linked_on front e more are (groups_then front e.group) refl k)
 
-    pub all_linked : ((base : Base) → Among base bases → Good Were base.core.succ.group base.core.succ.members) → AreLinkedSo (groups_then entries) (at_front entries).stories
+    pub all_linked : ((base : Base) → Among base bases → Good Were base.core.succ.group base.core.succ.members) → AreLinkedSo (groups_then entries) (at_prefix entries).stories
     all_linked begin = linked_from entries [] refl (
       λ name u w. (
           let b = from_map group_of bases u (find_found (is_named name) (map group_of bases) u w).0 in

@@ -6,9 +6,9 @@ use Rattle.sc_node_table.specs.Values.{Ballot}
 use Rattle.sc_node_table.specs.Definitions.{slots_ahead}
 use Rattle.sc_paxos_words.specs.Definitions.{IsAtLeast}
 use Rattle.sc_paxos_words.proofs.Lemmas.{at_least_itself, at_least_trans, not_below_parts}
-use Rattle.sc_live_steps.specs.following.Definitions.{Mark, Asks, Votes, Tells, Installs, Prepares, Promises, next_by, promise_by, reached, pledged, IsFit, AreFit, Course, Sets, members_at, IsOpen, Tellers, hinted, IsCount, IsOffer, told_of, told_from}
+use Rattle.sc_live_steps.specs.following.Definitions.{Mark, Asks, Votes, Tells, Installs, Prepares, Promises, next_by, promise_by, reached, pledged, IsFit, AreFit, Course, Sets, members_at, IsOpen, Tellers, hinted, IsCount, IsOffer, reported_of, told_from}
 use Rattle.sc_live_steps.proofs.FollowingProofs.Lemmas.{count-hinted, reached-append, count-reached, count-pledged}
-pub use Rattle.sc_live_steps.proofs.FollowingProofs.Taught.{fit_behind}
+pub use Rattle.sc_live_steps.proofs.FollowingProofs.EntryLearners.{fit_behind}
 
 -- ---- rounds
 
@@ -82,11 +82,11 @@ module _ (at : Sets) (course : Course) (who : ℕ) where
   told_nothing zero slot out = refl
   told_nothing (suc more) slot out = ap (λ l. l ++ told_from at course (slot + 1) more who) one ∙ told_nothing more (slot + 1) (λ s least most. out s (omega (arith, least)) (omega (arith, most)))
     where
-      one : told_of at course slot who ≡ []
+      one : reported_of at course slot who ≡ []
       one = (let o = out slot (omega arith) (omega arith) in cond_both (eqb who course.ballot.node) _ _ (λ l. l ≡ []) (λ _. refl) (λ _. cond-false (is_member (members_at at slot) who) _ _ o.0 ∙ cond-false (is_member (members_at at (slot + 1)) who) _ _ o.1))
 
   -- each entry to who is a member before each
-  told_one : (who ≡ course.ballot.node → ⊥) → (slot : ℕ) → is_member (members_at at slot) who ≡ true → told_of at course slot who ≡ Tells slot ∷ []
+  told_one : (who ≡ course.ballot.node → ⊥) → (slot : ℕ) → is_member (members_at at slot) who ≡ true → reported_of at course slot who ≡ Tells slot ∷ []
   told_one apart slot m = cond-false (eqb who course.ballot.node) _ _ away ∙ cond-true (is_member (members_at at slot) who) _ _ m
     where
       away : eqb who course.ballot.node ≡ false
@@ -94,9 +94,9 @@ module _ (at : Sets) (course : Course) (who : ℕ) where
 
   pub told_all : (who ≡ course.ballot.node → ⊥) → (more slot next : ℕ) → ((s : ℕ) → slot ≤ s → s < slot + suc more → is_member (members_at at s) who ≡ true) → reached next (told_from at course slot (suc more) who) ≡ slot + suc more
   told_all apart zero slot next members =
-      reached-append next (told_of at course slot who) [] ∙ (ap (λ l. reached (reached next l) []) (told_one apart slot (members slot (omega arith) (omega arith))) ∙ omega arith)
+      reached-append next (reported_of at course slot who) [] ∙ (ap (λ l. reached (reached next l) []) (told_one apart slot (members slot (omega arith) (omega arith))) ∙ omega arith)
   told_all apart (suc more) slot next members =
-      reached-append next (told_of at course slot who) (told_from at course (slot + 1) (suc more) who)
+      reached-append next (reported_of at course slot who) (told_from at course (slot + 1) (suc more) who)
       ∙ (ap (λ l. reached (reached next l) (told_from at course (slot + 1) (suc more) who)) (told_one apart slot (members slot (omega arith) (omega arith)))
       ∙ (told_all apart more (slot + 1) (suc slot) (λ s least most. members s (omega (arith, least)) (omega (arith, most))) ∙ omega arith))
 

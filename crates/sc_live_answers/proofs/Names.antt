@@ -15,7 +15,7 @@ use Rattle.sc_sound.specs.Definitions.{Lawful, Player, as_nodes, births, player_
 use Rattle.sc_law_entries.specs.names.Definitions.{IsUsed, NamesAreDrawn, CoreNames, OutcomeNames, PastNames, PlayerNames, ReplicaNames}
 use Rattle.sc_live_steps.specs.calm.Definitions.{Rows}
 use Rattle.sc_live_journals.specs.rows.Definitions.{replica_in, view_at}
-use Rattle.sc_live_answers.proofs.Drawn.{begin_undrawn as undrawn}
+use Rattle.sc_live_answers.proofs.DrawnNames.{begin_undrawn as undrawn}
 
 -- ---- the groups of a scenario
 

@@ -17,7 +17,7 @@ use Rattle.sc_ideal.specs.Definitions.{Contents, part_of}
 use Rattle.sc_log_entries.specs.Definitions.{named_group}
 use Rattle.sc_log_entries.specs.declared.LogEntry.{LogEntry}
 use Rattle.sc_machine_table.specs.Definitions.{can_gain, gained_group, lost_group, participant_after, welcomed_group, Group, applied, Plan, can_cut, can_join, can_migrate, can_repart, can_split, closing_group, giving_group, giving_plan, has_key_of, may_merge, merged_group, merged_route, migrated_group, part_gift, taken, taking_group, taking_plan, left_group, asks_watcher, committed, decided_group, granted, released, vote_recorded, watch_answered, watch_recorded, has_voted}
-use Rattle.sc_law_entries.specs.ring.Definitions.{AreAllowed, IsAllowed, IsVoteCast, Sources, ToldWorld, first_told, stories_told, told_after, told_on, Groups, BeginInPlace, stories_of, Stories, Story, new_story, put, retold, stories_after, unsigned, vote_in, watch_vote_in, with_answer, with_decision, with_vote, with_watch_vote}
+use Rattle.sc_law_entries.specs.ring.Definitions.{AreAllowed, IsAllowed, IsVoteCast, Sources, StoryWorld, first_recorded, recorded_stories, recorded_after, recorded_next, Groups, BeginInPlace, stories_of, Stories, Story, new_story, put, retold, stories_after, unsigned, vote_in, watch_vote_in, with_answer, with_decision, with_vote, with_watch_vote}
 use Rattle.sc_law_entries.proofs.RingProofs.Lemmas.{end_right, right_is, apart_of, mine_old, own_is, part_eff, arcs_in, mine_open, Old, arc_of, succ_of, view_of, inside_part, no_shared, outside_next, room_of, IsPair, pair_meets, cut_is, Ends, part_is, at_start, Kept, groups_in, IsOnRing, Ring, KeptWorld, kept_on, less_room as rest_room}
 use Rattle.sc_live_answers.specs.Definitions.{HasOwnKeys, IsTakenBy}
 use Rattle.sc_law_groups.proofs.WholeProofs.Lemmas.{no_vote}
@@ -300,17 +300,17 @@ module _ (sources : Sources) (ring : Ring) (gs : Groups) (ys : Stories) (g : Dra
 
 -- ---- all entries
 
-told_fits : (sources : Sources) (w : ToldWorld) (e : LogEntry) → KeptWorld sources.owner w → IsAllowed sources w.stories e.group e.command → AllFit w.stories → AllFit (told_on w e).stories
+told_fits : (sources : Sources) (w : StoryWorld) (e : LogEntry) → KeptWorld sources.owner w → IsAllowed sources w.stories e.group e.command → AllFit w.stories → AllFit (recorded_next w e).stories
 told_fits sources w e k a old = by (named_group e.group w.store.groups) refl
   where
-    by : (o : Option Group) → named_group e.group w.store.groups ≡ o → AllFit (stories_told w.stories o e.command)
+    by : (o : Option Group) → named_group e.group w.store.groups ≡ o → AllFit (recorded_stories w.stories o e.command)
     by None is = old
     by (Some s) is = entry_fits sources (arcs_in w.store.ring) (groups_in w.store.groups) w.stories e.group s k.kept is old e.command a
 
-all_fits : (sources : Sources) (w : ToldWorld) (list : List LogEntry) → KeptWorld sources.owner w → AreAllowed sources w list → AllFit w.stories → AllFit (told_after w list).stories
+all_fits : (sources : Sources) (w : StoryWorld) (list : List LogEntry) → KeptWorld sources.owner w → AreAllowed sources w list → AllFit w.stories → AllFit (recorded_after w list).stories
 all_fits sources w [] k a old = old
-all_fits sources w (e ∷ list) k a old = all_fits sources (told_on w e) list (kept_on sources w e k a.0) a.1 (told_fits sources w e k a.0 old)
+all_fits sources w (e ∷ list) k a old = all_fits sources (recorded_next w e) list (kept_on sources w e k a.0) a.1 (told_fits sources w e k a.0 old)
 
-pub outcomes_fit : (sources : Sources) (bases : List _) (list : List LogEntry) → BeginInPlace sources bases → AreAllowed sources (first_told bases) list
+pub outcomes_fit : (sources : Sources) (bases : List _) (list : List LogEntry) → BeginInPlace sources bases → AreAllowed sources (first_recorded bases) list
     → (tx : Draw) (y : Story) → stories_of bases list tx ≡ Some y → (outcome : Outcome) → y.outcome ≡ Some outcome → (offer : Offer) → y.offer ≡ Some offer → (frozen : Frozen) → y.vote ≡ Some (Vows.Yes frozen) → IsTakenBy outcome offer frozen
-outcomes_fit sources bases list start allowed tx y is = all_fits sources (first_told bases) list (at_start sources bases start) allowed (λ t z e. cc) tx y is
+outcomes_fit sources bases list start allowed tx y is = all_fits sources (first_recorded bases) list (at_start sources bases start) allowed (λ t z e. cc) tx y is

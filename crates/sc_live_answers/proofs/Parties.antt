@@ -10,7 +10,7 @@ use Rattle.sc_live_steps.specs.orders.Definitions.{bond_of, Asking, Bound, Turn,
 use Rattle.sc_live_journals.specs.rows.Definitions.{view_at}
 use Rattle.sc_live_journals.specs.scenes.Definitions.{bond_by, bond_there, scene_at}
 use Rattle.sc_live_answers.specs.Definitions.{AreDeeds, Promising, Voting, opened}
-use Rattle.sc_live_answers.proofs.Opened.{HasBoth, IsBoundBy, IsOpened, both_by, opened_by, voted_by}
+use Rattle.sc_live_answers.proofs.OpenedTransactions.{HasBoth, IsBoundBy, IsOpened, both_by, opened_by, voted_by}
 
 -- the bond of a group that is led, by its leader
 pub lead_bond : (births : List (Seat Player)) (rows : Rows) (name : Draw) (host : ℕ) (r : ReplicaState) → (scene_at births rows).lead name ≡ Some host → view_at births rows name host ≡ Some r → ((scene_at births rows).at name).bond ≡ bond_of r.group.core

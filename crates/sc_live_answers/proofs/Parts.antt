@@ -38,9 +38,9 @@ module _ (P : ReplicaState → Type 0) (any : (r : ReplicaState) (acceptor : Acc
 
   -- ---- leaders
 
-  pub elects : (place : Place) → F place → F (elected place)
+  pub self_election : (place : Place) → F place → F (elected place)
   unfolding elected
-  elects (r, mails) p = either_way F (eqb r.top.round (2 ^ 32 - 1)) _ _ p (any r r.acceptor (Some r.me) _ true _ [] r.acts r.calls 0 p)
+  self_election (r, mails) p = either_way F (eqb r.top.round (2 ^ 32 - 1)) _ _ p (any r r.acceptor (Some r.me) _ true _ [] r.acts r.calls 0 p)
 
   pub ends : (hint : Option ℕ) (answer : AnswerBody) (place : Place) → F place → F (ended hint answer place)
   unfolding ended
@@ -166,7 +166,7 @@ module _ (P : ReplicaState → Type 0) (any : (r : ReplicaState) (acceptor : Acc
   looks_for (Some into) place p = p
   looks_for None (r, mails) p =
       either_way F (is_among (members r) r.hint) (r, mails) _ p
-      (either_way F (eqb (least_of (members r)) r.me) (elected (record r { hint = Some r.me }, mails)) (record r { hint = Some (least_of (members r)) }, mails) (elects (record r { hint = Some r.me }, mails) (with_hint r (Some r.me) p))
+      (either_way F (eqb (least_of (members r)) r.me) (elected (record r { hint = Some r.me }, mails)) (record r { hint = Some (least_of (members r)) }, mails) (self_election (record r { hint = Some r.me }, mails) (with_hint r (Some r.me) p))
       (with_hint r (Some (least_of (members r))) p))
 
   pub looks : (place : Place) → F place → F (looked place)

@@ -1,19 +1,19 @@
 -- A line of requests in a calm journal, between two orders: each row finds what it needs, and the line leaves a quiet journal.
-use Rattle.sc_live_answers.proofs.LinesEnd.{replicas_quiet}
+use Rattle.sc_live_answers.proofs.RequestLineEnds.{replicas_quiet}
 use Rattle.sc_scenario.proofs.Lemmas.{valid_scenarios_are_bounded}
 use Rattle.sc_live_answers.specs.Definitions.{LinesLeaveReplicasQuiet, LinesLeaveQuiet, LawfulJournalsHaveOneLog, LawfulLinesLeaveQuiet, AnswersAreExpected, LinesAskLeaders, RequestRowsFindCalm, QuietJournalsCountOnce, LawfulReplicasAreNamedOnce, LawfulQuietJournalsCountOnce}
-use Rattle.sc_live_answers.proofs.QuietEnd.{leave_quiet}
-use Rattle.sc_live_answers.proofs.OneLog.{lawful_one_log}
+use Rattle.sc_live_answers.proofs.QuietLines.{leave_quiet}
+use Rattle.sc_live_answers.proofs.EqualReplicas.{lawful_one_log}
 use Rattle.sc_law_groups.proofs.WholeProofs.Lemmas.{valid_scenarios_begin_well, lawful_journals_decide_in_turn, valid_journals_are_sound}
 use Rattle.sc_law_entries.proofs.NamesProofs.Lemmas.{orders_are_allowed_allowed, orders_are_allowed_wishes, orders_are_allowed_positions, names_have_one_owner_others}
 use Rattle.sc_law_entries.proofs.LogsProofs.Lemmas.{groups_are_born_under_new_names_found}
-use Rattle.sc_live_answers.proofs.LawfulLines.{lawful_leave}
-use Rattle.sc_live_answers.proofs.TokensOne.{expected}
-use Rattle.sc_live_answers.proofs.LinesAsk.{lines_lead}
-use Rattle.sc_live_answers.proofs.FindsRows.{request_rows}
-use Rattle.sc_live_answers.proofs.Heard.{answers_heard as answers_are_heard_calmly, clients_go as clients_go_calmly}
-use Rattle.sc_live_answers.proofs.Starts.{count_once}
-use Rattle.sc_live_answers.proofs.NamedOnce.{named_once, lawful_count_once}
+use Rattle.sc_live_answers.proofs.LawfulRequestLines.{lawful_leave}
+use Rattle.sc_live_answers.proofs.SingleTokens.{expected}
+use Rattle.sc_live_answers.proofs.RequestLineLeaders.{lines_lead}
+use Rattle.sc_live_answers.proofs.RequestRows.{request_rows}
+use Rattle.sc_live_answers.proofs.ClientAnswers.{answers_heard as answers_are_heard_calmly, clients_go as clients_go_calmly}
+use Rattle.sc_live_answers.proofs.RequestLineStarts.{count_once}
+use Rattle.sc_live_answers.proofs.UniqueReplicas.{named_once, lawful_count_once}
 
 -- Where a line of requests from a quiet journal leaves no mail to anybody, all replicas are quiet again: groups that stand are led and have executed all, groups that are gone stay so, and hints rise. That replicas of one group which executed as much are in one state is a premise.
 pub lines_leave_replicas_quiet : LinesLeaveReplicasQuiet

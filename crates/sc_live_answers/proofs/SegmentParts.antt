@@ -13,8 +13,8 @@ use Rattle.sc_live_steps.specs.orders.Definitions.{Still}
 use Rattle.sc_live_journals.specs.scenes.Definitions.{IsThere, StageAfter}
 use Rattle.sc_live_plain.specs.Definitions.{DoHintsRise, replicas_after}
 use Rattle.sc_live_journals.specs.rows.Definitions.{IsSeat, with_event}
-use Rattle.sc_live_journals.specs.charts.Definitions.{chart_at, names_at, quiet_front}
-use Rattle.sc_live_answers.specs.Definitions.{IsCalmJournal, IsFront, GoesOnBy, RestsAt, JournalsBeginResting, GoesHome, RequestsSendNoErrands, HomewardGoesToActors, IsAskedSince, RequestsBeginAsked, AskedRowsGoOn, AskedRowsFindCalm, RequestsKeepGroups, RequestsRestAgain, IsOrderedSince, OrdersBeginOrdered, DeliveriesKeepOrdered, OrdersLeaveResting, HasFewNames, ClientsAreNear, NamesStayFew}
+use Rattle.sc_live_journals.specs.charts.Definitions.{chart_at, names_at, quiet_prefix}
+use Rattle.sc_live_answers.specs.Definitions.{IsCalmJournal, IsPrefixOf, ContinuesBy, RestsAt, JournalsBeginResting, GoesToNode, RequestsSendNoErrands, NodeErrandsReachPlayers, IsAskedSince, RequestsBeginAsked, AskedRowsGoOn, AskedRowsFindCalm, RequestsKeepGroups, RequestsRestAgain, IsOrderedSince, OrdersBeginOrdered, DeliveriesKeepOrdered, OrdersLeaveResting, HasFewNames, ClientsAreNear, NamesStayFew}
 use Rattle.sc_live_answers.proofs.Segments.{Parts, IsSegment, segments}
 
 -- an order that is given
@@ -31,7 +31,7 @@ pub record SegmentLaws : Type 0 where
   pub groups_law : RequestsKeepGroups
   pub again_law : RequestsRestAgain
   pub silent_law : RequestsSendNoErrands
-  pub actors_law : HomewardGoesToActors
+  pub actors_law : NodeErrandsReachPlayers
   pub near_law : ClientsAreNear
   pub names_law : NamesStayFew
   pub told_law : OrdersBeginOrdered
@@ -42,7 +42,7 @@ pub record SegmentLaws : Type 0 where
 pub record IsFramed (words : ℕ → ℕ → ℕ × ℕ) (scenario : Scenario) (first : Base) (others : List Base) (far sends : ℕ) (journal : Rows) : Type 0 where
   pub groups : scenario.groups ≡ first ∷ others
   pub calm : IsCalmJournal words scenario journal
-  pub few : (rows : Rows) → IsFront journal rows → (orders rows + 1 ≤ far) × (length scenario.groups + orders rows ≤ sends)
+  pub few : (rows : Rows) → IsPrefixOf journal rows → (orders rows + 1 ≤ far) × (length scenario.groups + orders rows ≤ sends)
 
 module _ (laws : SegmentLaws) (words : ℕ → ℕ → ℕ × ℕ) (scenario : Scenario) (first : Base) (others : List Base) (far sends : ℕ) (journal : Rows) (frame : IsFramed words scenario first others far sends journal) where
   abbrev all : List (Seat Player)
@@ -54,31 +54,31 @@ module _ (laws : SegmentLaws) (words : ℕ → ℕ → ℕ × ℕ) (scenario : S
   -- a quiet prefix that rests, in which errands went to nodes, and no more groups were led than there were groups and orders
   pub record RestsSo (quiet : Rows) : Type 0 where
     pub rests : RestsAt words scenario first journal quiet
-    pub home : Each (GoesHome scenario) (mails quiet)
+    pub home : Each (GoesToNode scenario) (mails quiet)
     pub named : HasFewNames scenario quiet
 
   -- clients asked alone since
   pub record AsksSo (quiet rows : Rows) : Type 0 where
     pub asked : IsAskedSince words scenario first far sends journal quiet rows
-    pub home : Each (GoesHome scenario) (mails (quiet ++ rows))
+    pub home : Each (GoesToNode scenario) (mails (quiet ++ rows))
     pub named : names_at all (quiet ++ rows) ≡ names_at all quiet
 
   -- an order is under way since
   abbrev pub OrdersSo : Rows → Rows → Type 0
   OrdersSo quiet rows = IsOrderedSince words scenario first journal quiet (quiet ++ rows)
 
-  front_before : (rows : Rows) (row : Row Mail OrderLine) → IsFront journal (rows ++ row ∷ []) → IsFront journal rows
-  front_before rows row front = record { more = row ∷ front.more; is = front.is ∙ append_assoc rows (row ∷ []) front.more }
+  prefix_before : (rows : Rows) (row : Row Mail OrderLine) → IsPrefixOf journal (rows ++ row ∷ []) → IsPrefixOf journal rows
+  prefix_before rows row front = record { more = row ∷ front.more; is = front.is ∙ append_assoc rows (row ∷ []) front.more }
 
-  pub asks_none : (quiet : Rows) → IsFront journal quiet → RestsSo quiet → AsksSo quiet []
+  pub asks_none : (quiet : Rows) → IsPrefixOf journal quiet → RestsSo quiet → AsksSo quiet []
   asks_none quiet front r = record {
     asked = (laws.ask_law words scenario first others far sends journal quiet frame.calm frame.groups r.rests (frame.few quiet front).0).0;
-    home = subst (λ (l : Rows). Each (GoesHome scenario) (mails l)) (sym (append-nil quiet)) r.home;
+    home = subst (λ (l : Rows). Each (GoesToNode scenario) (mails l)) (sym (append-nil quiet)) r.home;
     named = ap (names_at all) (append-nil quiet);
   }
 
   -- requests go on by a row
-  asks_row : (quiet rows : Rows) (row : Row Mail OrderLine) → IsFront journal (quiet ++ (rows ++ row ∷ [])) → RestsSo quiet → AsksSo quiet rows → is_told row.event ≡ false → AsksSo quiet (rows ++ row ∷ [])
+  asks_row : (quiet rows : Rows) (row : Row Mail OrderLine) → IsPrefixOf journal (quiet ++ (rows ++ row ∷ [])) → RestsSo quiet → AsksSo quiet rows → is_told row.event ≡ false → AsksSo quiet (rows ++ row ∷ [])
   asks_row quiet rows row front r a untold =
       let shift = append_assoc quiet rows (row ∷ []) in
       let later = laws.stay_law words scenario first others far sends journal quiet rows row frame.calm frame.groups a.asked front untold in
@@ -91,7 +91,7 @@ module _ (laws : SegmentLaws) (words : ℕ → ℕ → ℕ × ℕ) (scenario : S
       }
 
   -- a row of requests finds what keeps the journal calm
-  pub asks_find : (quiet rows : Rows) → quiet_front s (quiet ++ rows) ≡ quiet → RestsSo quiet → AsksSo quiet rows → (seat : Seat Player) (event : Event OrderLine) → IsSeat all seat → IsInOrder s (quiet ++ rows) seat.who event
+  pub asks_find : (quiet rows : Rows) → quiet_prefix s (quiet ++ rows) ≡ quiet → RestsSo quiet → AsksSo quiet rows → (seat : Seat Player) (event : Event OrderLine) → IsSeat all seat → IsInOrder s (quiet ++ rows) seat.who event
       → FindsCalm (chart_at far sends s (quiet ++ rows)) all (quiet ++ rows) seat event
   asks_find quiet rows last r a seat event seated order =
       let known = r.named in
@@ -103,10 +103,10 @@ module _ (laws : SegmentLaws) (words : ℕ → ℕ → ℕ × ℕ) (scenario : S
   event_of row = row.event
 
   -- what the row of an order gives
-  module _ (quiet : Rows) (row : Row Mail OrderLine) (front : IsFront journal (quiet ++ row ∷ [])) (timely : AreInTime s (quiet ++ row ∷ [])) (r : RestsSo quiet) (seat : Seat Player) (line : OrderLine) (is : row ≡ row_of player_table seat quiet (Told line)) (seated : IsSeat all seat) where
+  module _ (quiet : Rows) (row : Row Mail OrderLine) (front : IsPrefixOf journal (quiet ++ row ∷ [])) (timely : AreInTime s (quiet ++ row ∷ [])) (r : RestsSo quiet) (seat : Seat Player) (line : OrderLine) (is : row ≡ row_of player_table seat quiet (Told line)) (seated : IsSeat all seat) where
     abbrev told_all : IsOrderedSince words scenario first journal quiet (with_event quiet seat (Told line)) × StageAfter all quiet seat (Told line) Still × ((far_ sent : ℕ) → FindsCalm (chart_at far_ sent s quiet) all quiet seat (Told line))
     told_all =
-        laws.told_law words scenario first journal quiet seat line frame.calm r.rests r.home seated (subst (λ x. IsFront journal (quiet ++ x ∷ [])) is front) (subst (λ x. AreInTime s (quiet ++ x ∷ [])) is timely)
+        laws.told_law words scenario first journal quiet seat line frame.calm r.rests r.home seated (subst (λ x. IsPrefixOf journal (quiet ++ x ∷ [])) is front) (subst (λ x. AreInTime s (quiet ++ x ∷ [])) is timely)
 
     pub told_row : OrdersSo quiet (row ∷ [])
     told_row = subst (λ x. OrdersSo quiet (x ∷ [])) (sym is) told_all.0
@@ -118,12 +118,12 @@ module _ (laws : SegmentLaws) (words : ℕ → ℕ → ℕ × ℕ) (scenario : S
     told_stage = told_all.1
 
   -- what a delivery does while an order is under way
-  module _ (quiet rows : Rows) (row : Row Mail OrderLine) (front : IsFront journal (rows ++ row ∷ [])) (timely : AreInTime s (rows ++ row ∷ [])) (o : IsOrderedSince words scenario first journal quiet rows) (seat : Seat Player) (number : ℕ) (is : row ≡ row_of player_table seat rows (Deliver number)) (seated : IsSeat all seat) where
-    goes_by : GoesOnBy words scenario journal rows seat number
-    goes_by = record { front = subst (λ x. IsFront journal (rows ++ x ∷ [])) is front; seated = seated; timely = subst (λ x. AreInTime s (rows ++ x ∷ [])) is timely }
+  module _ (quiet rows : Rows) (row : Row Mail OrderLine) (front : IsPrefixOf journal (rows ++ row ∷ [])) (timely : AreInTime s (rows ++ row ∷ [])) (o : IsOrderedSince words scenario first journal quiet rows) (seat : Seat Player) (number : ℕ) (is : row ≡ row_of player_table seat rows (Deliver number)) (seated : IsSeat all seat) where
+    goes_by : ContinuesBy words scenario journal rows seat number
+    goes_by = record { front = subst (λ x. IsPrefixOf journal (rows ++ x ∷ [])) is front; seated = seated; timely = subst (λ x. AreInTime s (rows ++ x ∷ [])) is timely }
 
     abbrev delivered_all : IsOrderedSince words scenario first journal quiet (with_event rows seat (Deliver number)) × StageAfter all rows seat (Deliver number) o.under.stage
-        × ((far_ sent : ℕ) → quiet_front s rows ≡ quiet → DoHintsRise (replicas_after scenario quiet) (chart_at far_ sent s rows).ways → FindsCalm (chart_at far_ sent s rows) all rows seat (Deliver number))
+        × ((far_ sent : ℕ) → quiet_prefix s rows ≡ quiet → DoHintsRise (replicas_after scenario quiet) (chart_at far_ sent s rows).ways → FindsCalm (chart_at far_ sent s rows) all rows seat (Deliver number))
     delivered_all = laws.keep_law words scenario first journal quiet rows seat number frame.calm o goes_by
 
     pub delivered_row : IsOrderedSince words scenario first journal quiet (rows ++ row ∷ [])
@@ -132,14 +132,14 @@ module _ (laws : SegmentLaws) (words : ℕ → ℕ → ℕ × ℕ) (scenario : S
     pub delivered_stage : StageAfter all rows seat (Deliver number) o.under.stage
     delivered_stage = delivered_all.1
 
-    pub delivered_finds : quiet_front s rows ≡ quiet → DoHintsRise (replicas_after scenario quiet) (chart_at far sends s rows).ways → FindsCalm (chart_at far sends s rows) all rows seat (Deliver number)
+    pub delivered_finds : quiet_prefix s rows ≡ quiet → DoHintsRise (replicas_after scenario quiet) (chart_at far sends s rows).ways → FindsCalm (chart_at far sends s rows) all rows seat (Deliver number)
     delivered_finds = delivered_all.2 far sends
 
-  pub parts : Parts s (IsFront journal) RestsSo AsksSo OrdersSo
+  pub parts : Parts s (IsPrefixOf journal) RestsSo AsksSo OrdersSo
   parts = record {
-    fronts = front_before;
+    prefixes = prefix_before;
     begins = record { rests = laws.begin_law words scenario first others journal frame.groups frame.calm; home = tt; named = laws.names_law.born words scenario journal frame.calm };
-    goes = λ quiet row front timely r untold. asks_row quiet [] row front r (asks_none quiet (front_before quiet row front) r) untold;
+    goes = λ quiet row front timely r untold. asks_row quiet [] row front r (asks_none quiet (prefix_before quiet row front) r) untold;
     asks = λ quiet rows row front timely r a untold. asks_row quiet rows row front r a untold;
     told = λ quiet row front timely r told. (
         let c = (last_in_time s quiet row timely).0 in
@@ -151,7 +151,7 @@ module _ (laws : SegmentLaws) (words : ℕ → ℕ → ℕ × ℕ) (scenario : S
         let c = (last_in_time s (quiet ++ rows) row timely_row).0 in
         let event : c.event ≡ Deliver number = sym (ap event_of c.row_is) ∙ is in
         subst (λ l. IsOrderedSince words scenario first journal quiet l) shift
-        (delivered_row quiet (quiet ++ rows) row (subst (IsFront journal) (sym shift) front) timely_row o c.seat number (c.row_is ∙ ap (row_of player_table c.seat (quiet ++ rows)) event) c.born));
+        (delivered_row quiet (quiet ++ rows) row (subst (IsPrefixOf journal) (sym shift) front) timely_row o c.seat number (c.row_is ∙ ap (row_of player_table c.seat (quiet ++ rows)) event) c.born));
     answered = λ quiet rows front timely r a still. record {
       rests = laws.again_law words scenario first others far sends journal quiet rows frame.calm frame.groups a.asked still (laws.actors_law words scenario (mails (quiet ++ rows)) a.home);
       home = a.home;
@@ -173,5 +173,5 @@ module _ (laws : SegmentLaws) (words : ℕ → ℕ → ℕ × ℕ) (scenario : S
           omega (arith, one, more, same)
 
   -- each prefix falls into such segments
-  pub segment_at : (rows : Rows) → IsFront journal rows → AreInTime s rows → IsSegment s RestsSo AsksSo OrdersSo rows
-  segment_at rows front timely = segments s RestsSo AsksSo OrdersSo (IsFront journal) parts rows front timely
+  pub segment_at : (rows : Rows) → IsPrefixOf journal rows → AreInTime s rows → IsSegment s RestsSo AsksSo OrdersSo rows
+  segment_at rows front timely = segments s RestsSo AsksSo OrdersSo (IsPrefixOf journal) parts rows front timely

@@ -19,15 +19,15 @@ use Rattle.sc_live_steps.proofs.OrdersProofs.Lemmas.{among-left, among-right}
 use Rattle.sc_live_plain.specs.Definitions.{Setting, IsAsideBody, IsCalmMail, Requests, IsPlainBody, DoHintsRise, replicas_after}
 use Rattle.sc_live_journals.specs.scenes.Definitions.{StageAfter, scene_at}
 use Rattle.sc_live_journals.proofs.ScenesProofs.Lemmas.{calm_is}
-use Rattle.sc_live_journals.specs.charts.Definitions.{chart_at, WaitsForNone, AsksSame, ChartsFollow, QuietChartsRest, quiet_front}
-use Rattle.sc_live_answers.specs.Definitions.{OrderChartsFollow, WellLedLeadAlone, IsFront, AreSent, AllLeadAlone, ChartHintsRise, FrontsAreFound, IsOrderedSince, RestsAt, frames_after, QuietJournalsHaveFrames, LawfulReplicasAreNamedOnce, ViewsAgree}
-use Rattle.sc_live_answers.proofs.ChartRests.{all_rest, rests_by_chart}
-use Rattle.sc_live_answers.proofs.Lone.{all_lead}
+use Rattle.sc_live_journals.specs.charts.Definitions.{chart_at, WaitsForNone, AsksSame, ChartsFollow, QuietChartsRest, quiet_prefix}
+use Rattle.sc_live_answers.specs.Definitions.{OrderChartsFollow, WellLedLeadAlone, IsPrefixOf, AreSent, AllLeadAlone, ChartHintsRise, PrefixesAreFound, IsOrderedSince, RestsAt, frames_after, QuietJournalsHaveFrames, LawfulReplicasAreNamedOnce, ViewsAgree}
+use Rattle.sc_live_answers.proofs.RestingCharts.{all_rest, rests_by_chart}
+use Rattle.sc_live_answers.proofs.LoneLeaders.{all_lead}
 use Rattle.sc_live_answers.proofs.SegmentParts as parts_of
 use Rattle.sc_live_answers.proofs.SegmentParts.{IsFramed, SegmentLaws, told_line}
-use Rattle.sc_live_answers.proofs.Segments.{IsSegment, IsOrdered, delivered, front_whole}
-use Rattle.sc_live_answers.proofs.SettingCounting.{way_low}
-use Rattle.sc_live_answers.proofs.Following.{split_among}
+use Rattle.sc_live_answers.proofs.Segments.{IsSegment, IsOrdered, delivered, prefix_whole}
+use Rattle.sc_live_answers.proofs.SettingCharts.{way_low}
+use Rattle.sc_live_answers.proofs.ChartSequence.{split_among}
 
 -- a player that rests waits for nothing
 waits_none : (player : Player) → IsResting player → WaitsForNone player
@@ -64,7 +64,7 @@ none_elsewhere begun set mail (inr aside) tx coord hint e = subst (IsAsideBody b
 -- the laws by which rows are judged
 pub record RowLaws : Type 0 where
   pub all_bounded : ValidScenariosAreBounded
-  pub found_law : FrontsAreFound
+  pub found_law : PrefixesAreFound
   pub alone_law : WellLedLeadAlone
   pub once_law : LawfulReplicasAreNamedOnce
   pub agree_law : ViewsAgree
@@ -94,40 +94,40 @@ module _ (segment : SegmentLaws) (laws : RowLaws) (words : ℕ → ℕ → ℕ �
   abbrev Orders : Rows → Rows → Type 0
   Orders = parts_of.OrdersSo segment words scenario first others far sends journal frame
 
-  segment_of : (rows : Rows) → IsFront journal rows → AreInTime s rows → IsSegment s Rests Asks Orders rows
+  segment_of : (rows : Rows) → IsPrefixOf journal rows → AreInTime s rows → IsSegment s Rests Asks Orders rows
   segment_of = parts_of.segment_at segment words scenario first others far sends journal frame
 
   -- a quiet prefix rests
-  pub quiet_rests : (rows : Rows) → IsFront journal rows → AreInTime s rows → is_quiet s rows ≡ true → Rests rows
-  quiet_rests rows front timely quiet = subst Rests (front_whole s rows quiet) (segment_of rows front timely).rests
+  pub quiet_rests : (rows : Rows) → IsPrefixOf journal rows → AreInTime s rows → is_quiet s rows ≡ true → Rests rows
+  quiet_rests rows front timely quiet = subst Rests (prefix_whole s rows quiet) (segment_of rows front timely).rests
 
-  pub rests_calm : (rows : Rows) → IsFront journal rows → AreInTime s rows → is_quiet s rows ≡ true → RestsCalm all (chart []) (chart rows) rows
+  pub rests_calm : (rows : Rows) → IsPrefixOf journal rows → AreInTime s rows → is_quiet s rows ≡ true → RestsCalm all (chart []) (chart rows) rows
   rests_calm rows front timely quiet =
       rests_by_chart laws.all_bounded laws.found_law laws.once_law laws.agree_law laws.last_law laws.rest_law words scenario first others journal rows frame.groups frame.calm timely (quiet_rests rows front timely quiet).rests far sends
 
-  none_waits : (rows : Rows) → IsFront journal rows → AreInTime s rows → is_quiet s rows ≡ true → Each (λ other. WaitsForNone (value player_table other rows)) all
+  none_waits : (rows : Rows) → IsPrefixOf journal rows → AreInTime s rows → is_quiet s rows ≡ true → Each (λ other. WaitsForNone (value player_table other rows)) all
   none_waits rows front timely quiet =
       Each-weaker (λ other. IsResting (value player_table other rows)) (λ other. WaitsForNone (value player_table other rows)) (λ other is. waits_none (value player_table other rows) is) all
       (all_rest laws.all_bounded laws.found_law laws.once_law laws.agree_law laws.last_law laws.rest_law words scenario first others journal rows frame.groups frame.calm timely (quiet_rests rows front timely quiet).rests)
 
   -- all groups of a prefix are well led
-  sent_at : (rows : Rows) → IsFront journal rows → AreInTime s rows → AreSent words scenario journal rows
+  sent_at : (rows : Rows) → IsPrefixOf journal rows → AreInTime s rows → AreSent words scenario journal rows
   sent_at rows front timely = by (segment_of rows front timely)
     where
       by : IsSegment s Rests Asks Orders rows → AreSent words scenario journal rows
       by seg = elim seg.is [
-        | inl none ↦ subst (AreSent words scenario journal) (sym (seg.rows_are ∙ (ap (λ b. quiet_front s rows ++ b) none ∙ append-nil (quiet_front s rows)))) seg.rests.rests.sent
+        | inl none ↦ subst (AreSent words scenario journal) (sym (seg.rows_are ∙ (ap (λ b. quiet_prefix s rows ++ b) none ∙ append-nil (quiet_prefix s rows)))) seg.rests.rests.sent
         | inr behind ↦ elim behind [
           | inl asks ↦ subst (AreSent words scenario journal) (sym seg.rows_are) asks.asked.sent
           | inr order ↦ subst (AreSent words scenario journal) (sym seg.rows_are) order.holds.under.sent
         ]
       ]
 
-  lone_at : (rows : Rows) → IsFront journal rows → AreInTime s rows → AllLeadAlone all rows
+  lone_at : (rows : Rows) → IsPrefixOf journal rows → AreInTime s rows → AllLeadAlone all rows
   lone_at rows front timely = all_lead laws.all_bounded laws.found_law laws.alone_law laws.once_law laws.agree_law words scenario journal rows frame.calm front (sent_at rows front timely)
 
   -- by the chart of rows behind a quiet prefix hints rise there
-  hints_rise : (quiet later : Rows) → RestsAt words scenario first journal quiet → quiet_front s later ≡ quiet → DoHintsRise (replicas_after scenario quiet) (chart later).ways
+  hints_rise : (quiet later : Rows) → RestsAt words scenario first journal quiet → quiet_prefix s later ≡ quiet → DoHintsRise (replicas_after scenario quiet) (chart later).ways
   hints_rise quiet later rests last =
       let found = laws.found_law words scenario journal quiet frame.calm rests.front in
       (laws.rise_law words scenario first others journal quiet later far sends (frames_after scenario quiet) frame.calm.valid frame.groups found.lawful rests found.homes last (frame.few quiet rests.front).0
@@ -135,18 +135,18 @@ module _ (segment : SegmentLaws) (laws : RowLaws) (words : ℕ → ℕ → ℕ �
 
   -- ---- a row
 
-  module _ (rows : Rows) (row : Row Mail OrderLine) (front : IsFront journal (rows ++ row ∷ [])) (timely : AreInTime s (rows ++ row ∷ [])) where
+  module _ (rows : Rows) (row : Row Mail OrderLine) (front : IsPrefixOf journal (rows ++ row ∷ [])) (timely : AreInTime s (rows ++ row ∷ [])) where
     before : AreInTime s rows
     before = in_time_before s rows row timely
 
-    here : IsFront journal rows
+    here : IsPrefixOf journal rows
     here = record { more = row ∷ front.more; is = front.is ∙ append_assoc rows (row ∷ []) front.more }
 
     seg : IsSegment s Rests Asks Orders rows
     seg = segment_of rows here before
 
     abbrev quiet : Rows
-    quiet = quiet_front s rows
+    quiet = quiet_prefix s rows
 
     comes : IsCalmRow s rows row × ComesInTime s rows row.event
     comes = last_in_time s rows row timely
@@ -157,42 +157,42 @@ module _ (segment : SegmentLaws) (laws : RowLaws) (words : ℕ → ℕ → ℕ �
     -- requests behind the prefix, or nothing
     record HasAsked : Type 0 where
       behind : Rows
-      rows_are : rows ≡ quiet_front s rows ++ behind
-      asks : Asks (quiet_front s rows) behind
+      rows_are : rows ≡ quiet_prefix s rows ++ behind
+      asks : Asks (quiet_prefix s rows) behind
 
     -- an order since the prefix
     record HasOrdered : Type 0 where
       behind : Rows
-      rows_are : rows ≡ quiet_front s rows ++ behind
-      order : IsOrdered s Rests Asks Orders (quiet_front s rows) behind
+      rows_are : rows ≡ quiet_prefix s rows ++ behind
+      order : IsOrdered s Rests Asks Orders (quiet_prefix s rows) behind
 
     cases : HasAsked ⊎ HasOrdered
     cases = elim seg.is [
-      | inl none ↦ inl (record { behind = []; rows_are = seg.rows_are ∙ ap (λ b. quiet_front s rows ++ b) none; asks = parts_of.asks_none segment words scenario first others far sends journal frame (quiet_front s rows) seg.rests.rests.front seg.rests })
+      | inl none ↦ inl (record { behind = []; rows_are = seg.rows_are ∙ ap (λ b. quiet_prefix s rows ++ b) none; asks = parts_of.asks_none segment words scenario first others far sends journal frame (quiet_prefix s rows) seg.rests.rests.front seg.rests })
       | inr some ↦ elim some [ inl asks ↦ inl (record { behind = seg.behind; rows_are = seg.rows_are; asks = asks }) | inr order ↦ inr (record { behind = seg.behind; rows_are = seg.rows_are; order = order }) ]
     ]
 
-    order_at : (h : HasOrdered) → IsOrderedSince words scenario first journal (quiet_front s rows) rows
-    order_at h = subst (IsOrderedSince words scenario first journal (quiet_front s rows)) (sym h.rows_are) h.order.holds
+    order_at : (h : HasOrdered) → IsOrderedSince words scenario first journal (quiet_prefix s rows) rows
+    order_at h = subst (IsOrderedSince words scenario first journal (quiet_prefix s rows)) (sym h.rows_are) h.order.holds
 
     -- an order goes on by deliveries alone
     only_delivers : (h : HasOrdered) → is_told row.event ≡ false → (number : ℕ) × (row.event ≡ Deliver number)
     only_delivers h untold =
-        delivered s Rests Asks Orders (IsFront journal) (parts_of.parts segment words scenario first others far sends journal frame) rows row front timely (quiet_front s rows) h.behind h.rows_are refl h.order untold
+        delivered s Rests Asks Orders (IsPrefixOf journal) (parts_of.parts segment words scenario first others far sends journal frame) rows row front timely (quiet_prefix s rows) h.behind h.rows_are refl h.order untold
 
     -- ---- what it finds
 
     asked_finds : (h : HasAsked) (seat : Seat Player) (event : Event OrderLine) → IsSeat all seat → IsInOrder s rows seat.who event → FindsCalm (chart rows) all rows seat event
     asked_finds h seat event seated order =
-        subst (λ l. quiet_front s l ≡ quiet_front s rows → IsInOrder s l seat.who event → FindsCalm (chart l) all l seat event) (sym h.rows_are)
-        (λ last o. parts_of.asks_find segment words scenario first others far sends journal frame (quiet_front s rows) h.behind last seg.rests h.asks seat event seated o) refl order
+        subst (λ l. quiet_prefix s l ≡ quiet_prefix s rows → IsInOrder s l seat.who event → FindsCalm (chart l) all l seat event) (sym h.rows_are)
+        (λ last o. parts_of.asks_find segment words scenario first others far sends journal frame (quiet_prefix s rows) h.behind last seg.rests h.asks seat event seated o) refl order
 
     calm_event : (seat : Seat Player) (event : Event OrderLine) → row ≡ row_of player_table seat rows event → IsCalmEvent s rows seat.who event
     calm_event seat event is = calm_is words all rows seat event (subst (IsCalmRow s rows) is comes.0)
 
     order_finds : (h : HasOrdered) (seat : Seat Player) (number : ℕ) → IsSeat all seat → row ≡ row_of player_table seat rows (Deliver number) → FindsCalm (chart rows) all rows seat (Deliver number)
     order_finds h seat number seated is =
-        parts_of.delivered_finds segment words scenario first others far sends journal frame (quiet_front s rows) rows row front timely (order_at h) seat number is seated refl (hints_rise (quiet_front s rows) rows seg.rests.rests refl)
+        parts_of.delivered_finds segment words scenario first others far sends journal frame (quiet_prefix s rows) rows row front timely (order_at h) seat number is seated refl (hints_rise (quiet_prefix s rows) rows seg.rests.rests refl)
 
     told_rests : (line : OrderLine) → row.event ≡ Told line → Rests rows
     told_rests line is = quiet_rests rows here before (subst (ComesInTime s rows) is comes.1)
@@ -214,13 +214,13 @@ module _ (segment : SegmentLaws) (laws : RowLaws) (words : ℕ → ℕ → ℕ �
 
     asked_same : (h : HasAsked) → is_told row.event ≡ false → (mail : Mail) → Among mail (under_way s (rows ++ row ∷ [])) → AsksSame all rows (rows ++ row ∷ []) mail.body
     asked_same h untold mail a tx coord hint body =
-        let shift = append_assoc (quiet_front s rows) h.behind (row ∷ []) in
-        let whole : rows ++ row ∷ [] ≡ quiet_front s rows ++ (h.behind ++ row ∷ []) = ap (λ l. l ++ row ∷ []) h.rows_are ∙ shift in
-        let later = (parts_of.parts segment words scenario first others far sends journal frame).asks (quiet_front s rows) h.behind row (subst (IsFront journal) whole front) (subst (AreInTime s) whole timely) seg.rests h.asks untold in
+        let shift = append_assoc (quiet_prefix s rows) h.behind (row ∷ []) in
+        let whole : rows ++ row ∷ [] ≡ quiet_prefix s rows ++ (h.behind ++ row ∷ []) = ap (λ l. l ++ row ∷ []) h.rows_are ∙ shift in
+        let later = (parts_of.parts segment words scenario first others far sends journal frame).asks (quiet_prefix s rows) h.behind row (subst (IsPrefixOf journal) whole front) (subst (AreInTime s) whole timely) seg.rests h.asks untold in
         let w = with_other (λ m. is_born s (s.receiver m)) (λ m. eqb (s.receiver m) mail.to) (mails (rows ++ row ∷ [])) (copies (rows ++ row ∷ [])) mail a in
         let left = later.asked.requested.asking.left mail.to w.0 in
         let there = subst (λ l. Among mail (rest s l mail.to)) whole (w.1 (eq-eqb mail.to mail.to refl)) in
-        absurd (none_elsewhere _ _ mail (Each-among _ (rest s (quiet_front s rows ++ (h.behind ++ row ∷ [])) mail.to) mail left there) tx coord hint body)
+        absurd (none_elsewhere _ _ mail (Each-among _ (rest s (quiet_prefix s rows ++ (h.behind ++ row ∷ [])) mail.to) mail left there) tx coord hint body)
 
     waits_after : is_quiet s (rows ++ row ∷ []) ≡ true → Each (λ other. WaitsForNone (value player_table other (rows ++ row ∷ []))) all
     waits_after still = none_waits (rows ++ row ∷ []) front timely still
@@ -249,7 +249,7 @@ module _ (segment : SegmentLaws) (laws : RowLaws) (words : ℕ → ℕ → ℕ �
             let d = only_delivers order untold in
             let is : row ≡ row_of player_table comes.0.seat rows (Deliver d.0) = comes.0.row_is ∙ ap (row_of player_table comes.0.seat rows) (sym (ap event_of comes.0.row_is) ∙ d.1) in
             let o = order_at order in
-            staged comes.0.seat (Deliver d.0) o.under.stage is o.under.untouched.stands (parts_of.delivered_stage segment words scenario first others far sends journal frame (quiet_front s rows) rows row front timely o comes.0.seat d.0 is comes.0.born))
+            staged comes.0.seat (Deliver d.0) o.under.stage is o.under.untouched.stands (parts_of.delivered_stage segment words scenario first others far sends journal frame (quiet_prefix s rows) rows row front timely o comes.0.seat d.0 is comes.0.born))
       ]
     ]
 

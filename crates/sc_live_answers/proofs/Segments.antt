@@ -10,8 +10,8 @@ use Rattle.sc_live_orderly.specs.Definitions.{IsCalmEvent, IsCalmRow, is_told, I
 use Rattle.sc_live_orderly.proofs.Lemmas.{by_time, last_in_time}
 use Rattle.sc_sound.specs.Definitions.{Player}
 use Rattle.sc_live_steps.specs.calm.Definitions.{Rows}
-use Rattle.sc_live_journals.specs.charts.Definitions.{quiet_upto, quiet_front}
-use Rattle.sc_live_journals.proofs.ChartsProofs.Lemmas.{upto_low, front_stays}
+use Rattle.sc_live_journals.specs.charts.Definitions.{quiet_upto, quiet_prefix}
+use Rattle.sc_live_journals.proofs.ChartsProofs.Lemmas.{upto_low, prefix_stays}
 
 -- ---- lists
 
@@ -29,9 +29,9 @@ stands_behind P (b ∷ before) after (f ∷ front) x more e low each =
 
 module _ (s : System Player Mail OrderLine) where
   -- a quiet journal is its own prefix
-  pub front_whole : (rows : Rows) → is_quiet s rows ≡ true → quiet_front s rows ≡ rows
-  front_whole [] quiet = refl
-  front_whole (row ∷ rows) quiet =
+  pub prefix_whole : (rows : Rows) → is_quiet s rows ≡ true → quiet_prefix s rows ≡ rows
+  prefix_whole [] quiet = refl
+  prefix_whole (row ∷ rows) quiet =
       let whole : take (suc (length rows)) (row ∷ rows) ≡ row ∷ rows = take_all (suc (length rows)) (row ∷ rows) (omega arith) in
       ap (λ n. take n (row ∷ rows)) (cond-true (is_quiet s (take (suc (length rows)) (row ∷ rows))) (suc (length rows)) (quiet_upto s (row ∷ rows) (length rows)) (ap (is_quiet s) whole ∙ quiet)) ∙ whole
 
@@ -50,7 +50,7 @@ module _ (s : System Player Mail OrderLine) where
 
   -- What is kept of a segment of rows that fit, row by row: where it begins, while clients ask alone, and while an order is under way.
   pub record Parts (Fits Rests : Rows → Type 0) (Asks Orders : Rows → Rows → Type 0) : Type 0 where
-    pub fronts : (rows : Rows) (row : Row Mail OrderLine) → Fits (rows ++ row ∷ []) → Fits rows
+    pub prefixes : (rows : Rows) (row : Row Mail OrderLine) → Fits (rows ++ row ∷ []) → Fits rows
     pub begins : Rests []
     pub goes : (quiet : Rows) (row : Row Mail OrderLine) → Fits (quiet ++ row ∷ []) → AreInTime s (quiet ++ row ∷ []) → Rests quiet → is_told row.event ≡ false → Asks quiet (row ∷ [])
     pub asks : (quiet rows : Rows) (row : Row Mail OrderLine) → Fits (quiet ++ (rows ++ row ∷ [])) → AreInTime s (quiet ++ (rows ++ row ∷ [])) → Rests quiet → Asks quiet rows → is_told row.event ≡ false → Asks quiet (rows ++ row ∷ [])
@@ -74,17 +74,17 @@ module _ (s : System Player Mail OrderLine) where
 
     pub record IsSegment (rows : Rows) : Type 0 where
       pub behind : Rows
-      pub rows_are : rows ≡ quiet_front s rows ++ behind
-      pub rests : Rests (quiet_front s rows)
-      pub is : IsBehind (quiet_front s rows) behind
+      pub rows_are : rows ≡ quiet_prefix s rows ++ behind
+      pub rests : Rests (quiet_prefix s rows)
+      pub is : IsBehind (quiet_prefix s rows) behind
 
     module _ (Fits : Rows → Type 0) (parts : Parts Fits Rests Asks Orders) where
       -- a quiet journal that rests, with nothing behind it
       rest_here : (rows : Rows) → Rests rows → is_quiet s rows ≡ true → IsSegment rows
       rest_here rows rests quiet = record {
         behind = [];
-        rows_are = sym (append-nil (quiet_front s rows) ∙ front_whole rows quiet);
-        rests = subst Rests (sym (front_whole rows quiet)) rests;
+        rows_are = sym (append-nil (quiet_prefix s rows) ∙ prefix_whole rows quiet);
+        rests = subst Rests (sym (prefix_whole rows quiet)) rests;
         is = inl refl;
       }
 
@@ -93,10 +93,10 @@ module _ (s : System Player Mail OrderLine) where
         after = rows ++ row ∷ []
 
         -- a segment that goes on by the row
-        goes_on : (quiet behind : Rows) → rows ≡ quiet ++ behind → quiet_front s rows ≡ quiet → Rests quiet → Asks quiet (behind ++ row ∷ []) ⊎ IsOrdered quiet (behind ++ row ∷ []) → IsSegment after
+        goes_on : (quiet behind : Rows) → rows ≡ quiet ++ behind → quiet_prefix s rows ≡ quiet → Rests quiet → Asks quiet (behind ++ row ∷ []) ⊎ IsOrdered quiet (behind ++ row ∷ []) → IsSegment after
         goes_on quiet behind e front rests holds = elim (cases_Bool (is_quiet s after)) [
           | inl still ↦ rest_here after (subst Rests (sym whole) (again still holds)) still
-          | inr loud ↦ (let there : quiet_front s after ≡ quiet = front_stays s rows row loud ∙ front in
+          | inr loud ↦ (let there : quiet_prefix s after ≡ quiet = prefix_stays s rows row loud ∙ front in
               record {
                 behind = behind ++ row ∷ [];
                 rows_are = whole ∙ ap (λ q. q ++ (behind ++ row ∷ [])) (sym there);
@@ -121,7 +121,7 @@ module _ (s : System Player Mail OrderLine) where
         told_quiet _ told comes = absurd (true≢false (sym told))
 
         -- while an order is under way, nobody goes
-        nobody_goes : (quiet behind : Rows) → rows ≡ quiet ++ behind → quiet_front s rows ≡ quiet → IsOrdered quiet behind → IsClear s rows → ⊥
+        nobody_goes : (quiet behind : Rows) → rows ≡ quiet ++ behind → quiet_prefix s rows ≡ quiet → IsOrdered quiet behind → IsClear s rows → ⊥
         nobody_goes quiet behind e front order clear =
             let long = length-append clear.before clear.after in
             let all = ap length clear.rows_are in
@@ -137,7 +137,7 @@ module _ (s : System Player Mail OrderLine) where
             both_ways (is_told order.first.event) untold order.tells
 
         -- an order goes on by deliveries alone
-        pub delivered : (quiet behind : Rows) → rows ≡ quiet ++ behind → quiet_front s rows ≡ quiet → IsOrdered quiet behind → is_told row.event ≡ false → (number : ℕ) × (row.event ≡ Deliver number)
+        pub delivered : (quiet behind : Rows) → rows ≡ quiet ++ behind → quiet_prefix s rows ≡ quiet → IsOrdered quiet behind → is_told row.event ≡ false → (number : ℕ) × (row.event ≡ Deliver number)
         delivered quiet behind e front order untold = by calm.0.event (ap (λ (r : Row Mail OrderLine). r.event) calm.0.row_is) calm.0.calm
           where
             by : (event : Event OrderLine) → row.event ≡ event → IsCalmEvent s rows calm.0.seat.who event → (number : ℕ) × (row.event ≡ Deliver number)
@@ -147,7 +147,7 @@ module _ (s : System Player Mail OrderLine) where
             by _ same fine = absurd fine
 
         -- whatever stands behind the last quiet journal
-        untold_row : (quiet behind : Rows) → rows ≡ quiet ++ behind → quiet_front s rows ≡ quiet → Rests quiet → is_told row.event ≡ false → IsBehind quiet behind → IsSegment after
+        untold_row : (quiet behind : Rows) → rows ≡ quiet ++ behind → quiet_prefix s rows ≡ quiet → Rests quiet → is_told row.event ≡ false → IsBehind quiet behind → IsSegment after
         untold_row quiet behind e front rests untold (inl none) =
             let there : rows ≡ quiet = e ∙ (ap (λ b. quiet ++ b) none ∙ append-nil quiet) in
             let asks = parts.goes quiet row (subst (λ r. Fits (r ++ row ∷ [])) there fits) (subst (λ r. AreInTime s (r ++ row ∷ [])) there timely) rests untold in
@@ -168,13 +168,13 @@ module _ (s : System Player Mail OrderLine) where
         next seg = elim (cases_Bool (is_told row.event)) [
           | inl told ↦ (
               let quiet = told_quiet row.event told calm.1 in
-              let whole = front_whole rows quiet in
+              let whole = prefix_whole rows quiet in
               let rests = subst Rests whole seg.rests in
               goes_on rows [] (sym (append-nil rows)) whole rests (inr (record { first = row; more = []; behind_are = refl; tells = told; holds = parts.told rows row fits timely rests told })))
-          | inr untold ↦ untold_row (quiet_front s rows) seg.behind seg.rows_are refl seg.rests untold seg.is
+          | inr untold ↦ untold_row (quiet_prefix s rows) seg.behind seg.rows_are refl seg.rests untold seg.is
         ]
 
       -- so all rows in time that fit are such segments
       pub segments : (rows : Rows) → Fits rows → AreInTime s rows → IsSegment rows
       segments rows fits timely =
-          by_time s (λ r. Fits r → IsSegment r) (λ none. rest_here [] parts.begins refl) (λ r row t seg fit. next r row fit t (seg (parts.fronts r row fit))) rows timely fits
+          by_time s (λ r. Fits r → IsSegment r) (λ none. rest_here [] parts.begins refl) (λ r row t seg fit. next r row fit t (seg (parts.prefixes r row fit))) rows timely fits

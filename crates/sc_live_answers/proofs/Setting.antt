@@ -10,22 +10,22 @@ use Rattle.sc_scenario.specs.declared.scenarios.Scenario.{Scenario}
 use Rattle.sc_scenario.specs.Definitions.{ValidScenariosAreBounded}
 use Rattle.sc_sound.specs.Definitions.{world_at, births, schedule, system_of, as_nodes, Lawful}
 use Rattle.sc_live_steps.specs.calm.Definitions.{players, StandsQuiet, Rows}
-use Rattle.sc_live_journals.specs.charts.Definitions.{quiet_front}
-use Rattle.sc_live_answers.proofs.Segments.{front_whole}
+use Rattle.sc_live_journals.specs.charts.Definitions.{quiet_prefix}
+use Rattle.sc_live_answers.proofs.Segments.{prefix_whole}
 use Rattle.sc_live_plain.specs.Definitions.{IsAsking, NobodyWaits, AreSeated, replicas_after, DoHintsRise, AreFramesOf, QuietJournalsAsk, frame_at_rest, IsLinkedSetting, Setting, IsSetting, Frame}
-use Rattle.sc_live_answers.specs.Definitions.{AreReached, QuietGroupsHaveCuts, AreOfCuts, StandingGroupsAreRound, frames_after, AreAtNodes, QuietJournalsHaveFrames, QuietSettingsAreLinked, IsCalmJournal, IsFront, RestsAt, ChartHintsRise, setting_of, IsKnownFront}
+use Rattle.sc_live_answers.specs.Definitions.{AreReached, QuietGroupsHaveCuts, AreOfCuts, StandingGroupsAreRound, frames_after, AreAtNodes, QuietJournalsHaveFrames, QuietSettingsAreLinked, IsCalmJournal, IsPrefixOf, RestsAt, ChartHintsRise, setting_of, IsKnownPrefix}
 use Rattle.sc_paxos_law.proofs.Lemmas.{place_among}
 
 -- the first rows of a lawful journal are one
-pub front_lawful : (words : ℕ → ℕ → ℕ × ℕ) (scenario : Scenario) (journal rows : Rows) → Lawful as_nodes words scenario journal → IsFront journal rows → Lawful as_nodes words scenario rows
-front_lawful words scenario journal rows lawful front = lawful-prefix (system_of as_nodes words scenario) (schedule scenario) rows front.more (subst (Lawful as_nodes words scenario) front.is lawful)
+pub prefix_lawful : (words : ℕ → ℕ → ℕ × ℕ) (scenario : Scenario) (journal rows : Rows) → Lawful as_nodes words scenario journal → IsPrefixOf journal rows → Lawful as_nodes words scenario rows
+prefix_lawful words scenario journal rows lawful front = lawful-prefix (system_of as_nodes words scenario) (schedule scenario) rows front.more (subst (Lawful as_nodes words scenario) front.is lawful)
 
 -- a quiet prefix is its own last quiet prefix
-pub own_front : (words : ℕ → ℕ → ℕ × ℕ) (scenario : Scenario) (quiet : Rows) → is_quiet (players words (births as_nodes scenario)) quiet ≡ true → quiet_front (players words (births as_nodes scenario)) quiet ≡ quiet
-own_front words scenario quiet still = front_whole (players words (births as_nodes scenario)) quiet still
+pub own_prefix : (words : ℕ → ℕ → ℕ × ℕ) (scenario : Scenario) (quiet : Rows) → is_quiet (players words (births as_nodes scenario)) quiet ≡ true → quiet_prefix (players words (births as_nodes scenario)) quiet ≡ quiet
+own_prefix words scenario quiet still = prefix_whole (players words (births as_nodes scenario)) quiet still
 
 module _ (all_bounded : ValidScenariosAreBounded) (frames_law : QuietJournalsHaveFrames) (rise_law : ChartHintsRise) (ask_law : QuietJournalsAsk) (cuts_law : QuietGroupsHaveCuts) (round_law : StandingGroupsAreRound) (linked_law : QuietSettingsAreLinked) (words : ℕ → ℕ → ℕ × ℕ) (scenario : Scenario) (first : Base) (others : List Base)
-    (far sent : ℕ) (journal quiet : Rows) (calm : IsCalmJournal words scenario journal) (groups : scenario.groups ≡ first ∷ others) (rests : RestsAt words scenario first journal quiet) (known : IsKnownFront words scenario journal quiet far) where
+    (far sent : ℕ) (journal quiet : Rows) (calm : IsCalmJournal words scenario journal) (groups : scenario.groups ≡ first ∷ others) (rests : RestsAt words scenario first journal quiet) (known : IsKnownPrefix words scenario journal quiet far) where
   abbrev at : Draw → ℕ → Option ReplicaState
   at = replicas_after scenario quiet
 
@@ -33,7 +33,7 @@ module _ (all_bounded : ValidScenariosAreBounded) (frames_law : QuietJournalsHav
   set = setting_of words scenario far sent quiet
 
   pub lawful : Lawful as_nodes words scenario quiet
-  lawful = front_lawful words scenario journal quiet calm.lawful rests.front
+  lawful = prefix_lawful words scenario journal quiet calm.lawful rests.front
 
   pub homes : AreAtNodes scenario quiet
   homes = known.homes quiet rests.front
@@ -41,11 +41,11 @@ module _ (all_bounded : ValidScenariosAreBounded) (frames_law : QuietJournalsHav
   pub frames : AreFramesOf at (frames_after scenario quiet)
   frames = frames_law words scenario first quiet calm.valid lawful rests.is homes
 
-  abbrev front_own : quiet_front (players words (births as_nodes scenario)) quiet ≡ quiet
-  front_own = own_front words scenario quiet rests.calm
+  abbrev prefix_own : quiet_prefix (players words (births as_nodes scenario)) quiet ≡ quiet
+  prefix_own = own_prefix words scenario quiet rests.calm
 
   risen : DoHintsRise at set.ways × AreReached set
-  risen = rise_law words scenario first others journal quiet quiet far sent (frames_after scenario quiet) calm.valid groups lawful rests homes front_own known.room frames
+  risen = rise_law words scenario first others journal quiet quiet far sent (frames_after scenario quiet) calm.valid groups lawful rests homes prefix_own known.room frames
 
   pub rise : DoHintsRise at set.ways
   rise = risen.0

@@ -3,7 +3,7 @@ use Rattle.sc_live_answers.proofs.Frames.{quiet_frames}
 use Rattle.sc_scenario.proofs.Lemmas.{valid_scenarios_are_bounded}
 use Rattle.sc_live_answers.proofs.RequestLaws.{lawful_replicas_are_named_once}
 use Rattle.sc_live_answers.specs.Definitions.{QuietJournalsHaveFrames, QuietChartsCount}
-use Rattle.sc_live_answers.proofs.SettingCounting.{charts_count}
+use Rattle.sc_live_answers.proofs.SettingCharts.{charts_count}
 use Rattle.sc_live_journals.proofs.ChartsProofs.Lemmas.{led_stand_once, ends_fall}
 
 -- In a quiet lawful journal whose replicas are at nodes of the scenario, the frames of the replicas that lead are those of the groups that stand.

@@ -15,7 +15,7 @@ use Rattle.sc_law_entries.specs.names.Definitions.{CoreNames, IsUsed, NamesAreDr
 use Rattle.sc_live_steps.specs.calm.Definitions.{Rows, StandsQuiet}
 use Rattle.sc_live_steps.specs.orders.Definitions.{IsBegun, turn_of, work_by, Answers, Asking, Ends, First, Here, Lone, Next, Opens, Records, Turn, Work, is_watch, Deal, IsAt, IsOrder, Stage, Weighs, heard, heard_lead}
 use Rattle.sc_live_journals.specs.scenes.Definitions.{StaysIn, IsThere, scene_at}
-use Rattle.sc_live_answers.specs.Definitions.{IsTrueEntry, Doer, HasDone, Promising, doer, heard_doer, opened, IsAskedOrCast, LeadsSince, VotesAreTrue, IsAllowedBy, LockTells, ReplicasTell, IsTrueSince}
+use Rattle.sc_live_answers.specs.Definitions.{IsTrueEntry, Doer, HasDone, Promising, doer, heard_doer, opened, IsAskedOrCast, LeadsSince, VotesAreTrue, IsAllowedBy, LockIsRecorded, ReplicasAreRecorded, IsTrueSince}
 use Rattle.sc_actor.proofs.Lemmas.{lawful-prefix}
 use Rattle.sc_live_plain.specs.Definitions.{replicas_after}
 use Rattle.sc_live_journals.specs.rows.Definitions.{view_at}
@@ -24,14 +24,14 @@ use Rattle.sc_law_entries.specs.logs.Definitions.{AreItsLogs}
 use Rattle.sc_law_entries.specs.ring.Definitions.{Story, unsigned_watch, watch_with}
 use Rattle.sc_scenario.specs.Definitions.{ValidScenariosAreBounded}
 use Rattle.sc_law_groups.specs.whole.Definitions.{ValidEntriesAreLogs, ValidJournalsAreSound}
-use Rattle.sc_live_answers.proofs.Leads.{IsWorkAt, OfOrder, OfOutcome, OfQuestion, OfVote, at_stage, stands_in, was_there}
+use Rattle.sc_live_answers.proofs.LeaderWork.{IsWorkAt, OfOrder, OfOutcome, OfQuestion, OfVote, at_stage, stands_in, was_there}
 use Rattle.sc_live_answers.proofs.Names.{has_not_voted, used_in}
-use Rattle.sc_live_answers.proofs.Opened.{IsOpened}
+use Rattle.sc_live_answers.proofs.OpenedTransactions.{IsOpened}
 use Rattle.sc_live_answers.proofs.Parties.{Coordinates}
-use Rattle.sc_live_answers.proofs.Ring.{pred_is}
-use Rattle.sc_live_answers.proofs.Since.{both, coords, flights_at, free_first, led_first, locks_at, next_is, shared_begins, there_of, tx_is}
+use Rattle.sc_live_answers.proofs.QuietRing.{pred_is}
+use Rattle.sc_live_answers.proofs.PartiesSinceQuiet.{both, coords, flights_at, free_first, led_first, locks_at, next_is, shared_begins, there_of, tx_is}
 use Rattle.std.proofs.lemmas.Option.{same_Some}
-use Rattle.sc_live_answers.proofs.Hints.{no_deeds}
+use Rattle.sc_live_answers.proofs.QuestionHints.{no_deeds}
 
 -- ---- a leader that stays
 
@@ -119,7 +119,7 @@ same_answer tx tx2 coord coord2 w w2 by by2 e = (cc, cc)
 
 -- ---- a leader
 
-module _ (tells : ReplicasTell) (sound : ValidJournalsAreSound) (logs : ValidEntriesAreLogs) (bounded : ValidScenariosAreBounded) (drawn : NamesAreDrawn) (words : ℕ → ℕ → ℕ × ℕ) (scenario : Scenario) (first : Base) (journal quiet rows : Rows) (name : Draw) (node : ℕ)
+module _ (tells : ReplicasAreRecorded) (sound : ValidJournalsAreSound) (logs : ValidEntriesAreLogs) (bounded : ValidScenariosAreBounded) (drawn : NamesAreDrawn) (words : ℕ → ℕ → ℕ × ℕ) (scenario : Scenario) (first : Base) (journal quiet rows : Rows) (name : Draw) (node : ℕ)
     (r : ReplicaState) (stage : Stage) (l : LeadsSince words scenario first journal quiet rows name node r stage) where
   abbrev all : List (Seat Player)
   all = births as_nodes scenario
@@ -185,7 +185,7 @@ module _ (tells : ReplicasTell) (sound : ValidJournalsAreSound) (logs : ValidEnt
     abbrev coord_bond : ((scene_at (births as_nodes scenario) rows).at deal.coord).bond ≡ Asking deal.tx deal.asked deal.turn
     coord_bond = ap (λ (h : Here). h.bond) stands.parties.0.0
 
-    coord_locks : LockTells scenario journal deal.coord c.now.group
+    coord_locks : LockIsRecorded scenario journal deal.coord c.now.group
     coord_locks =
         locks_at tells words scenario first journal quiet rows l.front.more l.front.is l.calm l.rests l.seen deal.coord deal.chief c.now
         (there_of tells words scenario first journal quiet rows l.front.more l.front.is l.calm l.rests l.seen (doer deal.coord deal.chief (opened deal.tx deal.turn)) c) c.is
@@ -291,5 +291,5 @@ module _ (tells : ReplicasTell) (sound : ValidJournalsAreSound) (logs : ValidEnt
     cast_true : IsAskedOrCast flight.value → IsTrueEntry r.me r.group flight.value
     cast_true k = by_command flight.value refl k
 
-pub votes_true : ReplicasTell → ValidJournalsAreSound → ValidEntriesAreLogs → ValidScenariosAreBounded → NamesAreDrawn → VotesAreTrue
+pub votes_true : ReplicasAreRecorded → ValidJournalsAreSound → ValidEntriesAreLogs → ValidScenariosAreBounded → NamesAreDrawn → VotesAreTrue
 votes_true tells sound logs bounded drawn words scenario first journal quiet rows name node r stage l flight among k = cast_true tells sound logs bounded drawn words scenario first journal quiet rows name node r stage l flight among k

@@ -18,15 +18,15 @@ use Rattle.sc_live_journals.specs.mail.Definitions.{SlotsAreLeft, ReplicasLast}
 use Rattle.sc_live_journals.specs.rows.Definitions.{view_at, next_in, marks_at, progress_at}
 use Rattle.sc_live_journals.specs.groups.Definitions.{IsTaughtOn, ScenariosAreWellBorn}
 use Rattle.sc_live_journals.specs.logs.Definitions.{logged_sets}
-use Rattle.sc_live_answers.specs.Definitions.{over_at, ChildrenAreBegun, GroupsAreTaught, tellers_at, AreFew, Task, IsTaskOf, DeliveriesKeepWork, IsCalmJournal, IsUnder, Knows, AreBorneSo, AreOfGroups, ChildrenAreBorne}
+use Rattle.sc_live_answers.specs.Definitions.{over_at, ChildrenAreBegun, GroupsAreTaught, slot_leaders_at, AreFew, Task, IsTaskOf, DeliveriesKeepWork, IsCalmJournal, IsUnder, Knows, AreCreatedByOrder, AreOfGroups, ChildrenAreCreated}
 use Rattle.sc_live_journals.specs.scenes.Definitions.{IsThere}
-use Rattle.sc_live_answers.proofs.WorkBirths.{HasBorn}
-use Rattle.sc_live_answers.proofs.Borne.{are_young}
-use Rattle.sc_live_answers.proofs.Keeping.{borne_still}
-use Rattle.sc_live_answers.proofs.YoungTelling.{borne_first}
-use Rattle.sc_live_answers.proofs.Children.{there_or, front_in_time}
+use Rattle.sc_live_answers.proofs.KnownChildren.{HasCreated}
+use Rattle.sc_live_answers.proofs.CreatedGroups.{are_young}
+use Rattle.sc_live_answers.proofs.NewGroupDeliveries.{created_still}
+use Rattle.sc_live_answers.proofs.ChildrenAtStart.{created_first}
+use Rattle.sc_live_answers.proofs.ChildrenUnderOrders.{there_or, prefix_in_time}
 use Rattle.sc_live_answers.proofs.Lineage.{log_stays}
-use Rattle.sc_live_answers.proofs.YoungStands.{OfJournals, all_found, group_is, state_of, state_stays, first_known}
+use Rattle.sc_live_answers.proofs.ChildrenInLogs.{OfJournals, all_found, group_is, state_of, state_stays, first_known}
 
 -- who goes was a member
 any_behind : {X : Type 0} (p : X → Bool) (n : ℕ) (xs : List X) → list_any p (drop n xs) ≡ true → list_any p xs ≡ true
@@ -46,13 +46,13 @@ pub record OfMembers : Type 0 where
   pub know : QuietMembersKnow
 
 module _ (laws : OfJournals) (more_laws : OfMembers) (words : ℕ → ℕ → ℕ × ℕ) (scenario : Scenario) (first : Base) (journal quiet rows more : Rows) (line : OrderLine) (task : Task) (calm : IsCalmJournal words scenario journal) (under : IsUnder words scenario first journal quiet rows)
-    (at : rows ≡ quiet ++ more) (is_calm : is_quiet (players words (births as_nodes scenario)) rows ≡ true) (named : AreOfGroups scenario journal rows) (of : IsTaskOf (births as_nodes scenario) quiet line task) (prior : AreBorneSo scenario journal quiet rows task)
+    (at : rows ≡ quiet ++ more) (is_calm : is_quiet (players words (births as_nodes scenario)) rows ≡ true) (named : AreOfGroups scenario journal rows) (of : IsTaskOf (births as_nodes scenario) quiet line task) (prior : AreCreatedByOrder scenario journal quiet rows task)
     (strangers : (base : Base) (who : ℕ) → Among base (groups_at as_nodes scenario.groups journal) → is_born (players words (births as_nodes scenario)) who ≡ false → marks_at (players words (births as_nodes scenario)) rows base.core.id who ≡ []) where
   abbrev all : List (Seat Player)
   all = births as_nodes scenario
 
   timely : AreInTime (players words (births as_nodes scenario)) rows
-  timely = front_in_time words (births as_nodes scenario) journal rows under.front.more under.front.is calm.timely
+  timely = prefix_in_time words (births as_nodes scenario) journal rows under.front.more under.front.is calm.timely
 
   -- what was there is there
   lasts : (name : Draw) (who : ℕ) → HasReplica (view_at (births as_nodes scenario) quiet) name who → HasReplica (view_at (births as_nodes scenario) rows) name who
@@ -62,7 +62,7 @@ module _ (laws : OfJournals) (more_laws : OfMembers) (words : ℕ → ℕ → �
 
   few : (base : Base) → AreFew as_nodes scenario journal base
   few base front behind who r e v =
-      let in_time = front_in_time words (births as_nodes scenario) journal front behind e calm.timely in
+      let in_time = prefix_in_time words (births as_nodes scenario) journal front behind e calm.timely in
       let parts = ap length e ∙ length-append front behind in
       let short = calm.short in
       let left = more_laws.left words scenario front base.core.id who r in_time (omega (arith, parts, short)) v in
@@ -70,7 +70,7 @@ module _ (laws : OfJournals) (more_laws : OfMembers) (words : ℕ → ℕ → �
       (omega (arith, slots), left.1)
 
   module _ (p : Base) (stands : Among p (groups_at as_nodes scenario.groups journal)) where
-    taught : IsTaughtOn (logged_sets as_nodes p journal) (over_at as_nodes p journal) (tellers_at as_nodes scenario p journal) words (births as_nodes scenario) rows p
+    taught : IsTaughtOn (logged_sets as_nodes p journal) (over_at as_nodes p journal) (slot_leaders_at as_nodes scenario p journal) words (births as_nodes scenario) rows p
     taught = (more_laws.taught words scenario journal rows under.front.more p (group_is laws words scenario journal calm p stands) calm.timely (few p) under.front.is (under.sent p stands).so).0
 
     no_marks : (who : ℕ) → marks_at (players words (births as_nodes scenario)) rows p.core.id who ≡ []
@@ -104,28 +104,28 @@ module _ (laws : OfJournals) (more_laws : OfMembers) (words : ℕ → ℕ → �
     Has = HasReplica (view_at (births as_nodes scenario) rows) base.core.id who
 
     module _ (on : task.splits ≡ true) (id : base.core.id ≡ task.name) where
-      borne_of : (r : ReplicaState) × (view_at (births as_nodes scenario) rows task.group there.0 ≡ Some r) × Knows task.name r
-      borne_of = prior.known on base is id there.0 there.1 (ap (λ n. view_at (births as_nodes scenario) rows n there.0) (sym id) ∙ there.2)
+      created_of : (r : ReplicaState) × (view_at (births as_nodes scenario) rows task.group there.0 ≡ Some r) × Knows task.name r
+      created_of = prior.known on base is id there.0 there.1 (ap (λ n. view_at (births as_nodes scenario) rows n there.0) (sym id) ∙ there.2)
 
       p : (base : Base) × Among base (groups_at as_nodes scenario.groups journal) × (base.core.id ≡ task.group)
-      p = named task.group there.0 borne_of.0 borne_of.1
+      p = named task.group there.0 created_of.0 created_of.1
 
       abbrev State : ℕ → Group
       State k = state_after (group_of p.0) (take k (decided_log as_nodes p.0 journal))
 
-      state : (k : ℕ) × (next borne_of.0 ≡ suc k) × (borne_of.0.group ≡ state_after (group_of p.0) (take k (decided_log as_nodes p.0 journal)))
-      state = state_of laws words scenario journal calm p.0 p.1 rows under.front there.0 borne_of.0 (ap (λ n. view_at (births as_nodes scenario) rows n there.0) p.2 ∙ borne_of.1)
+      state : (k : ℕ) × (next created_of.0 ≡ suc k) × (created_of.0.group ≡ state_after (group_of p.0) (take k (decided_log as_nodes p.0 journal)))
+      state = state_of laws words scenario journal calm p.0 p.1 rows under.front there.0 created_of.0 (ap (λ n. view_at (births as_nodes scenario) rows n there.0) p.2 ∙ created_of.1)
 
       -- the parent did not begin with it
-      not_first : HasBorn task.name (state_after (group_of p.0) (take zero (decided_log as_nodes p.0 journal))).core.born → ⊥
+      not_first : HasCreated task.name (state_after (group_of p.0) (take zero (decided_log as_nodes p.0 journal))).core.born → ⊥
       not_first has =
           let old = of.there on in
           let was = state_of laws words scenario journal calm p.0 p.1 quiet under.rests.front old.0 old.1 (ap (λ n. view_at (births as_nodes scenario) quiet n old.0) p.2 ∙ old.2) in
-          true≢false (sym (subst (λ (g : Group). HasBorn task.name g.core.born) (sym was.2) (log_stays task.name (group_of p.0) (take was.0 (decided_log as_nodes p.0 journal)) has)) ∙ of.unknown on task.group old.0 old.1 old.2)
+          true≢false (sym (subst (λ (g : Group). HasCreated task.name g.core.born) (sym was.2) (log_stays task.name (group_of p.0) (take was.0 (decided_log as_nodes p.0 journal)) has)) ∙ of.unknown on task.group old.0 old.1 old.2)
 
       -- the entry that creates it
-      entry : (m : ℕ) × (m < state.0) × ((kid : Base) × Among kid (groups_at as_nodes scenario.groups journal) × (kid.core.id ≡ task.name) × (kid.core.members ≡ right_members (State m).core.members)) × HasBorn task.name (State (suc m)).core.born
-      entry = first_known laws words scenario journal calm p.0 p.1 task.name state.0 (subst (λ (g : Group). HasBorn task.name g.core.born) state.2 borne_of.2) not_first
+      entry : (m : ℕ) × (m < state.0) × ((kid : Base) × Among kid (groups_at as_nodes scenario.groups journal) × (kid.core.id ≡ task.name) × (kid.core.members ≡ right_members (State m).core.members)) × HasCreated task.name (State (suc m)).core.born
+      entry = first_known laws words scenario journal calm p.0 p.1 task.name state.0 (subst (λ (g : Group). HasCreated task.name g.core.born) state.2 created_of.2) not_first
 
       same : entry.2.0 ≡ base
       same = (all_found laws words scenario journal calm).apart entry.2.0 base entry.2.1 is (entry.2.2 ∙ sym id)
@@ -134,8 +134,8 @@ module _ (laws : OfJournals) (more_laws : OfMembers) (words : ℕ → ℕ → �
       before : is_member (State entry.0).core.members who ≡ true
       before = any_behind (λ x. x == who) (staying (State entry.0).core.members) (State entry.0).core.members (subst (λ ms. is_member ms who ≡ true) (ap (λ (b : Base). b.core.members) (sym same) ∙ entry.2.3) member)
 
-      reach : next borne_of.0 ≤ (taught p.0 p.1).course.newest
-      reach = subst (λ o. next_in p.0 there.0 o ≤ (taught p.0 p.1).course.newest) (ap (λ n. view_at (births as_nodes scenario) rows n there.0) p.2 ∙ borne_of.1) (within p.0 p.1 there.0)
+      reach : next created_of.0 ≤ (taught p.0 p.1).course.newest
+      reach = subst (λ o. next_in p.0 there.0 o ≤ (taught p.0 p.1).course.newest) (ap (λ n. view_at (births as_nodes scenario) rows n there.0) p.2 ∙ created_of.1) (within p.0 p.1 there.0)
 
       learnt : suc entry.0 < next_in p.0 who (view_at (births as_nodes scenario) rows p.0.core.id who)
       learnt = (let less = entry.1 in let here = state.1 in let least = reach in learns p.0 p.1 entry.0 who (omega (arith, less, here, least)) before)
@@ -150,7 +150,7 @@ module _ (laws : OfJournals) (more_laws : OfMembers) (words : ℕ → ℕ → �
       knows =
           let far : suc entry.0 < next some.0 = subst (λ o. suc entry.0 < next_in p.0 who o) some.1 learnt in
           let next_is = now.1 in
-          subst (λ (g : Group). HasBorn task.name g.core.born) (sym now.2) (state_stays laws words scenario journal calm p.0 p.1 task.name (suc entry.0) now.0 (omega (arith, far, next_is)) entry.3)
+          subst (λ (g : Group). HasCreated task.name g.core.born) (sym now.2) (state_stays laws words scenario journal calm p.0 p.1 task.name (suc entry.0) now.0 (omega (arith, far, next_is)) entry.3)
 
       by_entry : Has
       by_entry =
@@ -163,10 +163,10 @@ module _ (laws : OfJournals) (more_laws : OfMembers) (words : ℕ → ℕ → �
       | inr nowhere ↦ (let new = prior.only base is nowhere there in by_entry new.0 new.1)
     ]
 
-pub children_borne : OfJournals → OfMembers → ScenariosAreWellBorn → ChildrenAreBegun → DeliveriesKeepWork → ChildrenAreBorne
-children_borne laws more_laws well begun keeps = record {
-  begins = borne_first;
-  keeps = λ words scenario first journal quiet rows line task seat number w prior. borne_still laws well keeps words scenario first journal quiet rows line task seat number w prior;
+pub children_created : OfJournals → OfMembers → ScenariosAreWellBorn → ChildrenAreBegun → DeliveriesKeepWork → ChildrenAreCreated
+children_created laws more_laws well begun keeps = record {
+  begins = created_first;
+  keeps = λ words scenario first journal quiet rows line task seat number w prior. created_still laws well keeps words scenario first journal quiet rows line task seat number w prior;
   young = λ words scenario first journal quiet rows line task seat number w prior mail group node r t here. are_young laws begun keeps words scenario first journal quiet rows line task seat number w prior mail group node r t here;
   members = λ words scenario first journal quiet rows more line task calm under at is_calm named of prior strangers base is there node member.
       has laws more_laws words scenario first journal quiet rows more line task calm under at is_calm named of prior strangers base is there node member;

@@ -10,7 +10,7 @@ use Rattle.sc_scenario.specs.declared.scenarios.Scenario.{Scenario}
 use Rattle.sc_sound.specs.Definitions.{as_nodes}
 use Rattle.sc_live_steps.specs.calm.Definitions.{Rows}
 use Rattle.sc_live_journals.specs.logs.Definitions.{IsGroupOf}
-use Rattle.sc_live_answers.specs.Told.{IsAllowedBy}
+use Rattle.sc_live_answers.specs.AllowedCommands.{IsAllowedBy}
 
 -- all pairs of the group lie on its arc
 abbrev pub HasOwnKeys : Group → Type 0

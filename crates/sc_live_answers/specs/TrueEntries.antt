@@ -8,17 +8,17 @@ use Rattle.sc_sound.specs.Definitions.{as_nodes, births}
 use Rattle.sc_live_steps.specs.calm.Definitions.{Rows}
 use Rattle.sc_live_steps.specs.orders.Definitions.{Stage}
 use Rattle.sc_live_journals.specs.scenes.Definitions.{AreUntouched, LeadsAlone}
-use Rattle.sc_live_answers.specs.Votes.{IsOrdersAlone, IsTrueEntry}
-use Rattle.sc_live_answers.specs.Journal.{AreSent, IsCalmJournal, IsFront}
-use Rattle.sc_live_answers.specs.Resting.{RestsAt}
-use Rattle.sc_live_answers.specs.TrueUnder.{AreSeen, IsTrueSince}
+use Rattle.sc_live_answers.specs.LeaderVotes.{IsOrdersAlone, IsTrueEntry}
+use Rattle.sc_live_answers.specs.CalmJournals.{AreSent, IsCalmJournal, IsPrefixOf}
+use Rattle.sc_live_answers.specs.RestingPrefixes.{RestsAt}
+use Rattle.sc_live_answers.specs.OrderFacts.{AreSeen, IsTrueSince}
 
 -- what is known of a replica that leads its group alone while an order is at a stage, since a quiet prefix of a calm journal: only work of the order is in flight or ready there
 pub record LeadsSince (words : ℕ → ℕ → ℕ × ℕ) (scenario : Scenario) (first : Base) (journal quiet rows : Rows) (name : Draw) (node : ℕ) (r : ReplicaState) (stage : Stage) : Type 0 where
   pub calm : IsCalmJournal words scenario journal
   pub rests : RestsAt words scenario first journal quiet
   pub seen : AreSeen scenario quiet
-  pub front : IsFront journal rows
+  pub front : IsPrefixOf journal rows
   pub sent : AreSent words scenario journal rows
   pub untouched : AreUntouched words (births as_nodes scenario) quiet rows stage
   pub true_since : IsTrueSince scenario quiet rows stage

@@ -1,5 +1,5 @@
 //! Calm scenarios are answered, at their budget or where no line was cut off. Definitions and laws, no logic.
-ghost use Rattle.sc_live_answers.specs.Answered.{CalmJournalsGoOn, CalmLinesSettle, CalmRequestsAreAnswered, SettledRequestsAreAnswered};
+ghost use Rattle.sc_live_answers.specs.AnsweredRequests.{CalmJournalsGoOn, CalmLinesSettle, CalmRequestsAreAnswered, SettledRequestsAreAnswered};
 ghost use Rattle.sc_live_plain.specs.Laws.{PlainRequestsAreAnswered};
 
 use sc_law_groups::valid_journals_are_sound;

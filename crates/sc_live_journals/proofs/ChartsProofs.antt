@@ -1,5 +1,5 @@
-pub mod Ends
-pub mod Following
-pub mod Fronts
-pub mod Names
+pub mod GoneDistances
+pub mod ChartSequence
+pub mod QuietPrefixes
+pub mod LedNames
 pub mod Lemmas

@@ -1,5 +1,5 @@
-pub mod Charting
-pub mod Ends
-pub mod Following
-pub mod Fronts
+pub mod Charts
+pub mod GoneDistances
+pub mod ChartSequence
+pub mod QuietPrefixes
 pub mod Definitions

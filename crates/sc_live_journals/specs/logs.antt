@@ -1,3 +1,3 @@
-pub mod Logged
+pub mod GroupLogs
 pub mod Nodes
 pub mod Definitions

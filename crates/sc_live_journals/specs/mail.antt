@@ -1,6 +1,6 @@
-pub mod Few
-pub mod Idle
-pub mod Lasting
-pub mod Over
-pub mod Posted
+pub mod SlotAndRoundBounds
+pub mod WaitingCommands
+pub mod LastingReplicas
+pub mod EndedGroups
+pub mod MailSenders
 pub mod Definitions

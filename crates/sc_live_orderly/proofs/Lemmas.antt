@@ -1,13 +1,13 @@
 -- The lemmas of this crate that others cite, under one name.
-pub use Rattle.sc_live_orderly.proofs.Counting.{mails_are_owed, goes_are_few, rows_are, rows_of_all, goes_in_time}
-pub use Rattle.sc_live_orderly.proofs.InTime.{in_time_before, last_in_time, in_time_tidy, by_time}
-pub use Rattle.sc_live_orderly.proofs.Ordering.{orderly, by_rows, Each-append}
-pub use Rattle.sc_live_orderly.proofs.Passing.{IsManyLine, was_quiet, WasQuiet}
-pub use Rattle.sc_live_orderly.proofs.Paying.{IsPaid, pays, count_push, delivered}
-pub use Rattle.sc_live_orderly.proofs.Resting.{TakesFirst, takes_first, is_born-from, rest-row, tidy, quiet-empty, rest-calm, after-row, may-born}
-pub use Rattle.sc_live_orderly.proofs.Rests.{filter_sum, less_at}
-pub use Rattle.sc_live_orderly.proofs.Seats.{seat_found, one_changes}
-pub use Rattle.sc_live_orderly.proofs.Settling.{never_cut_by}
-pub use Rattle.sc_live_orderly.proofs.Timing.{rows_in_time, deliveries_and_orders, ends_quiet}
+pub use Rattle.sc_live_orderly.proofs.MailAndRowCounts.{mails_are_owed, goes_are_few, rows_are, rows_of_all, goes_in_time}
+pub use Rattle.sc_live_orderly.proofs.RowsInTime.{in_time_before, last_in_time, in_time_tidy, by_time}
+pub use Rattle.sc_live_orderly.proofs.RowsOfSchedules.{orderly, by_rows, Each-append}
+pub use Rattle.sc_live_orderly.proofs.PassedLines.{IsManyLine, was_quiet, WasQuiet}
+pub use Rattle.sc_live_orderly.proofs.PotentialBounds.{IsPaid, pays, count_push, delivered}
+pub use Rattle.sc_live_orderly.proofs.RemainingMail.{TakesFirst, takes_first, is_born-from, rest-row, tidy, quiet-empty, rest-calm, after-row, may-born}
+pub use Rattle.sc_live_orderly.proofs.MailCopies.{filter_sum, less_at}
+pub use Rattle.sc_live_orderly.proofs.SeatSums.{seat_found, one_changes}
+pub use Rattle.sc_live_orderly.proofs.QuietLineEnds.{never_cut_by}
+pub use Rattle.sc_live_orderly.proofs.SpacedLines.{rows_in_time, deliveries_and_orders, ends_quiet}
 pub use Rattle.sc_live_orderly.proofs.SettledInTime.{settled_in_time}
 pub use Rattle.sc_live_orderly.proofs.UncutPrefixes.{uncut_before}

@@ -11,9 +11,9 @@ use Rattle.sc_actor.specs.declared.schedules.Line.TheVariants.{Go as GoLine, Del
 use Rattle.sc_actor.specs.Definitions.{has_crashed, System, acts, has_gone, Task, Once, Settles, Frees, Storms, WalkPlace, MayAdd, IsLawful, onward, is_over, is_quiet, after_row, place_after, rest_of_all, tasks_of, unsettled}
 use Rattle.sc_actor.proofs.Lemmas.{lawful-last, place_after-rows, unless-some}
 use Rattle.sc_live_orderly.specs.Definitions.{IsCalmRow, is_told, HasRoom, Said, Nothing, Goes, AnOrder, AreSpaced, IsClear, ComesInTime, AreInTime}
-use Rattle.sc_live_orderly.proofs.Ordering.{allows_calm, by_rows}
-use Rattle.sc_live_orderly.proofs.Settling.{acts-event, delivery-event, free-event, deliver-event}
-use Rattle.sc_live_orderly.proofs.InTime.{in_time_row, clear_row, delivery_in_time, none_in_time}
+use Rattle.sc_live_orderly.proofs.RowsOfSchedules.{allows_calm, by_rows}
+use Rattle.sc_live_orderly.proofs.QuietLineEnds.{acts-event, delivery-event, free-event, deliver-event}
+use Rattle.sc_live_orderly.proofs.RowsInTime.{in_time_row, clear_row, delivery_in_time, none_in_time}
 use Rattle.sc_live_orderly.proofs.SpacedTasks.{AreTasksSpaced, lines_spaced, Knows, Stands, may_go, may_order, knows_delivery}
 use Rattle.sc_live_orderly.proofs.UncutPrefixes.{onward_cut, uncut_before}
 

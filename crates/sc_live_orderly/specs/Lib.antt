@@ -1,4 +1,4 @@
-pub mod Orderly
-pub mod Owing
-pub mod Timely
+pub mod OrderedRows
+pub mod Potential
+pub mod OrdersInQuiet
 pub mod Definitions

@@ -19,9 +19,9 @@ ghost use Rattle.sc_actor.specs.declared.schedules.Line.{Line};
 ghost use Rattle.sc_actor.specs.Mail.{mails, numbered};
 ghost use Rattle.sc_actor.specs.System.{system, are_apart};
 ghost use Rattle.sc_actor.specs.Walk.{IsLawful, is_quiet, unsettled};
-ghost use Rattle.sc_live_orderly.specs.Orderly.{IsPlainLine, IsCalmLine, IsOrderly, IsCalmRow, IsTidy, rest, mail_for, is_born, taken, deliveries, goes, orders};
-ghost use Rattle.sc_live_orderly.specs.Owing.{Owing, Lowers, SendsToActors, HasRoom, owed, owed_at_birth};
-ghost use Rattle.sc_live_orderly.specs.Timely.{AreSpaced, Nothing, AreInTime, AreToldSo, AreGivenSo, orders_given, IsMeasure};
+ghost use Rattle.sc_live_orderly.specs.OrderedRows.{IsPlainLine, IsCalmLine, IsOrderly, IsCalmRow, IsTidy, rest, mail_for, is_born, taken, deliveries, goes, orders};
+ghost use Rattle.sc_live_orderly.specs.Potential.{Owing, Lowers, SendsToActors, HasRoom, owed, owed_at_birth};
+ghost use Rattle.sc_live_orderly.specs.OrdersInQuiet.{AreSpaced, Nothing, AreInTime, GiveAllowedOrders, LinesGiveAllowedOrders, orders_given, IsMeasure};
 
 use sc_actor::Actor;
 
@@ -167,6 +167,6 @@ pub fn orders_begin_in_quiet<A: Actor>()
         (lines : List (Line A.Order)) (allowed : ℕ → A.Order → Bool)
         (journal : List (Row A.Mail A.Order)) →
         let s = system A.table A.Mail.receiver words births in
-        Each IsCalmLine lines → AreGivenSo allowed lines → IsLawful s lines journal →
-        AreToldSo allowed journal }
+        Each IsCalmLine lines → LinesGiveAllowedOrders allowed lines → IsLawful s lines journal →
+        GiveAllowedOrders allowed journal }
 {}

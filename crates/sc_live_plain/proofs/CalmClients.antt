@@ -17,12 +17,12 @@ use Rattle.sc_paxos_law.proofs.Lemmas.{from_map, Among-left}
 use Rattle.sc_client_table.specs.Definitions.{Client as ClientState, request_at, waiting_request, ClientStep, asked_of, sent_to, sent_where, chosen_for, request_sent, started, waits_for, was_asked, redirected, answer_taken, got, table}
 use Rattle.sc_scenario.specs.declared.scenarios.Asks.{Asks}
 use Rattle.sc_live_plain.specs.Definitions.{IsLinkedSetting, Knows, CanBeAsked, IsCalmClient, BeginsBy, StaysCalm, ClientsStayCalm, start_known, Setting, IsHome, HasGoneTo, IsSetting, IsAsideBody, IsCalmMail, Frame, begun_ones, IsWaiting, IsResting, IsBegun, Requests, IsPlainBody}
-use Rattle.sc_live_plain.proofs.CalmKnowing.{name_in, id_of, gap, one_of_one, preferring_names, preferring_starts, learn_in_turn}
-use Rattle.sc_live_plain.proofs.Clients.{asking}
-use Rattle.sc_live_plain.proofs.Knowing.{chosen_is, one_chosen}
+use Rattle.sc_live_plain.proofs.KnownGroups.{name_in, id_of, gap, one_of_one, preferring_names, preferring_starts, learn_in_turn}
+use Rattle.sc_live_plain.proofs.PlainClients.{asking}
+use Rattle.sc_live_plain.proofs.PlainKnownGroups.{chosen_is, one_chosen}
 use Rattle.sc_live_plain.proofs.Lists.{some_is, map_among}
-use Rattle.sc_live_plain.proofs.Sends.{mail_of}
-use Rattle.sc_live_plain.proofs.BetweenGrows.{request_same as sent_begun}
+use Rattle.sc_live_plain.proofs.RepeatedMail.{mail_of}
+use Rattle.sc_live_plain.proofs.BegunRequestCounts.{request_same as sent_begun}
 
 -- ---- what is known of a group
 

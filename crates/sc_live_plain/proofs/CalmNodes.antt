@@ -12,7 +12,7 @@ use Rattle.sc_live_plain.specs.Definitions.{Other, mark, Setting, IsHome, HasGon
 use Rattle.sc_live_plain.proofs.Lists.{some_is}
 use Rattle.sc_live_plain.proofs.NodeRows.{NodeRow, node_row, mail_is, node_plain, node_said, me_after, found_after, others_after}
 use Rattle.sc_live_plain.proofs.ReplicaRows.{DidAccept, Does}
-use Rattle.sc_live_plain.proofs.Sends.{mail_of}
+use Rattle.sc_live_plain.proofs.RepeatedMail.{mail_of}
 
 -- a replica in its own place leaves all as they are
 put_same : (group : Draw) (r : ReplicaState) (replicas : List ReplicaState) → replica_of group replicas ≡ Some r → with_replica group r replicas ≡ replicas

@@ -8,8 +8,8 @@ use Rattle.sc_paxos_words.proofs.Lemmas.{Each-weaker}
 use Rattle.sc_node_table.specs.Definitions.{entered, serves_calls, ReplicaState, name_of, next, slots_ahead, numbers_from}
 use Rattle.sc_live_steps.specs.calm.Definitions.{AreBounded, IsServedCall, ServesAll, AreNines, MayPump, Follows, Points, Ways}
 use Rattle.sc_live_plain.specs.Definitions.{Frame, IsFrame, Requests, IsPlainCall, IsPlainCommand, IsPlainFlight, IsPlainFollower, IsPlainReplica, IsLeading}
-use Rattle.sc_live_plain.proofs.Entry.{entered_plain}
-use Rattle.sc_live_plain.proofs.Served.{call_plain}
+use Rattle.sc_live_plain.proofs.PlainEntries.{entered_plain}
+use Rattle.sc_live_plain.proofs.ExecutedCalls.{call_plain}
 
 -- ---- one that does not run
 

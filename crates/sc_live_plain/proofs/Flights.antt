@@ -9,8 +9,8 @@ use Rattle.sc_paxos_words.specs.Definitions.{flight_at, without_flight, kept_vot
 use Rattle.sc_paxos_words.proofs.Lemmas.{Among-filter}
 use Rattle.sc_node_table.specs.Definitions.{numbers_from}
 use Rattle.sc_paxos_law.proofs.Lemmas.{member-among, among-member}
-use Rattle.sc_live_plain.proofs.Counts.{one_yes, one_no, count-cons}
-use Rattle.sc_live_plain.proofs.Leading.{flights_at}
+use Rattle.sc_live_plain.proofs.SlotCounts.{one_yes, one_no, count-cons}
+use Rattle.sc_live_plain.proofs.LeadingReplicas.{flights_at}
 use Rattle.sc_live_plain.proofs.Lists.{some_is}
 
 -- ---- the flights

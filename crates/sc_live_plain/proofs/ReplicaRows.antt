@@ -9,13 +9,13 @@ use Rattle.sc_paxos_words.specs.Definitions.{below}
 use Rattle.sc_paxos_words.proofs.Lemmas.{at_least_itself, Each-weaker}
 use Rattle.sc_node_table.specs.Definitions.{ReplicaState, Place, name_of, next, last_slot, mailed, slots_ahead}
 use Rattle.sc_live_plain.specs.Definitions.{Frame, IsFrame, body_owes, mail_owes, replica_owes, Requests, IsPlainCall, IsPlainCommand, IsPlainBody, AreTaken, IsPlainLeader, IsPlainFollower, IsPlainVoter, IsPlainReplica, HasOffered, IsLeading, IsSettled, IsPlainAt, IsDue}
-use Rattle.sc_live_plain.proofs.Asking.{request_refused, request_run}
-use Rattle.sc_live_plain.proofs.Leading.{IsHeld, IsSaid}
-use Rattle.sc_live_plain.proofs.Pumping.{call_is}
-use Rattle.sc_live_plain.proofs.Executing.{IsRun}
-use Rattle.sc_live_plain.proofs.Sends.{mail_of}
-use Rattle.sc_live_plain.proofs.Accepting.{accepted_state, accept_is, accepted_voter, as_voter, accepted_plain, accepted_owes, accepted_hint, accepted_me, accepted_group, accepted_next, accepted_flights, accepted_held, accepted_slots, accepted_follower, accepted_leader, accepted_done, learnt_state, learn_is, learnt_none, learnt_plain, learnt_follower, learnt_next, follower_owes}
-use Rattle.sc_live_plain.proofs.Voting.{IsCounted, accepted_counted, accepted_none}
+use Rattle.sc_live_plain.proofs.LeaderRequests.{request_refused, request_run}
+use Rattle.sc_live_plain.proofs.LeadingReplicas.{IsHeld, IsSaid}
+use Rattle.sc_live_plain.proofs.Pumps.{call_is}
+use Rattle.sc_live_plain.proofs.LeaderExecutions.{IsRun}
+use Rattle.sc_live_plain.proofs.RepeatedMail.{mail_of}
+use Rattle.sc_live_plain.proofs.AcceptAndLearnRows.{accepted_state, accept_is, accepted_voter, as_voter, accepted_plain, accepted_owes, accepted_hint, accepted_me, accepted_group, accepted_next, accepted_flights, accepted_held, accepted_slots, accepted_follower, accepted_leader, accepted_done, learnt_state, learn_is, learnt_none, learnt_plain, learnt_follower, learnt_next, follower_owes}
+use Rattle.sc_live_plain.proofs.CountedVotes.{IsCounted, accepted_counted, accepted_none}
 
 module _ (begun : Requests) (frame : Frame) (is : IsFrame frame) where
   -- the replica at the leading node leads

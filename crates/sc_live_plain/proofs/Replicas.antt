@@ -6,7 +6,7 @@ use Rattle.sc_base.specs.Definitions.{same_draw}
 use Rattle.sc_node_table.specs.Values.{Draw}
 use Rattle.sc_node_table.specs.Definitions.{replica_of, with_replica, ReplicaState, name_of}
 use Rattle.sc_live_plain.specs.Definitions.{replica_owes}
-pub use Rattle.sc_live_steps.proofs.CalmProofs.OwedParties.{put_found, put_others}
+pub use Rattle.sc_live_steps.proofs.CalmProofs.PartyPotential.{put_found, put_others}
 
 -- the one that is found is the one that is changed
 pub put_owes : (group : Draw) (new r : ReplicaState) (replicas : List ReplicaState) → replica_of group replicas ≡ Some r → sum_by replica_owes (with_replica group new replicas) + replica_owes r ≡ sum_by replica_owes replicas + replica_owes new

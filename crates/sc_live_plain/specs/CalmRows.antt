@@ -5,9 +5,9 @@ use Rattle.sc_scenario.specs.declared.scenarios.Scenario.{Scenario}
 use Rattle.sc_node_table.specs.Definitions.{ReplicaState, name_of}
 use Rattle.sc_live_steps.specs.calm.Definitions.{AreBounded, Lowers, Points, Ways}
 use Rattle.sc_live_plain.specs.Frames.{Frame, IsFrame}
-use Rattle.sc_live_plain.specs.PlainClient.{IsBegun}
+use Rattle.sc_live_plain.specs.PlainClients.{IsBegun}
 use Rattle.sc_live_plain.specs.PlainMail.{IsPlainBody}
-use Rattle.sc_live_plain.specs.PlainNode.{IsPlainAt, IsDue}
+use Rattle.sc_live_plain.specs.PlainNodes.{IsPlainAt, IsDue}
 
 -- each mail of clients' requests lowers what is owed at the replica that takes it
 pub record RequestsLower : Type 0 where

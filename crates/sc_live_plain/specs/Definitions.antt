@@ -1,20 +1,20 @@
 -- The definitions of this crate that other crates cite, under one name.
-pub use Rattle.sc_live_plain.specs.Asking.{IsAskingNode, IsAskingClient, IsAsking, AreFarFromLast, RequestsGoOn}
-pub use Rattle.sc_live_plain.specs.AskingLines.{NobodyWaits, AreRequests, AreSeated, HaveAllReplies, LinesAreAnswered}
-pub use Rattle.sc_live_plain.specs.AskingQuiet.{replicas_after, setting_at, AreFramesOf, DoHintsRise, IsQuietJournal, QuietJournalsAsk, hints_left, QuietHintsRise, ways_at}
-pub use Rattle.sc_live_plain.specs.AtRest.{frame_at_rest, StandsPlain, IsOfNodes, IsKept, view_at_rest, QuietGroupsStandPlain}
-pub use Rattle.sc_live_plain.specs.Between.{Mark, Asks, Votes, Tells, Other, mark, AreInOrder, IsBelow, View, told, IsBetween, IsVoting, mark_of, IsLearning}
-pub use Rattle.sc_live_plain.specs.BetweenJournal.{replica_at, next_in, voters_in, votes_in, view_at, marks_at, IsGroupAt, marks_for, replicas_of}
-pub use Rattle.sc_live_plain.specs.BetweenRows.{IsOther, IsTaken, MovesBy, How, IsNew, IsCount, IsElsewhere, Leads, IsIdle, Accepts, Learns, IsOffered, IsCounted, Moves}
+pub use Rattle.sc_live_plain.specs.RequestPhase.{IsAskingNode, IsAskingClient, IsAsking, AreFarFromLast, RequestsGoOn}
+pub use Rattle.sc_live_plain.specs.RequestLines.{NobodyWaits, AreRequests, AreSeated, HaveAllReplies, LinesAreAnswered}
+pub use Rattle.sc_live_plain.specs.QuietJournals.{replicas_after, setting_at, AreFramesOf, DoHintsRise, IsQuietJournal, QuietJournalsAsk, hints_left, QuietHintsRise, ways_at}
+pub use Rattle.sc_live_plain.specs.QuietFrames.{frame_at_rest, StandsPlain, IsOfNodes, IsKept, view_at_rest, QuietGroupsStandPlain}
+pub use Rattle.sc_live_plain.specs.LeaderMail.{Mark, Asks, Votes, Tells, Other, mark, AreInOrder, IsBelow, View, told, IsBetween, IsVoting, mark_of, IsLearning}
+pub use Rattle.sc_live_plain.specs.LeaderMailInJournals.{replica_at, next_in, voters_in, votes_in, view_at, marks_at, IsGroupAt, marks_for, replicas_of}
+pub use Rattle.sc_live_plain.specs.LeaderMailRows.{IsOther, IsTaken, MovesBy, How, IsNew, IsCount, IsElsewhere, Leads, IsIdle, Accepts, Learns, IsOffered, IsCounted, Moves}
 pub use Rattle.sc_live_plain.specs.Budget.{requests_of, budget_of, AllowsDeliveries, delivers, IsAtBudget, IsServed, AreAnswered}
-pub use Rattle.sc_live_plain.specs.Calm.{gives_order, starts, are_parted, calm_budget_of, AllowsCalmly, CalmLinesAreSpaced, IsCalmWith, IsCalm, IsCalmAtBudget, RoomyScenariosAreCalm, orders_of}
-pub use Rattle.sc_live_plain.specs.CalmAsking.{CanBeAsked, IsCalmClient, IsLinkedSetting, BeginsBy, StaysCalm, Knows, ClientsStayCalm, IsRingOf}
-pub use Rattle.sc_live_plain.specs.CalmClient.{start_known, FollowedBy, AreRoundRing, start_of, KnowsFirst, ClientsLearnInTurn}
-pub use Rattle.sc_live_plain.specs.CalmNode.{Setting, IsHome, IsSetting, KnowsBetter, IsCalmNode, IsCalmMail, IsAsideBody, ComesInTime, HasGoneTo, IsNearer, IsAsideAnswer, NodesStayCalm}
+pub use Rattle.sc_live_plain.specs.CalmBudget.{gives_order, starts, are_parted, calm_budget_of, AllowsCalmly, CalmLinesAreSpaced, IsCalmWith, IsCalm, IsCalmAtBudget, RoomyScenariosAreCalm, orders_of}
+pub use Rattle.sc_live_plain.specs.CalmClients.{CanBeAsked, IsCalmClient, IsLinkedSetting, BeginsBy, StaysCalm, Knows, ClientsStayCalm, IsRingOf}
+pub use Rattle.sc_live_plain.specs.KnownGroups.{start_known, FollowedBy, AreRoundRing, start_of, KnowsFirst, ClientsLearnInTurn}
+pub use Rattle.sc_live_plain.specs.CalmNodes.{Setting, IsHome, IsSetting, KnowsBetter, IsCalmNode, IsCalmMail, IsAsideBody, ComesInTime, HasGoneTo, IsNearer, IsAsideAnswer, NodesStayCalm}
 pub use Rattle.sc_live_plain.specs.CalmRows.{RequestsLower}
 pub use Rattle.sc_live_plain.specs.Frames.{Frame, IsFrame, frame_of, AreNamedApart}
 pub use Rattle.sc_live_plain.specs.Laws.{PlainLinesEndQuiet, PlainJournalsAreLight, MadeScenariosAreAtBudget, PlainRequestsAreAnswered}
-pub use Rattle.sc_live_plain.specs.Owed.{replica_owes, begun_ones, waiting_ones, player_owes, mail_owes, body_owes, client_owes, answer_owes, node_owes}
-pub use Rattle.sc_live_plain.specs.PlainClient.{IsBegun, begun_of, IsWaiting, way_of, IsPlainClient, IsResting}
+pub use Rattle.sc_live_plain.specs.Potential.{replica_owes, begun_ones, waiting_ones, player_owes, mail_owes, body_owes, client_owes, answer_owes, node_owes}
+pub use Rattle.sc_live_plain.specs.PlainClients.{IsBegun, begun_of, IsWaiting, way_of, IsPlainClient, IsResting}
 pub use Rattle.sc_live_plain.specs.PlainMail.{Requests, IsPlainCall, IsPlainCommand, IsPlainBody, IsPlainMail, IsWrittenValue, IsPlainAnswer, written_by}
-pub use Rattle.sc_live_plain.specs.PlainNode.{AreTaken, IsPlainLeader, IsPlainFollower, IsPlainVoter, IsPlainReplica, HasOffered, IsPlainAt, IsSettled, IsPlainNode, IsPlainGroup, IsPlainFlight, IsDue, takers, IsLeading}
+pub use Rattle.sc_live_plain.specs.PlainNodes.{AreTaken, IsPlainLeader, IsPlainFollower, IsPlainVoter, IsPlainReplica, HasOffered, IsPlainAt, IsSettled, IsPlainNode, IsPlainGroup, IsPlainFlight, IsDue, takers, IsLeading}

@@ -1,4 +1,4 @@
-pub mod Counts
-pub mod Members
-pub mod Paid
+pub mod OrderEntryVotes
+pub mod MemberChanges
+pub mod LoneEntries
 pub mod Lemmas

@@ -1,1 +1,1 @@
-pub mod Paid
+pub mod LoneEntries

@@ -1,9 +1,9 @@
 pub mod Parts
 pub mod Rows
-pub mod Follows
+pub mod StageSteps
 pub mod Scenes
 pub mod Stages
 pub mod Tables
 pub mod Entries
-pub mod Running
+pub mod LoneEntries
 pub mod Definitions

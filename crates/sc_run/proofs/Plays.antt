@@ -28,7 +28,7 @@ use Rattle.sc_command_line.specs.declared.said.Said.TheVariants.{Ended as HasEnd
 use Rattle.sc_run.specs.Budgets.{BudgetsSuffice}
 use Rattle.sc_run.specs.declared.done.Text.{Text}
 use Rattle.sc_run.specs.Played.{mail_weight, HasPlayedToEnd, HasFilled}
-use Rattle.sc_run.specs.Run.{journal_limit, Comes, TellsFull}
+use Rattle.sc_run.specs.Run.{journal_limit, Comes, IsFullText}
 
 -- an answer other than out of memory
 abbrev GoesOn : Played → Type 0
@@ -37,8 +37,8 @@ GoesOn Full = ⊤
 GoesOn OutOfMemory = ⊥
 
 -- a run that ended did not run out of memory
-pub no_want : (cut quiet : Bool) (skips : ℕ) → Ended cut quiet skips ≢ OutOfMemory
-no_want cut quiet skips e = subst GoesOn e tt
+pub no_out_of_memory : (cut quiet : Bool) (skips : ℕ) → Ended cut quiet skips ≢ OutOfMemory
+no_out_of_memory cut quiet skips e = subst GoesOn e tt
 
 -- the actors of shells are those of their seats
 pub actors_of : {A M O : Type 0} {g : Ghosts A M O} {h : MailGhosts M} (ss : List (Shell A M O g h)) → map (λ s. s.actor) ss ≡ map (λ seat. seat.actor) (seats ss)
@@ -102,7 +102,7 @@ comes_ended Shows scenario cut quiet skips journal parties text e lines journal_
 })
 
 -- the text of a run whose journal is full
-pub comes_full : (Shows : List (Row Mail OrderLine) → List (List ℕ) → Type 0) (scenario : Scenario) (journal : List (Row Mail OrderLine)) (text : Text) → HasFilled scenario journal_limit journal → TellsFull journal text → Comes Shows scenario Filled text
+pub comes_full : (Shows : List (Row Mail OrderLine) → List (List ℕ) → Type 0) (scenario : Scenario) (journal : List (Row Mail OrderLine)) (text : Text) → HasFilled scenario journal_limit journal → IsFullText journal text → Comes Shows scenario Filled text
 comes_full Shows scenario journal text filled tells = inr (record {
   journal = journal;
   filled = filled;

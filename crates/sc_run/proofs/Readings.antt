@@ -13,31 +13,31 @@ use Rattle.sc_command_line.specs.Inputs.{ReadsFile, ReadsScenario, ReadsText}
 use Rattle.sc_command_line.specs.declared.faults.InputFault.{InputFault}
 use Rattle.sc_command_line.specs.declared.faults.InputFault.TheVariants.{Failed, Bad, OutOfMemory}
 use Rattle.sc_run.specs.declared.done.Text.{Text}
-use Rattle.sc_run.specs.Refusals.{TellsFault}
+use Rattle.sc_run.specs.Refusals.{IsErrorText}
 use Rattle.sc_run.specs.Run.{AuditsAs, Audits, Comes, Explains, ExplainsAs, Keeps, Reads, Refuses, Scans, ShowsFile, ShowsReport}
 use Rattle.sc_run.specs.Shown.{ShowsScan}
 use Rattle.sc_command_line.specs.declared.subcommands.Sight.{Sight}
 
 -- a text about the fault that an input has refuses the input
-refuses : (IsBad : List ℕ → ℕ → Reason → Type 0) (source : SourceUse) (fault : InputFault) (said : Said) (text : Text) → HasFault IsBad source fault → TellsFault fault said text → Refuses IsBad source said text
+refuses : (IsBad : List ℕ → ℕ → Reason → Type 0) (source : SourceUse) (fault : InputFault) (said : Said) (text : Text) → HasFault IsBad source fault → IsErrorText fault said text → Refuses IsBad source said text
 refuses IsBad source Failed said text rose tells = inl (record { rose = rose; tells = tells.1; said_is = tells.0 })
 refuses IsBad source (Bad line why) said text bad tells = inr (record { line = line; why = why; bad = bad; tells = tells.1; said_is = tells.0 })
 refuses IsBad source OutOfMemory said text bad tells = absurd tells
 
 module _ (source : SourceUse) (said : Said) (text : Text) where
-  pub refused_scenario : (fault : InputFault) → HasFault IsBadText source fault → TellsFault fault said text → Reads source said text
+  pub refused_scenario : (fault : InputFault) → HasFault IsBadText source fault → IsErrorText fault said text → Reads source said text
   refused_scenario fault has tells = inl (refuses IsBadText source fault said text has tells)
 
-  pub refused_text : (fault : InputFault) → HasFault IsBadText source fault → TellsFault fault said text → Keeps source said text
+  pub refused_text : (fault : InputFault) → HasFault IsBadText source fault → IsErrorText fault said text → Keeps source said text
   refused_text fault has tells = inl (refuses IsBadText source fault said text has tells)
 
-  pub refused_file : (fault : InputFault) → HasFault IsBadFile source fault → TellsFault fault said text → Audits source said text
+  pub refused_file : (fault : InputFault) → HasFault IsBadFile source fault → IsErrorText fault said text → Audits source said text
   refused_file fault has tells = inl (refuses IsBadFile source fault said text has tells)
 
-  pub refused_explained : (fault : InputFault) → HasFault IsBadFile source fault → TellsFault fault said text → Explains source said text
+  pub refused_explained : (fault : InputFault) → HasFault IsBadFile source fault → IsErrorText fault said text → Explains source said text
   refused_explained fault has tells = inl (refuses IsBadFile source fault said text has tells)
 
-  pub refused_scan : (sight : Sight) (fault : InputFault) → HasFault IsBadText source fault → TellsFault fault said text → Scans sight source said text
+  pub refused_scan : (sight : Sight) (fault : InputFault) → HasFault IsBadText source fault → IsErrorText fault said text → Scans sight source said text
   refused_scan sight fault has tells = inl (refuses IsBadText source fault said text has tells)
 
   pub scanned : (sight : Sight) (scenario : Scenario) → ReadsScenario source.left scenario → Comes (ShowsScan scenario sight) scenario said text → Scans sight source said text

@@ -7,7 +7,7 @@ use Rattle.sc_base.specs.Arc.{IsArc}
 use Rattle.sc_chance.specs.Words.{two_words}
 use Rattle.sc_cmd.specs.declared.orders.OrderLine.{OrderLine}
 use Rattle.sc_mail.specs.declared.bodies.Mail.{Mail}
-use Rattle.sc_scan.specs.Laws.{EntriesCountLogs, ScansTell}
+use Rattle.sc_scan.specs.Laws.{EntriesCountLogs, ScansShow}
 use Rattle.sc_scan.specs.Scan.{entries_in, scan_of}
 use Rattle.sc_scan.specs.Text.{scan_lines}
 use Rattle.sc_scenario.specs.Valid.{IsValid}
@@ -19,7 +19,7 @@ use Rattle.sc_law_groups.specs.whole.Valid.{ValidEntriesAreLogs}
 use Rattle.sc_command_line.specs.declared.subcommands.Sight.{Sight}
 use Rattle.sc_run.specs.Shown.{ShowsScan}
 
-module _ (tell : ScansTell) (count : EntriesCountLogs) (logs : ValidEntriesAreLogs) (scenario : Scenario) (valid : IsValid scenario) (journal : List (Row Mail OrderLine)) (lawful : Lawful as_nodes two_words scenario journal) (sound : IsSoundThroughout as_nodes scenario journal) where
+module _ (tell : ScansShow) (count : EntriesCountLogs) (logs : ValidEntriesAreLogs) (scenario : Scenario) (valid : IsValid scenario) (journal : List (Row Mail OrderLine)) (lawful : Lawful as_nodes two_words scenario journal) (sound : IsSoundThroughout as_nodes scenario journal) where
   pub shows_scan : (sight : Sight) → IsArc sight.arc → sight.arc.lo < 2 ^ 32 → (rows : List (Row Mail OrderLine)) → rows ≡ take sight.rows journal → (lines : List (List ℕ))
       → lines ≡ scan_lines sight.most (length rows) (scan_of (world_at as_nodes scenario.groups rows) (entries_in (entries_at as_nodes scenario.groups rows)) sight.arc)
       → ShowsScan scenario sight journal lines

@@ -15,13 +15,13 @@ use Rattle.sc_journal_file.specs.Stored.{most_file_bytes, file_text, IsFile, IsB
 use Rattle.sc_sound.specs.Players.{system_of, schedule, Lawful, as_nodes}
 use Rattle.sc_command_line.specs.declared.said.Said.{Said}
 use Rattle.sc_run.specs.declared.done.Text.{Text}
-use Rattle.sc_run.specs.Audited.{SaysYes, LawfulFilesAreTold, PrintedJournalsAreTold}
+use Rattle.sc_run.specs.Audited.{SaysYes, LawfulFilesAreConfirmed, PrintedJournalsAreConfirmed}
 use Rattle.sc_command_line.specs.Inputs.{ReadsFile}
 use Rattle.sc_run.specs.Run.{HoldsUnlawful, NamesBadLine}
 
 -- a prefix of a lawful journal is lawful
-front_lawful : (scenario : Scenario) (rows : List (Row Mail OrderLine)) (at : ℕ) → Lawful as_nodes two_words scenario rows → Lawful as_nodes two_words scenario (take at rows)
-front_lawful scenario rows at lawful =
+prefix_lawful : (scenario : Scenario) (rows : List (Row Mail OrderLine)) (at : ℕ) → Lawful as_nodes two_words scenario rows → Lawful as_nodes two_words scenario (take at rows)
+prefix_lawful scenario rows at lawful =
     lawful-prefix (system_of as_nodes two_words scenario) (schedule scenario) (take at rows) (drop at rows) (subst (IsLawful (system_of as_nodes two_words scenario) (schedule scenario)) (sym (take-append-drop at rows)) lawful)
 
 -- an audit of a file whose rows are lawful does not name a bad line
@@ -36,15 +36,15 @@ not_unlawful file scenario rows is lawful source left what text read those reads
     let all : reads.file ≡ file = subst (λ o. IfSome o (λ input. reads.file ≡ input)) left reads.all in
     let same = reads.stores.one scenario rows (subst (λ f. IsFile f scenario rows) (sym all) is) in
     let also : Lawful as_nodes two_words read those = subst (λ s. Lawful as_nodes two_words s those) same.0 (subst (Lawful as_nodes two_words scenario) same.1 lawful) in
-    holds.unlawful.not_with (front_lawful read those holds.at also)
+    holds.unlawful.not_with (prefix_lawful read those holds.at also)
 
-pub told : FilesHaveOneVerdict → LawfulFilesAreTold
+pub told : FilesHaveOneVerdict → LawfulFilesAreConfirmed
 told one file scenario rows is lawful source left what text (inl (inl fails)) = inr fails.said_is
 told one file scenario rows is lawful source left what text (inl (inr names)) = absurd (not_bad one file scenario rows is source left what text names)
 told one file scenario rows is lawful source left what text (inr reads) =
     elim reads.audits as (λ _. SaysYes what) [ inl lawful_is ↦ inl lawful_is.said_is | inr bad ↦ absurd (not_unlawful file scenario rows is lawful source left what text reads.scenario reads.rows reads.read bad) ]
 
-pub printed_told : FilesHaveOneVerdict → PrintedFilesAreFiles → PrintedJournalsAreTold
-printed_told one files bytes scenario rows printed read reports few source left what text says =
+pub printed_confirmed : FilesHaveOneVerdict → PrintedFilesAreFiles → PrintedJournalsAreConfirmed
+printed_confirmed one files bytes scenario rows printed read reports few source left what text says =
     let lines = ap concat reports.lines.0 in
     told one (file_text bytes rows) scenario rows (files bytes scenario rows read reports.lines.1 (subst (λ file. length file ≤ most_file_bytes) lines few)) reports.lawful source (left ∙ ap Some lines) what text says

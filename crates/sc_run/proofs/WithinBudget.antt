@@ -17,10 +17,10 @@ use Rattle.sc_command_line.specs.declared.said.Said.{Said}
 use Rattle.sc_command_line.specs.declared.said.Said.TheVariants.{Ended}
 use Rattle.sc_command_line.specs.Faults.{IsBadText}
 use Rattle.sc_live_plain.specs.Budget.{IsAtBudget, AreAnswered}
-use Rattle.sc_live_plain.specs.Calm.{calm_budget_of, IsCalm, IsCalmAtBudget}
+use Rattle.sc_live_plain.specs.CalmBudget.{calm_budget_of, IsCalm, IsCalmAtBudget}
 use Rattle.sc_live_plain.proofs.Lemmas.{roomy_scenarios_are_calm}
 use Rattle.sc_live_plain.specs.Laws.{PlainLinesEndQuiet, PlainRequestsAreAnswered, PlainJournalsAreLight}
-use Rattle.sc_live_answers.specs.Answered.{CalmLinesSettle, CalmRequestsAreAnswered, SettledRequestsAreAnswered}
+use Rattle.sc_live_answers.specs.AnsweredRequests.{CalmLinesSettle, CalmRequestsAreAnswered, SettledRequestsAreAnswered}
 use Rattle.sc_command_line.specs.Subcommands.{subcommand_by}
 use Rattle.sc_command_line.specs.declared.subcommands.Subcommand.{Subcommand}
 use Rattle.sc_command_line.specs.declared.subcommands.Subcommand.TheVariants as ask

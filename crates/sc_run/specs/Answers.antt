@@ -9,7 +9,7 @@ use Rattle.sc_scenario.specs.Grammar.{verdict_of}
 use Rattle.sc_scenario.specs.Made.{made_scenario}
 use Rattle.sc_scenario.specs.declared.scenarios.Scenario.{Scenario}
 use Rattle.sc_live_plain.specs.Budget.{IsAtBudget, AreAnswered}
-use Rattle.sc_live_plain.specs.Calm.{IsCalm, IsCalmAtBudget}
+use Rattle.sc_live_plain.specs.CalmBudget.{IsCalm, IsCalmAtBudget}
 use Rattle.sc_command_line.specs.Subcommands.{subcommand_by}
 use Rattle.sc_command_line.specs.declared.subcommands.Subcommand.{Subcommand}
 use Rattle.sc_command_line.specs.declared.subcommands.Subcommand.TheVariants as ask

@@ -20,11 +20,11 @@ abbrev pub SaysYes : Said → Type 0
 SaysYes what = (what ≡ said.Lawful) ⊎ (what ≡ said.ReadFault)
 
 -- an audit of a file whose rows are a lawful journal of its scenario says yes
-abbrev pub LawfulFilesAreTold : Type 0
-LawfulFilesAreTold = (file : List ℕ) (scenario : Scenario) (rows : List (Row Mail OrderLine)) → IsFile file scenario rows → Lawful as_nodes two_words scenario rows
+abbrev pub LawfulFilesAreConfirmed : Type 0
+LawfulFilesAreConfirmed = (file : List ℕ) (scenario : Scenario) (rows : List (Row Mail OrderLine)) → IsFile file scenario rows → Lawful as_nodes two_words scenario rows
     → (source : SourceUse) → source.left ≡ Some file → (what : Said) (text : Text) → Audits source what text → SaysYes what
 
 -- an audit of what was printed behind a scenario's text, if it is no longer than a file may be, says yes
-abbrev pub PrintedJournalsAreTold : Type 0
-PrintedJournalsAreTold = (bytes : List ℕ) (scenario : Scenario) (rows : List (Row Mail OrderLine)) (printed : Text) → verdict_of bytes ≡ Ok scenario → ReportsJournal (ShowsFile bytes) scenario rows printed → length (concat printed.lines) ≤ most_file_bytes
+abbrev pub PrintedJournalsAreConfirmed : Type 0
+PrintedJournalsAreConfirmed = (bytes : List ℕ) (scenario : Scenario) (rows : List (Row Mail OrderLine)) (printed : Text) → verdict_of bytes ≡ Ok scenario → ReportsJournal (ShowsFile bytes) scenario rows printed → length (concat printed.lines) ≤ most_file_bytes
     → (source : SourceUse) → source.left ≡ Some (concat printed.lines) → (what : Said) (text : Text) → Audits source what text → SaysYes what

@@ -8,9 +8,9 @@ use Rattle.sc_scenario.specs.Valid.{IsValid}
 use Rattle.sc_scenario.specs.declared.scenarios.Scenario.{Scenario}
 use Rattle.sc_sound.specs.Players.{system_of, schedule, Lawful, Whole, as_nodes}
 use Rattle.sc_live_plain.specs.Budget.{IsAtBudget, AreAnswered}
-use Rattle.sc_live_plain.specs.Calm.{IsCalmAtBudget}
+use Rattle.sc_live_plain.specs.CalmBudget.{IsCalmAtBudget}
 use Rattle.sc_live_plain.specs.Laws.{PlainJournalsAreLight}
-use Rattle.sc_live_answers.specs.Answered.{SettledRequestsAreAnswered}
+use Rattle.sc_live_answers.specs.AnsweredRequests.{SettledRequestsAreAnswered}
 
 -- the scenario is plain and at its budget, or calm and at its budget
 abbrev pub IsWithinBudget : Scenario → Type 0

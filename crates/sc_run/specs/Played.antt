@@ -15,7 +15,7 @@ use Rattle.sc_actor.specs.declared.schedules.Played.{Played}
 use Rattle.sc_actor.specs.declared.schedules.Played.TheVariants.{Ended, Full, OutOfMemory}
 use Rattle.sc_chance.specs.Words.{two_words}
 use Rattle.sc_live_plain.specs.Budget.{IsAtBudget, AreAnswered}
-use Rattle.sc_live_plain.specs.Calm.{IsCalm}
+use Rattle.sc_live_plain.specs.CalmBudget.{IsCalm}
 use Rattle.sc_run.specs.Budgets.{IsWithinBudget}
 
 -- the weight of a mail

@@ -6,10 +6,10 @@ use Rattle.sc_command_line.specs.Faults.{fault_text}
 use Rattle.sc_command_line.specs.declared.faults.InputFault.{InputFault}
 use Rattle.sc_command_line.specs.declared.faults.InputFault.TheVariants.{Failed, Bad, OutOfMemory}
 use Rattle.sc_run.specs.declared.done.Text.{Text}
-use Rattle.sc_run.specs.Run.{TellsLine}
+use Rattle.sc_run.specs.Run.{IsLineText}
 
 -- which text is begun about an input that is not what was asked for, and what it says; none where reading ran out of memory
-abbrev pub TellsFault : InputFault → Said → Text → Type 0
-TellsFault Failed said text = (said ≡ ReadFault) × TellsLine (codes "read fault") text
-TellsFault (Bad line why) said text = (said ≡ BadScenario) × TellsLine (fault_text line why) text
-TellsFault OutOfMemory said text = ⊥
+abbrev pub IsErrorText : InputFault → Said → Text → Type 0
+IsErrorText Failed said text = (said ≡ ReadFault) × IsLineText (codes "read fault") text
+IsErrorText (Bad line why) said text = (said ≡ BadScenario) × IsLineText (fault_text line why) text
+IsErrorText OutOfMemory said text = ⊥

@@ -22,7 +22,7 @@ use Rattle.sc_sound.specs.Players.{system_of, schedule, Lawful, Whole, parties, 
 use Rattle.sc_world.specs.Replays.{IsBadRow}
 use Rattle.sc_world.specs.Summary.{summary_of}
 use Rattle.sc_live_plain.specs.Budget.{IsAtBudget, AreAnswered}
-use Rattle.sc_live_plain.specs.Calm.{IsCalm}
+use Rattle.sc_live_plain.specs.CalmBudget.{IsCalm}
 use Rattle.sc_run.specs.Budgets.{IsWithinBudget}
 use Rattle.sc_run.specs.Played.{mail_weight, HasFilled}
 use Rattle.sc_run.specs.Shown.{ShowsScan}
@@ -45,7 +45,7 @@ abbrev pub usage : List ℕ
 usage = codes "usage: scatter run | scatter make N S | scatter journal | scatter audit | scatter scan LO LEN R MOST | scatter pool | scatter explain"
 
 -- the one line of a text that is about no journal
-pub record TellsLine (message : List ℕ) (text : Text) : Type 0 where
+pub record IsLineText (message : List ℕ) (text : Text) : Type 0 where
   pub lines : text.lines ≡ (message ++ 10 ∷ []) ∷ []
   pub journal : text.journal ≡ None
   pub parties : text.parties ≡ []
@@ -55,7 +55,7 @@ abbrev pub full_line : ℕ → List ℕ
 full_line rows = (codes "journal full after " ++ decimal rows ++ codes " rows") ++ 10 ∷ []
 
 -- the one line of a text about a journal that is full
-pub record TellsFull (journal : List (Row Mail OrderLine)) (text : Text) : Type 0 where
+pub record IsFullText (journal : List (Row Mail OrderLine)) (text : Text) : Type 0 where
   pub lines : text.lines ≡ full_line (length journal) ∷ []
   pub journal_is : text.journal ≡ Some journal
   pub parties : text.parties ≡ []
@@ -95,7 +95,7 @@ pub record Plays (Shows : List (Row Mail OrderLine) → List (List ℕ) → Type
 pub record PlaysUntilFull (scenario : Scenario) (said : Said) (text : Text) : Type 0 where
   pub journal : List (Row Mail OrderLine)
   pub filled : HasFilled scenario journal_limit journal
-  pub tells : TellsFull journal text
+  pub tells : IsFullText journal text
   pub said_is : said ≡ Filled
   pub not_plain : IsAtBudget scenario → ⊥
 
@@ -106,7 +106,7 @@ Comes Shows scenario said text = Plays Shows scenario said text ⊎ PlaysUntilFu
 -- a read error came, and the text says so
 pub record FailsToRead (source : SourceUse) (said : Said) (text : Text) : Type 0 where
   pub rose : Rose source.faults_before source.faults_after
-  pub tells : TellsLine (codes "read fault") text
+  pub tells : IsLineText (codes "read fault") text
   pub said_is : said ≡ ReadFault
 
 -- the text names the first bad line of the input, and its reason
@@ -114,7 +114,7 @@ pub record NamesBadLine (IsBad : List ℕ → ℕ → Reason → Type 0) (source
   pub line : ℕ
   pub why : Reason
   pub bad : IfSome source.left (λ input. IsBad input line why)
-  pub tells : TellsLine (fault_text line why) text
+  pub tells : IsLineText (fault_text line why) text
   pub said_is : said ≡ BadScenario
 
 -- the input is not what was asked for
@@ -149,7 +149,7 @@ abbrev pub unlawful_line : ℕ → List ℕ
 unlawful_line row = (codes "unlawful row " ++ decimal row) ++ 10 ∷ []
 
 -- the one line of a text about the rows of a stored journal
-pub record TellsOfRows (line : List ℕ) (rows : List (Row Mail OrderLine)) (text : Text) : Type 0 where
+pub record IsRowsText (line : List ℕ) (rows : List (Row Mail OrderLine)) (text : Text) : Type 0 where
   pub lines : text.lines ≡ line ∷ []
   pub journal : text.journal ≡ Some rows
   pub parties : text.parties ≡ []
@@ -159,14 +159,14 @@ pub record HoldsLawful (scenario : Scenario) (rows : List (Row Mail OrderLine)) 
   pub lawful : Lawful as_nodes two_words scenario rows
   pub sound : IsSoundThroughout as_nodes scenario rows
   pub refuses : RefusesWithCause as_nodes scenario rows
-  pub tells : TellsOfRows (lawful_line (length rows)) rows text
+  pub tells : IsRowsText (lawful_line (length rows)) rows text
   pub said_is : said ≡ Yes
 
 -- Rows are no lawful journal of a scenario, and the text names the first that is not lawful.
 pub record HoldsUnlawful (scenario : Scenario) (rows : List (Row Mail OrderLine)) (said : Said) (text : Text) : Type 0 where
   pub at : ℕ
   pub unlawful : IsBadRow scenario rows at
-  pub tells : TellsOfRows (unlawful_line at) rows text
+  pub tells : IsRowsText (unlawful_line at) rows text
   pub said_is : said ≡ No
 
 -- what a text says of a scenario and rows that are stored
@@ -229,7 +229,7 @@ pub record PlaysMade (scenario : Scenario) (said : Said) (text : Text) : Type 0 
 
 -- What a text says that was begun where the arguments ask for this: the usage line, what the input is, or what comes of a made scenario.
 abbrev pub SaysFor : Option Subcommand → SourceUse → Said → Text → Type 0
-SaysFor None source said text = (said ≡ Usage) × TellsLine usage text
+SaysFor None source said text = (said ≡ Usage) × IsLineText usage text
 SaysFor (Some ask.Run) source said text = Reads source said text
 SaysFor (Some ask.Journal) source said text = Keeps source said text
 SaysFor (Some ask.Audit) source said text = Audits source said text

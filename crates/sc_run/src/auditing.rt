@@ -7,11 +7,11 @@ ghost use Rattle.sc_world.specs.Replays.{IsBadRow};
 ghost use Rattle.sc_scenario.specs.Valid.{IsValid};
 ghost use Rattle.sc_sound.specs.Soundness.{IsSoundThroughout};
 ghost use Rattle.sc_law_refusal.specs.refusal.Journals.{RefusesWithCause};
-ghost use Rattle.sc_run.specs.Audited.{LawfulFilesAreTold, PrintedJournalsAreTold};
+ghost use Rattle.sc_run.specs.Audited.{LawfulFilesAreConfirmed, PrintedJournalsAreConfirmed};
 ghost use Rattle.sc_run.specs.Run.{AuditsAs};
 
 use crate::done::Text;
-use crate::telling::{lawful_line, tells_of_rows, unlawful_line};
+use crate::telling::{lawful_line, text_of_rows, unlawful_line};
 use sc_actor::Journal;
 use sc_base::OutOfMemory;
 use sc_cmd::OrderLine;
@@ -61,11 +61,11 @@ pub fn audit(
     match bad_row(alloc, scenario, &rows)? {
         None => {
             let line = lawful_line(alloc, rows.len() as u64)?;
-            Ok((Said::Lawful, tells_of_rows(alloc, line, rows)?))
+            Ok((Said::Lawful, text_of_rows(alloc, line, rows)?))
         }
         Some(at) => {
             let line = unlawful_line(alloc, at)?;
-            Ok((Said::Unlawful, tells_of_rows(alloc, line, rows)?))
+            Ok((Said::Unlawful, text_of_rows(alloc, line, rows)?))
         }
     }
 }
@@ -73,9 +73,9 @@ pub fn audit(
 /// Says that an audit of a file whose rows are a lawful journal of its scenario says yes, unless a
 /// read error comes; and that an audit of what was printed as a stored journal, within the limit of
 /// files, does.
-pub fn lawful_journals_are_told()
-    ensures files { LawfulFilesAreTold }
-    ensures printed { PrintedJournalsAreTold }
+pub fn lawful_journals_are_confirmed()
+    ensures files { LawfulFilesAreConfirmed }
+    ensures printed { PrintedJournalsAreConfirmed }
 {
     files_have_one_verdict();
     printed_files_are_files();

@@ -6,7 +6,7 @@ ghost use Rattle.sc_run.specs.Run.{ExplainsAs};
 
 use crate::auditing::bad_row;
 use crate::done::Text;
-use crate::telling::{tells_of_rows, unlawful_line};
+use crate::telling::{text_of_rows, unlawful_line};
 use sc_actor::Journal;
 use sc_base::{OutOfMemory, Sequence};
 use sc_cmd::OrderLine;
@@ -44,7 +44,7 @@ pub fn explain_stored(
         }
         Some(at) => {
             let line = unlawful_line(alloc, at)?;
-            Ok((Said::Unlawful, tells_of_rows(alloc, line, rows)?))
+            Ok((Said::Unlawful, text_of_rows(alloc, line, rows)?))
         }
     }
 }

@@ -14,7 +14,7 @@ mod saying;
 mod showing;
 mod telling;
 
-pub use auditing::{audit, lawful_journals_are_told};
+pub use auditing::{audit, lawful_journals_are_confirmed};
 pub use begun::begin;
 pub use done::{Done, Text};
 pub use explaining::explain_stored;

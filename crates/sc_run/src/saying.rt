@@ -6,8 +6,8 @@ ghost use Rattle.sc_scenario.specs.Made.{made_scenario};
 ghost use Rattle.sc_command_line.specs.Inputs.{most_takes};
 ghost use Rattle.sc_command_line.specs.Subcommands.{reads_input};
 ghost use Rattle.sc_command_line.specs.declared.said.Said.TheVariants.{Usage};
-ghost use Rattle.sc_run.specs.Run.{usage, Audits, Explains, Keeps, PlaysMade, Reads, Says, Scans, TellsLine};
-ghost use Rattle.sc_run.specs.Refusals.{TellsFault};
+ghost use Rattle.sc_run.specs.Run.{usage, Audits, Explains, Keeps, PlaysMade, Reads, Says, Scans, IsLineText};
+ghost use Rattle.sc_run.specs.Refusals.{IsErrorText};
 
 use crate::auditing::audit;
 use crate::done::Text;
@@ -30,7 +30,7 @@ use std::thread::Threads;
 
 // Returns the text about an input that is not what was asked for.
 fn refuse(alloc: Global, fault: InputFault) -> Result<(Said, Text), OutOfMemory>
-    ensures { IfOk result (λ begun. TellsFault fault begun.0 begun.1) }
+    ensures { IfOk result (λ begun. IsErrorText fault begun.0 begun.1) }
 {
     match fault {
         InputFault::Failed => {
@@ -47,8 +47,8 @@ fn refuse(alloc: Global, fault: InputFault) -> Result<(Said, Text), OutOfMemory>
 }
 
 // Returns the text of the usage line.
-fn tell_usage(alloc: Global) -> Result<(Said, Text), OutOfMemory>
-    ensures { IfOk result (λ begun. (begun.0 ≡ Usage) × TellsLine usage begun.1) }
+fn usage_text(alloc: Global) -> Result<(Said, Text), OutOfMemory>
+    ensures { IfOk result (λ begun. (begun.0 ≡ Usage) × IsLineText usage begun.1) }
 {
     let text = tells(
         alloc,
@@ -193,7 +193,7 @@ pub(crate) fn say<S: Source, G: Gate, R: Threads + Wait + Sync>(
         + most_takes (map string_bytes words.now) }
 {
     match subcommand_by(alloc, words)? {
-        None => tell_usage(alloc),
+        None => usage_text(alloc),
         Some(Subcommand::Run) => report_input(rt, alloc, Way::Runs, input, gate),
         Some(Subcommand::Pool) => report_input(rt, alloc, Way::Queue, input, gate),
         Some(Subcommand::Journal) => store_input(rt, alloc, input, gate),

@@ -20,7 +20,7 @@ use sc_command_line::{Said, Sight, said_by};
 use sc_law_groups::valid_entries_are_logs;
 use sc_mail::Mail;
 use sc_report::ReportLine;
-use sc_scan::{entries_count_logs, scan, scan_lines, scans_tell};
+use sc_scan::{entries_count_logs, scan, scan_lines, scans_show};
 use sc_scenario::Scenario;
 use sc_workers::Way;
 use std::alloc::Global;
@@ -73,7 +73,7 @@ pub fn show<G: Gate, R: Threads + Wait + Sync>(
     ensures { IfOk result (λ begun.
         Comes (ShowsScan scenario.now sight) scenario.now begun.0 begun.1) }
 {
-    scans_tell();
+    scans_show();
     entries_count_logs();
     valid_entries_are_logs();
     let left = play_whole(rt, alloc, Way::Runs, scenario, 1 << 30, gate)?;

@@ -1,6 +1,6 @@
 //! Texts of one line.
 ghost use Rattle.std.specs.Prelude.{◌≡◌, IfOk, length};
-ghost use Rattle.sc_run.specs.Run.{TellsLine, TellsFull, TellsOfRows, full_line, lawful_line, unlawful_line};
+ghost use Rattle.sc_run.specs.Run.{IsLineText, IsFullText, IsRowsText, full_line, lawful_line, unlawful_line};
 
 use crate::done::Text;
 use sc_actor::Journal;
@@ -12,7 +12,7 @@ use std::alloc::Global;
 
 /// Returns a text of one line, about no journal.
 pub(crate) fn tells(alloc: Global, message: &[u8]) -> Result<Text, OutOfMemory>
-    ensures { IfOk result (λ text. TellsLine message.now text) }
+    ensures { IfOk result (λ text. IsLineText message.now text) }
 {
     let mut bytes = Vec::from_slice(alloc, message)?;
     bytes.push(b'\n')?;
@@ -37,7 +37,7 @@ fn full_line(alloc: Global, rows: u64) -> Result<ReportLine, OutOfMemory>
 
 /// Returns the text about a journal that is full.
 pub fn tells_full(alloc: Global, journal: Journal<Mail, OrderLine>) -> Result<Text, OutOfMemory>
-    ensures { IfOk result (λ text. TellsFull journal text) }
+    ensures { IfOk result (λ text. IsFullText journal text) }
 {
     let line = full_line(alloc, journal.len() as u64)?;
     let mut lines = Sequence::new(alloc);
@@ -70,12 +70,12 @@ pub(crate) fn unlawful_line(alloc: Global, row: u32) -> Result<ReportLine, OutOf
 }
 
 /// Returns a text of one line about the rows of a stored journal.
-pub(crate) fn tells_of_rows(
+pub(crate) fn text_of_rows(
     alloc: Global,
     line: ReportLine,
     rows: Journal<Mail, OrderLine>,
 ) -> Result<Text, OutOfMemory>
-    ensures { IfOk result (λ text. TellsOfRows line rows text) }
+    ensures { IfOk result (λ text. IsRowsText line rows text) }
 {
     let mut lines = Sequence::new(alloc);
     lines.push(line)?;

@@ -321,7 +321,7 @@ fn first_rows(rows: &[Row<Mail, OrderLine>], count: usize) -> &[Row<Mail, OrderL
 
 // Returns whether the scan after this number of rows is the map, in a journal of which each prefix
 // is sound.
-fn front_is_map(
+fn prefix_is_map(
     rt: &impl Abort,
     alloc: Global,
     scenario: &Scenario,
@@ -349,9 +349,9 @@ fn are_maps<R: Abort + Threads + Wait + Sync>(
     let scenario = scenario_of(rt, alloc, input);
     let journal = played(rt, alloc, &scenario);
     let step = journal.len() / parts + 1;
-    let mut are = front_is_map(rt, alloc, &scenario, &journal, journal.len());
+    let mut are = prefix_is_map(rt, alloc, &scenario, &journal, journal.len());
     for count in 0..journal.len() {
-        if count % step == 0 && !front_is_map(rt, alloc, &scenario, &journal, count) {
+        if count % step == 0 && !prefix_is_map(rt, alloc, &scenario, &journal, count) {
             are = false;
         }
     }

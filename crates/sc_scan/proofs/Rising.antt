@@ -53,11 +53,11 @@ below_weight (suc more) (byte ∷ key) bytes =
     omega (arith, rest, all)
 
 -- a key before another has no greater number
-front_rises : (more : ℕ) (one other : List ℕ) → AreBytes one → AreBytes other → slice_cmp nat_cmp one other ≡ Less → front more one ≤ front more other
-front_rises zero one other bytes others less = omega arith
-front_rises (suc more) [] other bytes others less = omega arith
-front_rises (suc more) (x ∷ one) [] bytes others less = absurd (let no_way : Greater ≡ Less = less in cc)
-front_rises (suc more) (x ∷ one) (y ∷ other) bytes others less = step (front_rises more one other bytes.1 others.1) (nat_cmp x y) refl less
+prefix_rises : (more : ℕ) (one other : List ℕ) → AreBytes one → AreBytes other → slice_cmp nat_cmp one other ≡ Less → front more one ≤ front more other
+prefix_rises zero one other bytes others less = omega arith
+prefix_rises (suc more) [] other bytes others less = omega arith
+prefix_rises (suc more) (x ∷ one) [] bytes others less = absurd (let no_way : Greater ≡ Less = less in cc)
+prefix_rises (suc more) (x ∷ one) (y ∷ other) bytes others less = step (prefix_rises more one other bytes.1 others.1) (nat_cmp x y) refl less
   where
     step : (slice_cmp nat_cmp one other ≡ Less → front more one ≤ front more other)
         → (o : Ordering) → o ≡ nat_cmp x y → ordering_then o (slice_cmp nat_cmp one other) ≡ Less → x * weight more + front more one ≤ y * weight more + front more other
@@ -83,7 +83,7 @@ pos_front (a ∷ b ∷ c ∷ d ∷ more) = omega arith
 
 -- positions do not fall, and lie on the circle
 pos_rises : (one other : List ℕ) → AreBytes one → AreBytes other → slice_cmp nat_cmp one other ≡ Less → pos_of one ≤ pos_of other
-pos_rises one other bytes others less = (let h : front 4 one ≤ front 4 other = front_rises 4 one other bytes others less in omega (arith, h, pos_front one, pos_front other))
+pos_rises one other bytes others less = (let h : front 4 one ≤ front 4 other = prefix_rises 4 one other bytes others less in omega (arith, h, pos_front one, pos_front other))
 
 pos_fits : (key : List ℕ) → AreBytes key → pos_of key < 2 ^ 32
 pos_fits key bytes = (let h : front 4 key + 1 ≤ weight 4 = below_weight 4 key bytes in omega (arith, h, pos_front key))

@@ -32,7 +32,7 @@ use Rattle.sc_sound.specs.Soundness.{IsOneMap}
 use Rattle.sc_law_entries.specs.logs.Findings.{AreItsLogs}
 use Rattle.sc_scan.specs.declared.walking.Part.{Part}
 use Rattle.sc_scan.specs.declared.scans.Shown.{Shown}
-use Rattle.sc_scan.specs.Laws.{ShareNothing, EntriesCountLogs, HasMap, IsOfItsLog, IsWithinCut, ScansTell, ShareArc, WalksShareArcs}
+use Rattle.sc_scan.specs.Laws.{ShareNothing, EntriesCountLogs, HasMap, IsOfItsLog, IsWithinCut, ScansShow, ShareArc, WalksShareArcs}
 use Rattle.sc_scan.specs.Order.{Pair, ordered}
 use Rattle.sc_scan.specs.Scan.{entries_in, pairs_in, scan_of, shown}
 use Rattle.sc_scan.specs.Scan as scan
@@ -148,8 +148,8 @@ module _ (ahead : Ahead) (bases : List Base) (rows : List (Row Mail OrderLine)) 
       let placed = one.placed w.cut w.stands in
       of_birth part placed.group (ap (effective (world_at ahead bases rows)) w.group ∙ placed.is) (birth_at ahead bases rows part.group) refl
 
-pub scans_tell : WalksShareArcs → ScansTell
-scans_tell shares ahead bases rows one logs arc is fits =
+pub scans_show : WalksShareArcs → ScansShow
+scans_show shares ahead bases rows one logs arc is fits =
     let world = world_at ahead bases rows in
     let slot : Draw → ℕ = λ name. length (log_at ahead bases rows name) in
     let share = shares world.ring one.covers arc is fits in

@@ -83,8 +83,8 @@ pub record TellsStore (ahead : Ahead) (bases : List Base) (rows : List (Row Mail
   pub logs : (shown : Shown) → Among shown scan → IsOfItsLog ahead bases rows shown
 
 -- a scan of rows that make one map, and whose entries are the logs of their groups, is what the arc holds
-abbrev pub ScansTell : Type 0
-ScansTell = (ahead : Ahead) (bases : List Base) (rows : List (Row Mail OrderLine)) → IsOneMap (world_at ahead bases rows) → AreItsLogs ahead bases rows
+abbrev pub ScansShow : Type 0
+ScansShow = (ahead : Ahead) (bases : List Base) (rows : List (Row Mail OrderLine)) → IsOneMap (world_at ahead bases rows) → AreItsLogs ahead bases rows
     → (arc : Arc) → IsArc arc → arc.lo < 2 ^ 32 → TellsStore ahead bases rows arc (scan_at ahead bases rows arc)
 
 -- where entries are logs, a scan that counts each group's entries is one that takes the length of its log

@@ -1,5 +1,5 @@
 //! The laws of scans: the parts share the arc, the pairs are the map's, and pages make the list.
-ghost use Rattle.sc_scan.specs.Laws.{EntriesCountLogs, PagesFollow, ScansTell, WalksShareArcs};
+ghost use Rattle.sc_scan.specs.Laws.{EntriesCountLogs, PagesFollow, ScansShow, WalksShareArcs};
 
 /// Shows that the walk of an arc through a ring that covers shares the arc out: each part lies
 /// within the range of its group, each position of the arc lies in exactly one part, and no other
@@ -18,8 +18,8 @@ pub fn entries_count_logs()
 /// right: its parts share the arc out; the pairs of all parts are those of the map after the
 /// history whose keys the arc holds, each key once; and each part is what its group's log gives at
 /// its slot, with the outcome of a decided transaction that the log lacks.
-pub fn scans_tell()
-    ensures { ScansTell }
+pub fn scans_show()
+    ensures { ScansShow }
 {
     walks_share_arcs();
 }

@@ -10,7 +10,7 @@ mod printing;
 mod scans;
 mod walking;
 
-pub use laws::{entries_count_logs, pages_follow, scans_tell, walks_share_arcs};
+pub use laws::{entries_count_logs, pages_follow, scans_show, walks_share_arcs};
 pub use orders::ordered;
 pub use pages::Page;
 pub use paging::page;

@@ -4,16 +4,16 @@ use Rattle.sc_mail.specs.declared.bodies.Mail.{Mail}
 use Rattle.sc_node_table.specs.Slots.{numbers_from}
 use Rattle.sc_node_table.specs.Replica.{either}
 use Rattle.sc_law_walks.proofs.Ways.{either_assoc, either_none}
-use Rattle.sc_world.specs.Summary.{told_in_mail, told_of}
+use Rattle.sc_world.specs.Summary.{reported_in_mail, reported_of}
 
 -- what more mails report of an order
-pub told-append : (number : ℕ) (xs ys : List Mail) → told_of number (xs ++ ys) ≡ either (told_of number xs) (told_of number ys)
+pub told-append : (number : ℕ) (xs ys : List Mail) → reported_of number (xs ++ ys) ≡ either (reported_of number xs) (reported_of number ys)
 told-append number [] ys = refl
-told-append number (x ∷ xs) ys = ap (either (told_in_mail number x.body)) (told-append number xs ys) ∙ sym (either_assoc (told_in_mail number x.body) (told_of number xs) (told_of number ys))
+told-append number (x ∷ xs) ys = ap (either (reported_in_mail number x.body)) (told-append number xs ys) ∙ sym (either_assoc (reported_in_mail number x.body) (reported_of number xs) (reported_of number ys))
 
 -- what one more mail reports of an order
-pub told-last : (number : ℕ) (xs : List Mail) (x : Mail) → told_of number (xs ++ x ∷ []) ≡ either (told_of number xs) (told_in_mail number x.body)
-told-last number xs x = told-append number xs (x ∷ []) ∙ ap (either (told_of number xs)) (either_none (told_in_mail number x.body))
+pub told-last : (number : ℕ) (xs : List Mail) (x : Mail) → reported_of number (xs ++ x ∷ []) ≡ either (reported_of number xs) (reported_in_mail number x.body)
+told-last number xs x = told-append number xs (x ∷ []) ∙ ap (either (reported_of number xs)) (either_none (reported_in_mail number x.body))
 
 -- a list made of a number of numbers has that length
 pub length-numbered : {X : Type 0} (f : ℕ → X) (from count : ℕ) → length (map f (numbers_from from count)) ≡ count

@@ -25,14 +25,14 @@ use Rattle.sc_sound.specs.GroupsOf.{world_at}
 use Rattle.sc_chance.specs.Words.{two_words}
 
 -- the result that a mail reports of the order with a number, if it reports one
-abbrev pub told_in_mail : ℕ → MailBody → Option ToldResult
-told_in_mail number (TellsOrder order result) = if order == number then Some result else None
-told_in_mail number _ = None
+abbrev pub reported_in_mail : ℕ → MailBody → Option ToldResult
+reported_in_mail number (TellsOrder order result) = if order == number then Some result else None
+reported_in_mail number _ = None
 
 -- the result of an order: that of the first of these mails which reports one
-abbrev pub told_of : ℕ → List Mail → Option ToldResult
-told_of number [] = None
-told_of number (mail ∷ more) = either (told_in_mail number mail.body) (told_of number more)
+abbrev pub reported_of : ℕ → List Mail → Option ToldResult
+reported_of number [] = None
+reported_of number (mail ∷ more) = either (reported_in_mail number mail.body) (reported_of number more)
 
 -- whether a line of the schedule is an order
 abbrev pub is_order : SchedLine → Bool
@@ -40,8 +40,8 @@ is_order (Told node line) = true
 is_order _ = false
 
 -- the results that these mails report of the orders 1 to `count`
-abbrev pub orders_told : ℕ → List Mail → List (Option ToldResult)
-orders_told count sent = map (λ number. told_of number sent) (numbers_from 1 count)
+abbrev pub reported_orders : ℕ → List Mail → List (Option ToldResult)
+reported_orders count sent = map (λ number. reported_of number sent) (numbers_from 1 count)
 
 -- the number of orders that a scenario has
 abbrev pub orders_in : Scenario → ℕ
@@ -70,7 +70,7 @@ summary_of scenario journal = record {
   version = scenario.version;
   brief = scenario.brief;
   asked = flat_map asked_by (parties as_nodes scenario journal);
-  orders = orders_told (orders_in scenario) (mails journal);
+  orders = reported_orders (orders_in scenario) (mails journal);
   ring = ring_lines (world_at as_nodes scenario.groups journal);
   rows = length journal;
   mail = length (mails journal);

@@ -2,7 +2,7 @@
 ghost use Rattle.std.specs.Prelude.{◌≡◌, ℕ, ◌+◌, ◌<◌, ◌==◌, length, get_or, replicate, count_by, if◌then◌else◌, Some, None, IfOk};
 ghost use Rattle.sc_actor.specs.Mail.{mails};
 ghost use Rattle.sc_node_table.specs.Replica.{either};
-ghost use Rattle.sc_world.specs.Summary.{is_order, told_in_mail, told_of, orders_told};
+ghost use Rattle.sc_world.specs.Summary.{is_order, reported_in_mail, reported_of, reported_orders};
 
 use sc_actor::Row;
 use sc_base::{OutOfMemory, Sequence};
@@ -46,7 +46,7 @@ fn keep(told: &mut [Option<ToldResult>], order: u32, word: ToldResult)
 fn note(told: &mut [Option<ToldResult>], body: &MailBody)
     ensures len { length told.new ≡ length told.old }
     ensures kept { (k : ℕ) → k < length told.old → get_or told.new k None ≡
-        either (get_or told.old k None) (told_in_mail (k + 1) body.now) }
+        either (get_or told.old k None) (reported_in_mail (k + 1) body.now) }
 {
     if let MailBody::Told { order, result } = body {
         keep(told, *order, *result);
@@ -56,7 +56,7 @@ fn note(told: &mut [Option<ToldResult>], body: &MailBody)
 fn note_all(told: &mut [Option<ToldResult>], sent: &[Mail])
     ensures len { length told.new ≡ length told.old }
     ensures kept { (k : ℕ) → k < length told.old → get_or told.new k None ≡
-        either (get_or told.old k None) (told_of (k + 1) sent.now) }
+        either (get_or told.old k None) (reported_of (k + 1) sent.now) }
 {
     for mail in sent {
         note(told, &mail.body);
@@ -66,7 +66,7 @@ fn note_all(told: &mut [Option<ToldResult>], sent: &[Mail])
 fn note_rows(told: &mut [Option<ToldResult>], rows: &[Row<Mail, OrderLine>])
     ensures len { length told.new ≡ length told.old }
     ensures kept { (k : ℕ) → k < length told.old → get_or told.new k None ≡
-        either (get_or told.old k None) (told_of (k + 1) (mails rows.now)) }
+        either (get_or told.old k None) (reported_of (k + 1) (mails rows.now)) }
 {
     for row in rows {
         note_all(told, row.sent.as_slice());
@@ -86,12 +86,12 @@ fn untold(alloc: Global, count: usize) -> Result<Vec<Option<ToldResult>>, OutOfM
 
 /// Returns the result of each order, from 1 to `count`: that of the first mail which reports one.
 /// The only error is out of memory.
-pub(crate) fn orders_told(
+pub(crate) fn reported_orders(
     alloc: Global,
     count: usize,
     rows: &[Row<Mail, OrderLine>],
 ) -> Result<Sequence<Option<ToldResult>>, OutOfMemory>
-    ensures { IfOk result (λ told. told ≡ orders_told count (mails rows.now)) }
+    ensures { IfOk result (λ told. told ≡ reported_orders count (mails rows.now)) }
 {
     let mut told = untold(alloc, count)?;
     note_rows(&mut told, rows);

@@ -11,7 +11,7 @@ ghost use Rattle.sc_world.specs.Summary.{cut_route, place_in, placed, ring_lines
 ghost use Rattle.sc_chance.specs.Words.{two_words};
 
 use crate::counting::{all_asked, deliveries, mail_count};
-use crate::orders::{order_count, orders_told};
+use crate::orders::{order_count, reported_orders};
 use crate::party::Party;
 use crate::telling::store_world;
 use crate::worlds::World;
@@ -117,7 +117,7 @@ pub fn sum_up(
         version: scenario.version,
         brief: scenario.brief,
         asked: all_asked(alloc, left.as_slice())?,
-        orders: orders_told(alloc, order_count(scenario.lines.as_slice()), rows)?,
+        orders: reported_orders(alloc, order_count(scenario.lines.as_slice()), rows)?,
         ring: ring_of(alloc, scenario.groups.as_slice(), rows)?,
         rows: rows.len() as u32,
         mail: mail_count(rows),

@@ -30,7 +30,7 @@ use Rattle.sc_ideal.specs.Definitions.{contents_after}
 use Rattle.sc_machine_table.specs.Definitions.{Group, applied, split_group, locked_in, refusal_of, refused_in, can_cut, can_join, can_migrate, can_repart, can_split, closing_group, giving_group, giving_plan, has_key_of, may_merge, merge_plan, merged_group, merged_route, migrate_plan, migrated_group, part_gift, repart_plan, split_plan, taken, taking_group, taking_plan, child_of, has_named, left_group, aborted, asks_watcher, begun_group, committed, decided, granted, heard_group, is_coordinating, participant_answered, released, vote_recorded, watch_answered, watch_recorded}
 use Rattle.sc_log_entries.specs.Definitions.{division_in, begun_split, decision, named_watcher, arc_in, ring_divided, StoreWorld, named_group}
 use Rattle.sc_log_entries.specs.declared.Division.{Division}
-use Rattle.sc_law_entries.specs.history.Definitions.{RequestOf, TellsHoldings, holding_of, IsItsOwn, IsParty, MayHear, MayHearWatcher, MaySplit, holdings_in}
+use Rattle.sc_law_entries.specs.history.Definitions.{RequestOf, MatchesHoldings, holding_of, IsItsOwn, IsParty, MayHear, MayHearWatcher, MaySplit, holdings_in}
 use Rattle.sc_law_entries.proofs.HistoryProofs.Commits.{give_goes, merge_goes, migrate_goes, take_goes}
 use Rattle.sc_law_entries.proofs.HistoryProofs.Divisions.{division_goes}
 use Rattle.sc_law_entries.proofs.HistoryProofs.Elsewhere.{held_by, own_group, holds_own}
@@ -51,7 +51,7 @@ plan_cases P false planned group outcome tx go quiet = quiet
 -- ---- a participant's vote
 
 module _ (request : RequestOf) (world : StoreWorld) (name : Draw) (group : Group) (found : named_group name world.groups ≡ Some group) (tx : Draw) (vote : Vote) (by : ℕ)
-    (told : TellsHoldings request world.history (holdings_in world)) (may : MayHear world group tx vote) where
+    (told : MatchesHoldings request world.history (holdings_in world)) (may : MayHear world group tx vote) where
   abbrev Hears : Group × Effect → Type 0
   Hears = Goes request world name group found (RecordVote tx vote by)
 

@@ -5,7 +5,7 @@ use Rattle.sc_base.specs.Definitions.{holds, same_draw}
 use Rattle.sc_base.specs.declared.names.Draw.{Draw}
 use Rattle.sc_base.proofs.Lemmas.{draw_is, same_name}
 use Rattle.sc_ideal.specs.declared.Entry.{Entry}
-use Rattle.sc_law_entries.specs.history.Definitions.{Holding, Holdings, with_holding, AreDisjoint, IsToldOf}
+use Rattle.sc_law_entries.specs.history.Definitions.{Holding, Holdings, with_holding, AreDisjoint, IsReportedOf}
 use Rattle.sc_law_entries.proofs.HistoryProofs.Holdings.{IsOnRing}
 use Rattle.sc_log_entries.proofs.Lemmas.{draw_cases}
 
@@ -36,7 +36,7 @@ pub record HoldsAt (found : Option Holding) (p : ℕ) : Type 0 where
 
 -- the holding, if there is one, matches the history, with an arc of the ring
 abbrev pub IsGood : List Entry → Option Holding → Type 0
-IsGood history found = (holding : Holding) → found ≡ Some holding → IsOnRing holding.arc × IsToldOf history holding
+IsGood history found = (holding : Holding) → found ≡ Some holding → IsOnRing holding.arc × IsReportedOf history holding
 
 -- two holdings that share out what two had before
 pub record SharesOut (history : List Entry) (holdings : Holdings) (group other : Draw) (mine theirs : Option Holding) : Type 0 where
@@ -106,5 +106,5 @@ module _ (history : List Entry) (holdings : Holdings) (group other : Draw) (mine
         only_at p name second (place name) (place second) (record { holding = holding; is = is; at = at }) (record { holding = another; is = its; at = there });
   }
 
-  pub shared_told : (name : Draw) (holding : Holding) → shared name ≡ Some holding → IsToldOf history holding
+  pub shared_told : (name : Draw) (holding : Holding) → shared name ≡ Some holding → IsReportedOf history holding
   shared_told name holding found = (good_at name (place name) holding found).1

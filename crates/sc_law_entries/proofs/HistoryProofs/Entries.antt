@@ -6,16 +6,16 @@ use Rattle.sc_cmd.specs.declared.commands.Command.TheVariants.{Noop, Call, Join,
 use Rattle.sc_machine_table.specs.Definitions.{Group, applied}
 use Rattle.sc_log_entries.specs.declared.LogEntry.{LogEntry}
 use Rattle.sc_log_entries.specs.Definitions.{StoreWorld, after_command, first_world, named_group, told}
-use Rattle.sc_law_entries.specs.history.Definitions.{RequestOf, TellsHoldings, Unmoved, EntriesMakeMoves, EntriesThatMayBeToldTell, MayAllBeTold, MayExecute, AllMakeMoves, IsMoveTo, holdings_in}
+use Rattle.sc_law_entries.specs.history.Definitions.{RequestOf, MatchesHoldings, Unmoved, EntriesMakeMoves, AppliedEntriesMakeHistory, AllMayBeApplied, MayExecute, AllMakeMoves, IsMoveTo, holdings_in}
 use Rattle.sc_law_entries.proofs.HistoryProofs.Coordinators.{split_goes, vote_goes, watch_goes}
 use Rattle.sc_law_entries.proofs.HistoryProofs.Ending.{finish_goes}
-use Rattle.sc_law_entries.proofs.HistoryProofs.MoveLaw.{move_told, moves_tell_worlds}
-use Rattle.sc_law_entries.proofs.HistoryProofs.QuietLaw.{first_told}
+use Rattle.sc_law_entries.proofs.HistoryProofs.MoveLaw.{move_told, moves_make_worlds}
+use Rattle.sc_law_entries.proofs.HistoryProofs.QuietLaw.{first_recorded}
 use Rattle.sc_law_entries.proofs.HistoryProofs.Serves.{call_goes}
 use Rattle.sc_law_entries.proofs.HistoryProofs.Staying.{Goes, begin_goes, give_up_goes, join_goes, leave_goes, noop_goes, prepared_goes, watched_goes}
 
 -- each command
-command_goes : (request : RequestOf) (world : StoreWorld) (name : Draw) (group : Group) (found : named_group name world.groups ≡ Some group) (c : Command) → TellsHoldings request world.history (holdings_in world) → MayExecute request world group c
+command_goes : (request : RequestOf) (world : StoreWorld) (name : Draw) (group : Group) (found : named_group name world.groups ≡ Some group) (c : Command) → MatchesHoldings request world.history (holdings_in world) → MayExecute request world group c
     → Goes request world name group found c (applied group c)
 command_goes request world name group found Noop told may = noop_goes request world name group found
 command_goes request world name group found (Call client seq op) told may = call_goes request world name group found client seq op may
@@ -40,7 +40,7 @@ nothing_goes request world = record {
   tables = λ name group is. inr (inl (group, is, refl));
 }
 
-by_group : (request : RequestOf) (world : StoreWorld) (name : Draw) (c : Command) → TellsHoldings request world.history (holdings_in world) → (o : Option Group) → named_group name world.groups ≡ o
+by_group : (request : RequestOf) (world : StoreWorld) (name : Draw) (c : Command) → MatchesHoldings request world.history (holdings_in world) → (o : Option Group) → named_group name world.groups ≡ o
     → ((group : Group) → o ≡ Some group → MayExecute request world group c) → IsMoveTo request world (after_command world o c)
 by_group request world name c holds None e may = nothing_goes request world
 by_group request world name c holds (Some group) e may = command_goes request world name group e c holds (may group refl)
@@ -48,12 +48,12 @@ by_group request world name c holds (Some group) e may = command_goes request wo
 pub entries_move : EntriesMakeMoves
 entries_move request world entry holds may = by_group request world entry.group entry.command holds (named_group entry.group world.groups) refl may
 
-all_move : (request : RequestOf) (world : StoreWorld) (entries : List LogEntry) → TellsHoldings request world.history (holdings_in world) → MayAllBeTold request world entries → AllMakeMoves request world entries
+all_move : (request : RequestOf) (world : StoreWorld) (entries : List LogEntry) → MatchesHoldings request world.history (holdings_in world) → AllMayBeApplied request world entries → AllMakeMoves request world entries
 all_move request world [] holds may = tt
 all_move request world (entry ∷ entries) holds may =
     let moves = entries_move request world entry holds may.0 in
     (moves, all_move request (told world entry) entries (move_told request world (told world entry) holds moves) may.1)
 
-pub entries_tell : EntriesThatMayBeToldTell
-entries_tell request bases begin entries may =
-    moves_tell_worlds request bases begin entries (all_move request (first_world bases) entries (first_told bases begin request) may)
+pub entries_report : AppliedEntriesMakeHistory
+entries_report request bases begin entries may =
+    moves_make_worlds request bases begin entries (all_move request (first_world bases) entries (first_recorded bases begin request) may)

@@ -18,8 +18,8 @@ use Rattle.sc_machine_table.specs.Definitions.{Group, group_of, applied, done, s
 use Rattle.sc_machine_table.proofs.Lemmas.{clients_again}
 use Rattle.sc_log_entries.specs.declared.Cut.{Cut}
 use Rattle.sc_log_entries.specs.Definitions.{Covers, first_cut, StoreWorld, first_world, told, with_result, world_after, world_of}
-use Rattle.sc_law_entries.specs.history.Definitions.{ExampleOfEntries, answers_with, example_log, get_a, get_entry, lone_base, offspring, put_a, put_entry, split_entry, two_requests, MayAllBeTold, MayBeTold, MayCall, MaySplit, BeginBare, BeginsBare}
-use Rattle.sc_law_entries.proofs.HistoryProofs.Entries.{entries_tell}
+use Rattle.sc_law_entries.specs.history.Definitions.{ExampleOfEntries, answers_with, example_log, get_a, get_entry, lone_base, offspring, put_a, put_entry, split_entry, two_requests, AllMayBeApplied, MayBeTold, MayCall, MaySplit, BeginBare, BeginsBare}
+use Rattle.sc_law_entries.proofs.HistoryProofs.Entries.{entries_report}
 
 -- ---- the start
 
@@ -96,8 +96,8 @@ may_split group found = subst (λ g. MaySplit second g 1610612736 offspring) (sa
 may_get : MayBeTold two_requests third get_entry
 may_get group found = subst (λ g. MayCall two_requests third g 2 1 get_a) (same_Some newborn group found) (record { asked = refl; cut = λ serves. (newborn.core.arc, refl) })
 
-may : MayAllBeTold two_requests first example_log
-may = (may_put, subst (λ world. MayAllBeTold two_requests world (split_entry ∷ get_entry ∷ [])) (sym second_is) (may_split, (may_get, tt)))
+may : AllMayBeApplied two_requests first example_log
+may = (may_put, subst (λ world. AllMayBeApplied two_requests world (split_entry ∷ get_entry ∷ [])) (sym second_is) (may_split, (may_get, tt)))
 
 -- ---- the history
 
@@ -108,7 +108,7 @@ calls_are =
 
 history : (world_of (lone_base ∷ []) example_log).history ≡ answers_with None (Some (120 ∷ []))
 history =
-    let legal = subst Legal calls_are (entries_tell two_requests (lone_base ∷ []) bare example_log may).told.legal in
+    let legal = subst Legal calls_are (entries_report two_requests (lone_base ∷ []) bare example_log may).told.legal in
     calls_are
     ∙ ap (λ (r : Reply). answers_with r.old (get newborn.pairs (97 ∷ []))) legal.replay.0
     ∙ ap (λ o. answers_with o (get newborn.pairs (97 ∷ []))) (get-empty (slice_cmp nat_cmp) (97 ∷ []))

@@ -11,7 +11,7 @@ use Rattle.sc_machine_table.specs.Definitions.{Group, group_of, state_after, app
 use Rattle.sc_log_entries.specs.Definitions.{birth_of, StoreWorld, after_command, first_world, named_group, told, with_group, world_of}
 use Rattle.sc_log_entries.specs.declared.LogEntry.{LogEntry}
 use Rattle.sc_log_entries.proofs.Lemmas.{world_append, found_name, other_name, draw_cases}
-use Rattle.sc_law_entries.specs.history.Definitions.{FrontsAnswerByHistory, LogsMakeStates, log_in}
+use Rattle.sc_law_entries.specs.history.Definitions.{PrefixesAnswerByHistory, LogsMakeStates, log_in}
 use Rattle.sc_law_entries.proofs.HistoryProofs.Divisions.{found_left}
 use Rattle.sc_law_entries.proofs.HistoryProofs.Found.{found_now, found_still}
 use Rattle.sc_law_entries.proofs.HistoryProofs.Logs.{applied_same}
@@ -92,8 +92,8 @@ parts_at name (entry ∷ entries) (c ∷ front) later e = elim (draw_cases entry
       })
 ]
 
-pub fronts_answer : FrontsAnswerByHistory
-fronts_answer bases entries notes born rest is name group found front later log =
+pub prefixes_answer : PrefixesAnswerByHistory
+prefixes_answer bases entries notes born rest is name group found front later log =
     let parts = parts_at name rest front later log in
     let whole : entries ≡ (born ++ parts.first) ++ parts.rest = is ∙ ap (λ es. born ++ es) parts.are ∙ sym (append_assoc born parts.first parts.rest) in
     let there : named_group name (world_of bases (born ++ parts.first)).groups ≡ Some (state_after group front) =

@@ -8,7 +8,7 @@ use Rattle.sc_ideal.specs.Definitions.{contents_after, key_of, part_of, with_pai
 use Rattle.sc_ideal.specs.declared.Entry.{Entry}
 use Rattle.sc_ideal.proofs.Lemmas.{parts_join}
 use Rattle.sc_machine_table.proofs.Lemmas.{part_within, first_inside, second_inside, parts_turned}
-use Rattle.sc_law_entries.specs.history.Definitions.{Holding, IsToldOf, part_before, part_from, with_next, with_previous}
+use Rattle.sc_law_entries.specs.history.Definitions.{Holding, IsReportedOf, part_before, part_from, with_next, with_previous}
 use Rattle.sc_law_entries.proofs.HistoryProofs.Tables.{noted_left, noted_right, notes_joined}
 
 -- an arc of the ring
@@ -39,18 +39,18 @@ parts_apart arc at is fits can p first second =
     both_ways (holds (before arc at) p && holds (from arc at) p) ((joins_hold (before arc at) (from arc at) is.1 parts.first parts.second parts.can).apart p) (and_from (holds (before arc at) p) (holds (from arc at) p) first second)
 
 -- a part on an arc that lies in the whole
-part_told : (history : List Entry) (holding : Holding) (arc : Arc) → LiesIn arc holding.arc → IsToldOf history holding
-    → IsToldOf history (record holding { arc = arc; pairs = part_of arc holding.pairs })
+part_told : (history : List Entry) (holding : Holding) (arc : Arc) → LiesIn arc holding.arc → IsReportedOf history holding
+    → IsReportedOf history (record holding { arc = arc; pairs = part_of arc holding.pairs })
 part_told history holding arc lies told = record {
   pairs = ap (part_of arc) told.pairs ∙ part_within arc holding.arc (contents_after empty history) lies;
   noted = λ entry among held. told.noted entry among (lies (pos_of (key_of entry.op)) held);
   notes = told.notes;
 }
 
-pub before_told : (history : List Entry) (holding : Holding) (at : ℕ) → IsOnRing holding.arc → at < 2 ^ 32 → CanCut holding.arc at → IsToldOf history holding → IsToldOf history (part_before at holding)
+pub before_told : (history : List Entry) (holding : Holding) (at : ℕ) → IsOnRing holding.arc → at < 2 ^ 32 → CanCut holding.arc at → IsReportedOf history holding → IsReportedOf history (part_before at holding)
 before_told history holding at is fits can = part_told history holding (before holding.arc at) (before_arc holding.arc at is fits can).1
 
-pub from_told : (history : List Entry) (holding : Holding) (at : ℕ) → IsOnRing holding.arc → at < 2 ^ 32 → CanCut holding.arc at → IsToldOf history holding → IsToldOf history (part_from at holding)
+pub from_told : (history : List Entry) (holding : Holding) (at : ℕ) → IsOnRing holding.arc → at < 2 ^ 32 → CanCut holding.arc at → IsReportedOf history holding → IsReportedOf history (part_from at holding)
 from_told history holding at is fits can = part_told history holding (from holding.arc at) (from_arc holding.arc at is fits can).1
 
 -- ---- two as one
@@ -63,8 +63,8 @@ joined_from arc next is its can p e =
 pub joined_arc : (arc next : Arc) → IsOnRing arc → IsOnRing next → CanJoin arc next → IsOnRing (joined arc next)
 joined_arc arc next is its can = ((joins_hold arc next is.1 is.0 its.0 can).is_arc, is.1)
 
-pub next_told : (history : List Entry) (holding next : Holding) → IsOnRing holding.arc → IsOnRing next.arc → CanJoin holding.arc next.arc → IsToldOf history holding → IsToldOf history next
-    → IsToldOf history (with_next holding next)
+pub next_told : (history : List Entry) (holding next : Holding) → IsOnRing holding.arc → IsOnRing next.arc → CanJoin holding.arc next.arc → IsReportedOf history holding → IsReportedOf history next
+    → IsReportedOf history (with_next holding next)
 next_told history holding next is its can told other =
     let map = contents_after empty history in
     record {
@@ -78,8 +78,8 @@ next_told history holding next is its can told other =
       notes = notes_joined history holding.clients next.clients told.notes other.notes;
     }
 
-pub previous_told : (history : List Entry) (holding previous : Holding) → IsOnRing holding.arc → IsOnRing previous.arc → CanJoin previous.arc holding.arc → IsToldOf history holding → IsToldOf history previous
-    → IsToldOf history (with_previous holding previous)
+pub previous_told : (history : List Entry) (holding previous : Holding) → IsOnRing holding.arc → IsOnRing previous.arc → CanJoin previous.arc holding.arc → IsReportedOf history holding → IsReportedOf history previous
+    → IsReportedOf history (with_previous holding previous)
 previous_told history holding previous is its can told other =
     let map = contents_after empty history in
     record {

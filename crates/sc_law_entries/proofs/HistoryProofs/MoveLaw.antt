@@ -13,16 +13,16 @@ use Rattle.sc_log_entries.specs.declared.Cut.{Cut}
 use Rattle.sc_log_entries.specs.declared.LogEntry.{LogEntry}
 use Rattle.sc_log_entries.specs.Definitions.{effective, arc_in, StoreWorld, first_world, named_group, told, world_after, world_of}
 use Rattle.sc_log_entries.proofs.Lemmas.{world_append}
-use Rattle.sc_law_entries.specs.history.Definitions.{RequestOf, HasNotes, TellsHoldings, entries_by, holding_of, holdings_after, AllMakeMoves, BeginBare, EntriesThatMoveTell, HasKnownTable, IsMoveTo, MakesMove, holdings_in}
+use Rattle.sc_law_entries.specs.history.Definitions.{RequestOf, HasNotes, MatchesHoldings, entries_by, holding_of, holdings_after, AllMakeMoves, BeginBare, MovingEntriesMakeHistory, HasKnownTable, IsMoveTo, MakesMove, holdings_in}
 use Rattle.sc_law_entries.proofs.HistoryProofs.Cuts.{has_cut}
 use Rattle.sc_law_entries.proofs.HistoryProofs.MovesKept.{move_kept, same_told}
-use Rattle.sc_law_entries.proofs.HistoryProofs.QuietLaw.{first_notes, first_told}
+use Rattle.sc_law_entries.proofs.HistoryProofs.QuietLaw.{first_notes, first_recorded}
 use Rattle.sc_law_entries.proofs.HistoryProofs.QuietWorlds.{notes_grow, tables_grow}
 use Rattle.std.proofs.lemmas.Option.{none-some}
 
 -- what holds after each entry: the history matches what all groups hold, and what their own logs made them note
 record IsMoved (request : RequestOf) (world : StoreWorld) : Type 0 where
-  holds : TellsHoldings request world.history (holdings_in world)
+  holds : MatchesHoldings request world.history (holdings_in world)
   notes : (name : Draw) (group : Group) → named_group name world.groups ≡ Some group → HasNotes world.history group.clients
 
 no_notes : (history : List Entry) (clients : ClientTable) → clients ≡ empty → HasNotes history clients
@@ -32,9 +32,9 @@ same_notes : (history : List Entry) (clients others : ClientTable) → clients �
 same_notes history clients others same notes = subst (HasNotes history) same notes
 
 -- one move more
-pub move_told : (request : RequestOf) (before after : StoreWorld) → TellsHoldings request before.history (holdings_in before) → IsMoveTo request before after → TellsHoldings request after.history (holdings_in after)
+pub move_told : (request : RequestOf) (before after : StoreWorld) → MatchesHoldings request before.history (holdings_in before) → IsMoveTo request before after → MatchesHoldings request after.history (holdings_in after)
 move_told request before after holds makes =
-    subst (λ es. TellsHoldings request es (holdings_in after)) (sym makes.adds)
+    subst (λ es. MatchesHoldings request es (holdings_in after)) (sym makes.adds)
     (same_told request (before.history ++ entries_by makes.move (holdings_in before)) (holdings_after makes.move (holdings_in before)) (holdings_in after) makes.holds
     (move_kept request before.history (holdings_in before) makes.move holds makes.may))
 
@@ -44,7 +44,7 @@ moved request world entry is makes =
     let holds = move_told request world (told world entry) is.holds makes in
     record { holds = holds; notes = λ name group found. known name group holds (makes.tables name group found) }
   where
-    known : (name : Draw) (group : Group) → TellsHoldings request (told world entry).history (holdings_in (told world entry)) → HasKnownTable world (told world entry) name group → HasNotes (told world entry).history group.clients
+    known : (name : Draw) (group : Group) → MatchesHoldings request (told world entry).history (holdings_in (told world entry)) → HasKnownTable world (told world entry) name group → HasNotes (told world entry).history group.clients
     known name group holds (inl none) = no_notes (told world entry).history group.clients none
     known name group holds (inr (inl old)) = same_notes (told world entry).history old.0.clients group.clients old.2 (tables_grow world (entry ∷ []) old.0.clients (is.notes name old.0 old.1))
     known name group holds (inr (inr holding)) = same_notes (told world entry).history holding.0.clients group.clients holding.2 (holds.told name holding.0 holding.1).notes
@@ -53,9 +53,9 @@ all_moved : (request : RequestOf) (world : StoreWorld) (entries : List LogEntry)
 all_moved request world [] is all = is
 all_moved request world (entry ∷ entries) is all = all_moved request (told world entry) entries (moved request world entry is all.0) all.1
 
-moves_front : (request : RequestOf) (world : StoreWorld) (front more : List LogEntry) → AllMakeMoves request world (front ++ more) → AllMakeMoves request world front
-moves_front request world [] more all = tt
-moves_front request world (entry ∷ front) more all = (all.0, moves_front request (told world entry) front more all.1)
+moves_prefix : (request : RequestOf) (world : StoreWorld) (front more : List LogEntry) → AllMakeMoves request world (front ++ more) → AllMakeMoves request world front
+moves_prefix request world [] more all = tt
+moves_prefix request world (entry ∷ front) more all = (all.0, moves_prefix request (told world entry) front more all.1)
 
 -- what a cut's group holds is what its effective record holds
 pub held_by_cut : (world : StoreWorld) (cut : Cut) → Among cut world.ring → (group : Group) → effective world cut.group ≡ Some group → holdings_in world cut.group ≡ Some (holding_of group)
@@ -66,10 +66,10 @@ held_by_cut world cut a group is =
 
 from_first : (request : RequestOf) (bases : List Base) → BeginBare bases → (entries : List LogEntry) → AllMakeMoves request (first_world bases) entries → IsMoved request (world_of bases entries)
 from_first request bases begin entries all =
-    all_moved request (first_world bases) entries (record { holds = first_told bases begin request; notes = λ name group found. first_notes bases begin request name group found }) all
+    all_moved request (first_world bases) entries (record { holds = first_recorded bases begin request; notes = λ name group found. first_notes bases begin request name group found }) all
 
-pub moves_tell_worlds : EntriesThatMoveTell
-moves_tell_worlds request bases begin entries all =
+pub moves_make_worlds : MovingEntriesMakeHistory
+moves_make_worlds request bases begin entries all =
     let last = from_first request bases begin entries all in
     record {
       told = last.holds;
@@ -77,7 +77,7 @@ moves_tell_worlds request bases begin entries all =
           ((last.holds.told cut.group (holding_of group) (held_by_cut (world_of bases entries) cut a group is)).pairs
           ∙ ap (λ x. part_of x (contents_after empty (world_of bases entries).history)) (arc group is));
       notes = λ front more is name group found. (
-          let first = from_first request bases begin front (moves_front request (first_world bases) front more (subst (AllMakeMoves request (first_world bases)) is all)) in
+          let first = from_first request bases begin front (moves_prefix request (first_world bases) front more (subst (AllMakeMoves request (first_world bases)) is all)) in
           subst (λ (w : StoreWorld). HasNotes w.history group.clients)
           (sym (ap (world_of bases) is ∙ world_append (first_world bases) front more))
           (notes_grow (world_of bases front) more group (first.notes name group found)));

@@ -11,7 +11,7 @@ use Rattle.sc_ideal.specs.Definitions.{later}
 use Rattle.sc_ideal.proofs.Lemmas.{joined_by_number}
 use Rattle.sc_law_entries.specs.history.Definitions.{Holding, AreBare, MayMakeAll, history_by, part_before, part_from, with_previous, with_request, ExampleOfMoves, answers_with, bare_ring, example_moves, lone_holdings, offspring, parent, put_a, two_requests}
 use Rattle.sc_law_entries.proofs.HistoryProofs.Disjoint.{holding_here, holding_there}
-use Rattle.sc_law_entries.proofs.HistoryProofs.MovesKept.{moves_tell}
+use Rattle.sc_law_entries.proofs.HistoryProofs.MovesKept.{moves_make_history}
 use Rattle.sc_log_entries.proofs.Lemmas.{draw_cases}
 use Rattle.std.proofs.lemmas.Option.{none-some, same_Some}
 
@@ -82,7 +82,7 @@ may = (
 -- the replies are those of the map, whoever gave them
 history : history_by lone_holdings example_moves ≡ answers_with None (Some (120 ∷ []))
 history =
-    let replay = (moves_tell two_requests lone_holdings bare example_moves may).0.legal.replay in
+    let replay = (moves_make_history two_requests lone_holdings bare example_moves may).0.legal.replay in
     ap (λ (r : Reply). answers_with r.old (get gained.pairs (97 ∷ []))) replay.0
     ∙ ap (λ o. answers_with o (get gained.pairs (97 ∷ []))) (get-empty (slice_cmp nat_cmp) (97 ∷ []))
     ∙ ap (λ (r : Reply). answers_with None r.old) replay.1.0

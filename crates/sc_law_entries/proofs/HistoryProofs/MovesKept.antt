@@ -5,7 +5,7 @@ use Rattle.std.specs.Ordering.{nat_cmp}
 use Rattle.sc_base.specs.declared.names.Draw.{Draw}
 use Rattle.sc_ideal.specs.Definitions.{HasEntry}
 use Rattle.sc_ideal.specs.declared.Entry.{Entry}
-use Rattle.sc_law_entries.specs.history.Definitions.{Holding, Holdings, RequestOf, Move, Unmoved, ServedBy, DividedAt, JoinedTo, GivenFrom, TakenUpTo, MayMakeAll, MovesKeepHistories, MovesTellHistories, AreBare, TellsHoldings, with_holding, holdings_after, holdings_after_all, history_by, entries_by}
+use Rattle.sc_law_entries.specs.history.Definitions.{Holding, Holdings, RequestOf, Move, Unmoved, ServedBy, DividedAt, JoinedTo, GivenFrom, TakenUpTo, MayMakeAll, MovesKeepHistories, MovesMakeHistories, AreBare, MatchesHoldings, with_holding, holdings_after, holdings_after_all, history_by, entries_by}
 use Rattle.sc_law_entries.proofs.HistoryProofs.Disjoint.{IsGood, SharesOut, shared_disjoint, shared_told}
 use Rattle.sc_law_entries.proofs.HistoryProofs.Shares.{divided, joined_up, given, taken}
 use Rattle.sc_law_entries.proofs.HistoryProofs.Serving.{served_kept}
@@ -15,15 +15,15 @@ use Rattle.sc_log_entries.proofs.Lemmas.{part_of_nothing as empty_part}
 
 -- ---- one move
 
-no_entry : (request : RequestOf) (history : List Entry) (holdings : Holdings) → TellsHoldings request history holdings → TellsHoldings request (history ++ []) holdings
-no_entry request history holdings told = subst (λ es. TellsHoldings request es holdings) (sym (append-nil history)) told
+no_entry : (request : RequestOf) (history : List Entry) (holdings : Holdings) → MatchesHoldings request history holdings → MatchesHoldings request (history ++ []) holdings
+no_entry request history holdings told = subst (λ es. MatchesHoldings request es holdings) (sym (append-nil history)) told
 
-all_good : (request : RequestOf) (history : List Entry) (holdings : Holdings) → TellsHoldings request history holdings → (name : Draw) → IsGood history (holdings name)
+all_good : (request : RequestOf) (history : List Entry) (holdings : Holdings) → MatchesHoldings request history holdings → (name : Draw) → IsGood history (holdings name)
 all_good request history holdings told name holding is = (told.disjoint.arcs name holding is, told.told name holding is)
 
 -- two holdings that share out what two had
-shared_kept : (request : RequestOf) (history : List Entry) (holdings : Holdings) (group other : Draw) (mine theirs : Option Holding) → TellsHoldings request history holdings
-    → SharesOut history holdings group other mine theirs → TellsHoldings request (history ++ []) (with_holding other theirs (with_holding group mine holdings))
+shared_kept : (request : RequestOf) (history : List Entry) (holdings : Holdings) (group other : Draw) (mine theirs : Option Holding) → MatchesHoldings request history holdings
+    → SharesOut history holdings group other mine theirs → MatchesHoldings request (history ++ []) (with_holding other theirs (with_holding group mine holdings))
 shared_kept request history holdings group other mine theirs told share =
     let good = all_good request history holdings told in
     no_entry request history _ (record {
@@ -46,7 +46,7 @@ move_kept request history holdings (TakenUpTo group at next) told may =
     shared_kept request history holdings group next _ _ told (taken history holdings told.disjoint (all_good request history holdings told) group at next may)
 
 -- holdings that are the same at each name match the same history
-pub same_told : (request : RequestOf) (history : List Entry) (holdings others : Holdings) → ((name : Draw) → others name ≡ holdings name) → TellsHoldings request history holdings → TellsHoldings request history others
+pub same_told : (request : RequestOf) (history : List Entry) (holdings others : Holdings) → ((name : Draw) → others name ≡ holdings name) → MatchesHoldings request history holdings → MatchesHoldings request history others
 same_told request history holdings others same told = record {
   legal = told.legal;
   asked = told.asked;
@@ -59,28 +59,28 @@ same_told request history holdings others same told = record {
 
 -- ---- all moves
 
-tells_on : (request : RequestOf) (history : List Entry) (holdings : Holdings) (moves : List Move) → TellsHoldings request history holdings → MayMakeAll request holdings moves
-    → TellsHoldings request (history ++ history_by holdings moves) (holdings_after_all holdings moves)
+tells_on : (request : RequestOf) (history : List Entry) (holdings : Holdings) (moves : List Move) → MatchesHoldings request history holdings → MayMakeAll request holdings moves
+    → MatchesHoldings request (history ++ history_by holdings moves) (holdings_after_all holdings moves)
 tells_on request history holdings [] told may = no_entry request history holdings told
 tells_on request history holdings (move ∷ moves) told may =
     let next = holdings_after move holdings in
-    subst (λ es. TellsHoldings request es (holdings_after_all next moves)) (append_assoc history (entries_by move holdings) (history_by next moves))
+    subst (λ es. MatchesHoldings request es (holdings_after_all next moves)) (append_assoc history (entries_by move holdings) (history_by next moves))
     (tells_on request (history ++ entries_by move holdings) next moves (move_kept request history holdings move told may.0) may.1)
 
-may_front : (request : RequestOf) (holdings : Holdings) (front more : List Move) → MayMakeAll request holdings (front ++ more) → MayMakeAll request holdings front
-may_front request holdings [] more may = tt
-may_front request holdings (move ∷ front) more may = (may.0, may_front request (holdings_after move holdings) front more may.1)
+may_prefix : (request : RequestOf) (holdings : Holdings) (front more : List Move) → MayMakeAll request holdings (front ++ more) → MayMakeAll request holdings front
+may_prefix request holdings [] more may = tt
+may_prefix request holdings (move ∷ front) more may = (may.0, may_prefix request (holdings_after move holdings) front more may.1)
 
-history_front : (holdings : Holdings) (front more : List Move) → history_by holdings (front ++ more) ≡ history_by holdings front ++ history_by (holdings_after_all holdings front) more
-history_front holdings [] more = refl
-history_front holdings (move ∷ front) more =
-    ap (λ es. entries_by move holdings ++ es) (history_front (holdings_after move holdings) front more)
+history_prefix : (holdings : Holdings) (front more : List Move) → history_by holdings (front ++ more) ≡ history_by holdings front ++ history_by (holdings_after_all holdings front) more
+history_prefix holdings [] more = refl
+history_prefix holdings (move ∷ front) more =
+    ap (λ es. entries_by move holdings ++ es) (history_prefix (holdings_after move holdings) front more)
     ∙ sym (append_assoc (entries_by move holdings) (history_by (holdings_after move holdings) front) (history_by (holdings_after_all holdings (move ∷ front)) more))
 
 -- ---- from a bare start
 
 -- at an empty start nothing is in the history
-pub bare_told : (request : RequestOf) (holdings : Holdings) → AreBare holdings → TellsHoldings request [] holdings
+pub bare_told : (request : RequestOf) (holdings : Holdings) → AreBare holdings → MatchesHoldings request [] holdings
 bare_told request holdings bare = record {
   legal = record { replay = tt; once = λ i j d below inside. absurd (omega arith) };
   asked = λ e a. absurd a;
@@ -94,15 +94,15 @@ bare_told request holdings bare = record {
       });
 }
 
-tells_all : (request : RequestOf) (holdings : Holdings) → AreBare holdings → (moves : List Move) → MayMakeAll request holdings moves → TellsHoldings request (history_by holdings moves) (holdings_after_all holdings moves)
+tells_all : (request : RequestOf) (holdings : Holdings) → AreBare holdings → (moves : List Move) → MayMakeAll request holdings moves → MatchesHoldings request (history_by holdings moves) (holdings_after_all holdings moves)
 tells_all request holdings bare moves may = tells_on request [] holdings moves (bare_told request holdings bare) may
 
-pub moves_tell : MovesTellHistories
-moves_tell request holdings bare moves may = (
+pub moves_make_history : MovesMakeHistories
+moves_make_history request holdings bare moves may = (
   tells_all request holdings bare moves may,
   λ front more is group holding found client n e. (
-      let first = tells_all request holdings bare front (may_front request holdings front more (subst (MayMakeAll request holdings) is may)) in
+      let first = tells_all request holdings bare front (may_prefix request holdings front more (subst (MayMakeAll request holdings) is may)) in
       let had = (first.told group holding found).notes client n e in
-      subst (λ es. HasEntry es client n.seq n.reply) (sym (ap (history_by holdings) is ∙ history_front holdings front more))
+      subst (λ es. HasEntry es client n.seq n.reply) (sym (ap (history_by holdings) is ∙ history_prefix holdings front more))
       (entry_later (history_by holdings front) (history_by (holdings_after_all holdings front) more) client n.seq n.reply had)),
 )

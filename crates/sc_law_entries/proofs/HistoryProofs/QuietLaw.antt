@@ -16,7 +16,7 @@ use Rattle.sc_log_entries.specs.Definitions.{Covers, arc_in, first_cut, is_cut_o
 use Rattle.sc_log_entries.proofs.Lemmas.{world_append}
 use Rattle.sc_paxos_words.proofs.Lemmas.{find_found, Each-split, one_of_name}
 use Rattle.sc_paxos_law.proofs.Lemmas.{from_map}
-use Rattle.sc_law_entries.specs.history.Definitions.{Holding, RequestOf, AreBare, HasNotes, TellsHoldings, holding_of, BeginBare, IsQuiet, IsToldWorld, QuietEntriesTell, holdings_in}
+use Rattle.sc_law_entries.specs.history.Definitions.{Holding, RequestOf, AreBare, HasNotes, MatchesHoldings, holding_of, BeginBare, IsQuiet, HistoryMatchesWorld, QuietEntriesMakeHistory, holdings_in}
 use Rattle.sc_law_entries.proofs.HistoryProofs.MovesKept.{bare_told}
 use Rattle.sc_law_entries.proofs.HistoryProofs.Cuts.{cut_of}
 use Rattle.sc_law_entries.proofs.HistoryProofs.Holdings.{IsOnRing}
@@ -83,15 +83,15 @@ module _ (bases : List Base) (begin : BeginBare bases) where
   }
 
   -- what holds at the start
-  pub first_told : (request : RequestOf) → TellsHoldings request [] (holdings_in (first_world bases))
-  first_told request = bare_told request (holdings_in (first_world bases)) first_bare
+  pub first_recorded : (request : RequestOf) → MatchesHoldings request [] (holdings_in (first_world bases))
+  first_recorded request = bare_told request (holdings_in (first_world bases)) first_bare
 
   first_quiet : (request : RequestOf) → IsQuietWorld request bases (first_world bases)
   first_quiet request = record {
     transactions = refl;
     ring = refl;
     cuts = first_cuts bases;
-    told = first_told request;
+    told = first_recorded request;
   }
 
   -- and what the groups note at the start
@@ -109,7 +109,7 @@ cut_arc world covers cut a arc e =
     one_cut : (c d : Cut) → Among c world.ring → Among d world.ring → c.group ≡ d.group → c ≡ d
     one_cut c d a b e = one_of_name (λ (x : Cut). x.group) world.ring covers.apart c d a b e
 
-told_world : (request : RequestOf) (bases : List Base) (world : StoreWorld) → BeginBare bases → IsQuietWorld request bases world → IsToldWorld request world
+told_world : (request : RequestOf) (bases : List Base) (world : StoreWorld) → BeginBare bases → IsQuietWorld request bases world → HistoryMatchesWorld request world
 told_world request bases world begin quiet = record {
   legal = quiet.told.legal;
   told = quiet.told;
@@ -124,8 +124,8 @@ told_world request bases world begin quiet = record {
 quiet_world : (request : RequestOf) (bases : List Base) → BeginBare bases → (entries : List LogEntry) → Each (IsQuiet request) entries → IsQuietWorld request bases (world_of bases entries)
 quiet_world request bases begin entries each = quiet_all request bases (first_world bases) entries (first_quiet bases begin request) each
 
-pub quiet_tell : QuietEntriesTell
-quiet_tell request bases begin entries each =
+pub quiet_entries_history : QuietEntriesMakeHistory
+quiet_entries_history request bases begin entries each =
     let world = quiet_world request bases begin entries each in
     record {
       world = told_world request bases (world_of bases entries) begin world;

@@ -17,7 +17,7 @@ use Rattle.sc_machine_table.specs.Definitions.{Group, entry_of, applied, done, o
 use Rattle.sc_log_entries.specs.declared.LogEntry.{LogEntry}
 use Rattle.sc_log_entries.specs.Definitions.{effective, effective_by, arc_in, first_cut, birth_of, StoreWorld, after_command, named_group, told, with_result, world_after}
 use Rattle.sc_law_entries.proofs.HistoryProofs.Elsewhere.{own_group, here, there}
-use Rattle.sc_law_entries.specs.history.Definitions.{LeavesWhole, Holding, RequestOf, MayServe, TellsHoldings, HasNotes, ServedBy, entries_by, holding_of, holdings_after, request_entry, with_request, holdings_in, IsAskedCall, IsQuiet}
+use Rattle.sc_law_entries.specs.history.Definitions.{LeavesWhole, Holding, RequestOf, MayServe, MatchesHoldings, HasNotes, ServedBy, entries_by, holding_of, holdings_after, request_entry, with_request, holdings_in, IsAskedCall, IsQuiet}
 use Rattle.sc_law_entries.proofs.HistoryProofs.Disjoint.{holding_here, holding_there}
 use Rattle.sc_law_entries.proofs.HistoryProofs.Logs.{OnlyMembers, ordered_either}
 use Rattle.sc_law_entries.proofs.HistoryProofs.MovesKept.{move_kept, same_told}
@@ -66,7 +66,7 @@ pub record IsQuietWorld (request : RequestOf) (bases : List Base) (world : Store
   pub transactions : world.transactions ≡ []
   pub ring : world.ring ≡ map first_cut bases
   pub cuts : HaveCuts world
-  pub told : TellsHoldings request world.history (holdings_in world)
+  pub told : MatchesHoldings request world.history (holdings_in world)
 
 module _ (request : RequestOf) (bases : List Base) (world : StoreWorld) (quiet : IsQuietWorld request bases world) (name : Draw) (group : Group) (found : named_group name world.groups ≡ Some group)
     (c : Command) (keeps : LeavesWhole c) (result : Group × Effect) (only : OnlyMembers group.core result.0.core) where
@@ -113,13 +113,13 @@ module _ (request : RequestOf) (bases : List Base) (world : StoreWorld) (quiet :
   own_holding = before_is group.core.id ∙ ap (option_map holding_of) (own_group world name group found c result id_is unborn)
 
   -- with what the history says of it
-  quiet_with : TellsHoldings request after.history (holdings_in after) → IsQuietWorld request bases after
+  quiet_with : MatchesHoldings request after.history (holdings_in after) → IsQuietWorld request bases after
   quiet_with told = record { transactions = transactions_are; ring = ring_is ∙ quiet.ring; cuts = cuts_are; told = told }
 
   -- an entry that leaves what is held
   idle : holding_of result.0 ≡ holding_of group → entry_of c result.1 ≡ [] → IsQuietWorld request bases after
-  idle same none = quiet_with (subst (λ es. TellsHoldings request (world.history ++ es) (holdings_in after)) (sym none)
-      (subst (λ es. TellsHoldings request es (holdings_in after)) (sym (append-nil world.history))
+  idle same none = quiet_with (subst (λ es. MatchesHoldings request (world.history ++ es) (holdings_in after)) (sym none)
+      (subst (λ es. MatchesHoldings request es (holdings_in after)) (sym (append-nil world.history))
       (same_told request world.history (holdings_in world) (holdings_in after) as_before quiet.told)))
     where
       as_before : (other : Draw) → holdings_in after other ≡ holdings_in world other
@@ -135,7 +135,7 @@ module _ (request : RequestOf) (bases : List Base) (world : StoreWorld) (quiet :
       let move = ServedBy group.core.id client seq op in
       let may : MayServe request (holdings_in world) group.core.id client seq op =
       record { holding = holding_of group; is = own_holding; its = takes.its; above = takes.above; asked = asked } in
-      quiet_with (subst (λ es. TellsHoldings request (world.history ++ es) (holdings_in after)) (ap (λ o. request_entry o client seq op) own_holding ∙ sym entry)
+      quiet_with (subst (λ es. MatchesHoldings request (world.history ++ es) (holdings_in after)) (ap (λ o. request_entry o client seq op) own_holding ∙ sym entry)
       (same_told request (world.history ++ entries_by move (holdings_in world)) (holdings_after move (holdings_in world)) (holdings_in after) as_moved
       (move_kept request world.history (holdings_in world) move quiet.told may)))
     where

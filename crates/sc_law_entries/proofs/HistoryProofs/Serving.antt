@@ -14,7 +14,7 @@ use Rattle.sc_ideal.specs.Definitions.{AreApart, HasEntry, contents_after, Conte
 use Rattle.sc_ideal.specs.declared.Entry.{Entry}
 use Rattle.sc_ideal.proofs.Lemmas.{apart, get-part}
 use Rattle.sc_paxos_law.proofs.Lemmas.{Among-right, Among-either}
-use Rattle.sc_law_entries.specs.history.Definitions.{Holding, Holdings, RequestOf, MayServe, TellsHoldings, IsToldOf, IsNotedIn, with_request, with_holding, holdings_after, entries_by, AreDisjoint, ServedBy, request_entry}
+use Rattle.sc_law_entries.specs.history.Definitions.{Holding, Holdings, RequestOf, MayServe, MatchesHoldings, IsReportedOf, IsNotedIn, with_request, with_holding, holdings_after, entries_by, AreDisjoint, ServedBy, request_entry}
 use Rattle.sc_law_entries.proofs.HistoryProofs.Disjoint.{holding_here, holding_there}
 use Rattle.sc_law_entries.proofs.HistoryProofs.Holdings.{IsOnRing}
 use Rattle.sc_law_entries.proofs.HistoryProofs.Kept.{IsApart, all_pairs, apart_push}
@@ -32,7 +32,7 @@ not_held : (b : Bool) → (b ≡ true → ⊥) → b ≡ false
 not_held true no_way = absurd (no_way refl)
 not_held false no_way = refl
 
-module _ (request : RequestOf) (history : List Entry) (holdings : Holdings) (told : TellsHoldings request history holdings)
+module _ (request : RequestOf) (history : List Entry) (holdings : Holdings) (told : MatchesHoldings request history holdings)
     (group : Draw) (client seq : ℕ) (op : Op) (may : MayServe request holdings group client seq op) where
   abbrev holding : Holding
   holding = may.holding
@@ -49,7 +49,7 @@ module _ (request : RequestOf) (history : List Entry) (holdings : Holdings) (tol
   abbrev map : Contents
   map = contents_after empty history
 
-  here : IsToldOf history holding
+  here : IsReportedOf history holding
   here = told.told group holding may.is
 
   -- the reply is that of the whole map
@@ -109,7 +109,7 @@ module _ (request : RequestOf) (history : List Entry) (holdings : Holdings) (tol
       ]
 
   -- the group that served it
-  served_told : IsToldOf (history ++ new ∷ []) served
+  served_told : IsReportedOf (history ++ new ∷ []) served
   served_told = record {
     pairs = ap (after op) here.pairs
         ∙ sym (apart op map (holds_key holding.arc) ∙ cond-true (holds_key holding.arc (key_of op)) (after op (part_of holding.arc map)) (part_of holding.arc map) may.its)
@@ -119,7 +119,7 @@ module _ (request : RequestOf) (history : List Entry) (holdings : Holdings) (tol
   }
 
   -- any other group
-  other_told : (other : Holding) → holds_key other.arc (key_of op) ≡ false → IsToldOf history other → IsToldOf (history ++ new ∷ []) other
+  other_told : (other : Holding) → holds_key other.arc (key_of op) ≡ false → IsReportedOf history other → IsReportedOf (history ++ new ∷ []) other
   other_told other out old = record {
     pairs = old.pairs
         ∙ sym (apart op map (holds_key other.arc) ∙ cond-false (holds_key other.arc (key_of op)) (after op (part_of other.arc map)) (part_of other.arc map) out)
@@ -162,12 +162,12 @@ module _ (request : RequestOf) (history : List Entry) (holdings : Holdings) (tol
         (ap (λ a. holds a p) old.2 ∙ held) (ap (λ a. holds a p) older.2 ∙ held_too));
   }
 
-  changed_told : (name : Draw) (now : Holding) → changed name ≡ Some now → IsToldOf (history ++ new ∷ []) now
+  changed_told : (name : Draw) (now : Holding) → changed name ≡ Some now → IsReportedOf (history ++ new ∷ []) now
   changed_told name now is = elim (draw_cases name group) [
     | inl e ↦ (
         let same : Some served ≡ Some now = sym mine_is ∙ sym (holding_here group mine holdings name e) ∙ is in
         let it : served ≡ now = cc in
-        subst (IsToldOf (history ++ new ∷ [])) it served_told)
+        subst (IsReportedOf (history ++ new ∷ [])) it served_told)
     | inr ne ↦ (
         let was = sym (holding_there group mine holdings name ne) ∙ is in
         other_told now (not_held _ (λ held. ne (told.disjoint.only (pos_of (key_of op)) name group now holding was may.is held may.its))) (told.told name now was))
@@ -179,7 +179,7 @@ module _ (request : RequestOf) (history : List Entry) (holdings : Holdings) (tol
   asked_now e (inr (inr n)) = absurd n
 
   -- the history with the new entry matches what all groups hold
-  tells_served : TellsHoldings request (history ++ new ∷ []) changed
+  tells_served : MatchesHoldings request (history ++ new ∷ []) changed
   tells_served = record {
     legal = record {
       replay = replay_push empty history new told.legal.replay reply_is;
@@ -190,5 +190,5 @@ module _ (request : RequestOf) (history : List Entry) (holdings : Holdings) (tol
     told = changed_told;
   }
 
-  pub served_kept : TellsHoldings request (history ++ entries_by (ServedBy group client seq op) holdings) (holdings_after (ServedBy group client seq op) holdings)
-  served_kept = subst (λ o. TellsHoldings request (history ++ request_entry o client seq op) changed) (sym may.is) tells_served
+  pub served_kept : MatchesHoldings request (history ++ entries_by (ServedBy group client seq op) holdings) (holdings_after (ServedBy group client seq op) holdings)
+  served_kept = subst (λ o. MatchesHoldings request (history ++ request_entry o client seq op) changed) (sym may.is) tells_served

@@ -4,16 +4,16 @@ use Rattle.std.specs.Option.{option_map}
 use Rattle.sc_base.specs.Definitions.{before, from, holds}
 use Rattle.sc_base.specs.declared.names.Draw.{Draw}
 use Rattle.sc_ideal.specs.declared.Entry.{Entry}
-use Rattle.sc_law_entries.specs.history.Definitions.{Holding, Holdings, AreDisjoint, IsToldOf, IsBetween, MayDivide, CanFollow, CanGive, CanTake, part_before, part_from, with_next, with_previous, both_holdings}
+use Rattle.sc_law_entries.specs.history.Definitions.{Holding, Holdings, AreDisjoint, IsReportedOf, IsBetween, MayDivide, CanFollow, CanGive, CanTake, part_before, part_from, with_next, with_previous, both_holdings}
 use Rattle.sc_law_entries.proofs.HistoryProofs.Holdings.{IsOnRing, before_arc, from_arc, parts_apart, before_told, from_told, joined_from, joined_arc, next_told, previous_told}
 use Rattle.sc_law_entries.proofs.HistoryProofs.Disjoint.{HoldsAt, IsGood, SharesOut, owner}
 use Rattle.std.proofs.lemmas.Option.{none-some, same_Some}
 
 -- of a holding that is known
-good_is : (history : List Entry) (found : Option Holding) (holding : Holding) → found ≡ Some holding → IsOnRing holding.arc → IsToldOf history holding → IsGood history found
+good_is : (history : List Entry) (found : Option Holding) (holding : Holding) → found ≡ Some holding → IsOnRing holding.arc → IsReportedOf history holding → IsGood history found
 good_is history found holding is arc told other its =
     let same : holding ≡ other = same_Some holding other (sym is ∙ its) in
-    subst (λ h. IsOnRing h.arc × IsToldOf history h) same (arc, told)
+    subst (λ h. IsOnRing h.arc × IsReportedOf history h) same (arc, told)
 
 at_is : (found : Option Holding) (holding : Holding) (p : ℕ) → found ≡ Some holding → HoldsAt found p → holds holding.arc p ≡ true
 at_is found holding p is h =

@@ -21,7 +21,7 @@ use Rattle.sc_machine_table.specs.Definitions.{Group, applied, done, served_by_n
 use Rattle.sc_base.specs.Definitions.{Among, Each}
 use Rattle.sc_paxos_words.proofs.Lemmas.{Each-among}
 use Rattle.sc_paxos_law.proofs.Lemmas.{Among-left, Among-right, Among-either}
-use Rattle.sc_law_entries.specs.history.Definitions.{HoldsNothing, IsNoted, IsReplied, IsDone, LeavesWhole, LogsTellHistories}
+use Rattle.sc_law_entries.specs.history.Definitions.{HoldsNothing, IsNoted, IsReplied, IsDone, LeavesWhole, LogsMakeHistories}
 use Rattle.sc_machine_table.proofs.Lemmas.{done_push}
 use Rattle.sc_law_entries.proofs.HistoryProofs.Logs.{ordered_either}
 use Rattle.sc_law_entries.proofs.HistoryProofs.Kept.{IsApart, all_pairs, apart_push, apart_right}
@@ -183,12 +183,12 @@ one_more entries group (Leave node order) keeps told =
 one_more entries group Noop keeps told = idle entries group told
 one_more entries group _ keeps told = absurd keeps
 
-told_on : (entries : List Entry) (group : Group) (log : List Command) → Each LeavesWhole log → IsTold entries group → IsTold (entries ++ done_by group log) (state_after group log)
-told_on entries group [] keeps told = idle entries group told
-told_on entries group (c ∷ log) keeps told =
+recorded_next : (entries : List Entry) (group : Group) (log : List Command) → Each LeavesWhole log → IsTold entries group → IsTold (entries ++ done_by group log) (state_after group log)
+recorded_next entries group [] keeps told = idle entries group told
+recorded_next entries group (c ∷ log) keeps told =
     let new = entry_of c (applied group c).1 in
     subst (λ es. IsTold es (state_after group (c ∷ log))) (append_assoc entries new (done_by (applied group c).0 log))
-    (told_on (entries ++ new) (applied group c).0 log keeps.1 (one_more entries group c keeps.0 told))
+    (recorded_next (entries ++ new) (applied group c).0 log keeps.1 (one_more entries group c keeps.0 told))
 
 at_start : (group : Group) → HoldsNothing group → IsTold [] group
 at_start group none = record {
@@ -274,9 +274,9 @@ one_place group (c ∷ log) a (suc place) (suc other) client seq d f =
     (record { op = d.op; reply = d.reply; call = d.call; effect = d.effect }) (record { op = f.op; reply = f.reply; call = f.call; effect = f.effect }))
 
 -- each log of calls, joins and leaves makes a history
-pub log_tells : LogsTellHistories
-log_tells group none log keeps =
-    let told = told_on [] group log keeps (at_start group none) in
+pub log_makes_history : LogsMakeHistories
+log_makes_history group none log keeps =
+    let told = recorded_next [] group log keeps (at_start group none) in
     record {
       tells = record { legal = record { replay = told.replay; once = all_pairs (done_by group log) told.apart }; pairs = told.pairs; noted = told.noted; latest = told.latest };
       calls = calls_of group log;

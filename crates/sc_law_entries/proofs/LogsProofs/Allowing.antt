@@ -9,32 +9,32 @@ use Rattle.sc_log_entries.specs.Definitions.{StoreWorld, first_world, named_grou
 use Rattle.sc_log_entries.proofs.Lemmas.{world_append, draw_cases}
 use Rattle.sc_law_entries.specs.history.Definitions.{log_in}
 use Rattle.sc_law_entries.proofs.HistoryProofs.Lemmas.{heads, logs_make_states, other_first, own_first, parts_at}
-use Rattle.sc_law_entries.specs.ring.Definitions.{Sources, IsAllowed, AreAllowed, ToldWorld, first_told, stories_told, told_on, told_after, BeginInPlace, stories_of, stories_after}
+use Rattle.sc_law_entries.specs.ring.Definitions.{Sources, IsAllowed, AreAllowed, StoryWorld, first_recorded, recorded_stories, recorded_next, recorded_after, BeginInPlace, stories_of, stories_after}
 use Rattle.sc_law_entries.proofs.RingProofs.Lemmas.{allowed_entries_stay_allowed, entries_keep_the_promises, store_after}
 use Rattle.sc_sound.specs.Definitions.{entries_by_rows, entries_at}
-use Rattle.sc_law_entries.specs.logs.Definitions.{MakesAllowed, AllowedStaysAllowed, FrontsAllow, StatesAllow}
-use Rattle.sc_law_entries.proofs.LogsProofs.Births.{told_append}
+use Rattle.sc_law_entries.specs.logs.Definitions.{MakesAllowed, AllowedStaysAllowed, PrefixesAllow, StatesAllow}
+use Rattle.sc_law_entries.proofs.LogsProofs.Births.{recorded_append}
 use Rattle.sc_law_entries.proofs.LogsProofs.Generations.{group_found}
 use Rattle.sc_law_entries.proofs.LogsProofs.Parts.{entries_parts}
-use Rattle.sc_law_entries.proofs.LogsProofs.Findings.{told_rows}
+use Rattle.sc_law_entries.proofs.LogsProofs.Findings.{deciding_rows}
 
 -- entries that are allowed one after another, in two parts
-pub allowed_parts : (sources : Sources) (w : ToldWorld) (entries more : List LogEntry) → AreAllowed sources w (entries ++ more) → AreAllowed sources w entries × AreAllowed sources (told_after w entries) more
+pub allowed_parts : (sources : Sources) (w : StoryWorld) (entries more : List LogEntry) → AreAllowed sources w (entries ++ more) → AreAllowed sources w entries × AreAllowed sources (recorded_after w entries) more
 allowed_parts sources w [] more a = (tt, a)
-allowed_parts sources w (e ∷ entries) more a = let (first, rest) = allowed_parts sources (told_on w e) entries more a.1 in ((a.0, first), rest)
+allowed_parts sources w (e ∷ entries) more a = let (first, rest) = allowed_parts sources (recorded_next w e) entries more a.1 in ((a.0, first), rest)
 
 -- with more entries
-stays : (sources : Sources) (bases : List Base) → BeginInPlace sources bases → (entries more : List LogEntry) → AreAllowed sources (first_told bases) (entries ++ more)
+stays : (sources : Sources) (bases : List Base) → BeginInPlace sources bases → (entries more : List LogEntry) → AreAllowed sources (first_recorded bases) (entries ++ more)
     → (name : Draw) (command : Command) → IsAllowed sources (stories_of bases entries) name command → IsAllowed sources (stories_of bases (entries ++ more)) name command
 stays sources bases start entries more allowed name command a =
-    let (first, rest) = allowed_parts sources (first_told bases) entries more allowed in
-    subst (λ (w : ToldWorld). IsAllowed sources w.stories name command) (sym (told_append (first_told bases) entries more))
+    let (first, rest) = allowed_parts sources (first_recorded bases) entries more allowed in
+    subst (λ (w : StoryWorld). IsAllowed sources w.stories name command) (sym (recorded_append (first_recorded bases) entries more))
     (allowed_entries_stay_allowed sources bases entries more start first rest name command a)
 
 pub allowed_stays_allowed : AllowedStaysAllowed
 allowed_stays_allowed sources ahead bases start rows more h name command a =
     let whole = entries_parts ahead bases [] rows more in
-    let allowed = subst (AreAllowed sources (first_told bases)) whole (told_rows sources ahead bases start (rows ++ more) h).allowed in
+    let allowed = subst (AreAllowed sources (first_recorded bases)) whole (deciding_rows sources ahead bases start (rows ++ more) h).allowed in
     subst (λ es. IsAllowed sources (stories_of bases es) name command) (sym whole) (stays sources bases start (entries_at ahead bases rows) (entries_by_rows ahead bases rows more) allowed name command a)
 
 -- ---- an entry of a log among the entries
@@ -98,28 +98,28 @@ find_entry name (x ∷ entries) (c ∷ front) command later e = elim (draw_cases
 
 module _ (sources : Sources) (bases : List Base) (start : BeginInPlace sources bases) (before : List LogEntry) (entry : LogEntry) (group : Group)
     (there : named_group entry.group (world_of bases before).groups ≡ Some group) (name : Draw) (command : Command) (makes : MakesAllowed sources entry.group group entry.command name command) where
-  abbrev w : ToldWorld
-  w = told_after (first_told bases) before
+  abbrev w : StoryWorld
+  w = recorded_after (first_recorded bases) before
 
-  after_is : (told_on w entry).stories ≡ stories_after group entry.command (applied group entry.command).1 w.stories
-  after_is = ap (λ o. stories_told w.stories o entry.command) (ap (λ (x : StoreWorld). named_group entry.group x.groups) (store_after (first_told bases) before) ∙ there)
+  after_is : (recorded_next w entry).stories ≡ stories_after group entry.command (applied group entry.command).1 w.stories
+  after_is = ap (λ o. recorded_stories w.stories o entry.command) (ap (λ (x : StoreWorld). named_group entry.group x.groups) (store_after (first_recorded bases) before) ∙ there)
 
-  allowed_after : AreAllowed sources (first_told bases) before → IsAllowed sources w.stories entry.group entry.command → IsAllowed sources (stories_of bases (before ++ entry ∷ [])) name command
+  allowed_after : AreAllowed sources (first_recorded bases) before → IsAllowed sources w.stories entry.group entry.command → IsAllowed sources (stories_of bases (before ++ entry ∷ [])) name command
   allowed_after allowed may =
-      subst (λ (x : ToldWorld). IsAllowed sources x.stories name command) (sym (told_append (first_told bases) before (entry ∷ [])))
+      subst (λ (x : StoryWorld). IsAllowed sources x.stories name command) (sym (recorded_append (first_recorded bases) before (entry ∷ [])))
       (subst (λ ys. IsAllowed sources ys name command) (sym after_is)
       (makes (λ n. named_group n (world_of bases before).groups) w.stories (entries_keep_the_promises sources bases before start allowed) there may))
 
-  pub allows : (more : List LogEntry) → AreAllowed sources (first_told bases) (before ++ entry ∷ more) → IsAllowed sources (stories_of bases (before ++ entry ∷ more)) name command
+  pub allows : (more : List LogEntry) → AreAllowed sources (first_recorded bases) (before ++ entry ∷ more) → IsAllowed sources (stories_of bases (before ++ entry ∷ more)) name command
   allows more allowed =
-      let (first, rest) = allowed_parts sources (first_told bases) before (entry ∷ more) allowed in
+      let (first, rest) = allowed_parts sources (first_recorded bases) before (entry ∷ more) allowed in
       let again : (before ++ entry ∷ []) ++ more ≡ before ++ entry ∷ more = append_assoc before (entry ∷ []) more in
       subst (λ es. IsAllowed sources (stories_of bases es) name command) again
-      (stays sources bases start (before ++ entry ∷ []) more (subst (AreAllowed sources (first_told bases)) (sym again) allowed) name command (allowed_after first rest.0))
+      (stays sources bases start (before ++ entry ∷ []) more (subst (AreAllowed sources (first_recorded bases)) (sym again) allowed) name command (allowed_after first rest.0))
 
-pub fronts_allow : FrontsAllow
-fronts_allow sources ahead bases start rows h base a front entry later is name command makes =
-    let k = told_rows sources ahead bases start rows h in
+pub prefixes_allow : PrefixesAllow
+prefixes_allow sources ahead bases start rows h base a front entry later is name command makes =
+    let k = deciding_rows sources ahead bases start rows h in
     let b = k.born base (group_found ahead bases rows base a) in
     let at = find_entry base.core.id b.rest front entry later (b.log_is ∙ is) in
     let before = b.first ++ at.first in
@@ -131,13 +131,13 @@ fronts_allow sources ahead bases start rows h base a front entry later is name c
     subst (λ es. IsAllowed sources (stories_of bases es) name command) (sym whole)
     (allows sources bases start before at.entry group (ap (λ n. named_group n (world_of bases before).groups) at.its ∙ there) name command
     (subst (λ n. MakesAllowed sources n group at.entry.command name command) (sym at.its) (subst (λ c. MakesAllowed sources base.core.id group c name command) (sym at.is) makes))
-    at.more (subst (AreAllowed sources (first_told bases)) whole k.allowed))
+    at.more (subst (AreAllowed sources (first_recorded bases)) whole k.allowed))
 
 -- ---- what a group makes allowed as it stands
 
 pub states_allow : StatesAllow
 states_allow sources ahead bases start rows h base a front later is name command stands =
-    let k = told_rows sources ahead bases start rows h in
+    let k = deciding_rows sources ahead bases start rows h in
     let b = k.born base (group_found ahead bases rows base a) in
     let at = parts_at base.core.id b.rest front later (b.log_is ∙ is) in
     let before = b.first ++ at.first in
@@ -146,7 +146,7 @@ states_allow sources ahead bases start rows h base a front later is name command
     let there : named_group base.core.id (world_of bases before).groups ≡ Some group =
     ap (λ (w : StoreWorld). named_group base.core.id w.groups) (world_append (first_world bases) b.first at.first)
     ∙ logs_make_states (world_of bases b.first) base.core.id (group_of base) b.there at.first ∙ ap (λ cs. Some (state_after (group_of base) cs)) at.log in
-    let allowed = subst (AreAllowed sources (first_told bases)) whole k.allowed in
-    let facts = entries_keep_the_promises sources bases before start (allowed_parts sources (first_told bases) before at.rest allowed).0 in
+    let allowed = subst (AreAllowed sources (first_recorded bases)) whole k.allowed in
+    let facts = entries_keep_the_promises sources bases before start (allowed_parts sources (first_recorded bases) before at.rest allowed).0 in
     subst (λ es. IsAllowed sources (stories_of bases es) name command) (sym whole)
     (stays sources bases start before at.rest allowed name command (stands (λ n. named_group n (world_of bases before).groups) (stories_of bases before) facts there))

@@ -57,8 +57,8 @@ by_giving (Watching t watch) group tx outcome e = absurd (no_decision tx outcome
 by_giving (Coordinating t body order heard) group tx outcome e = by_name t tx body order heard group (aborted group tx) outcome e
 
 -- a story that goes on
-told_on_is : (stories : Stories) (tx : Draw) (change : Story → Story) (story : Story) → stories tx ≡ Some story → retold stories tx change tx ≡ Some (change story)
-told_on_is stories tx change story is = at-same stories tx (option_map change (stories tx)) ∙ ap (option_map change) is
+recorded_next_is : (stories : Stories) (tx : Draw) (change : Story → Story) (story : Story) → stories tx ≡ Some story → retold stories tx change tx ≡ Some (change story)
+recorded_next_is stories tx change story is = at-same stories tx (option_map change (stories tx)) ∙ ap (option_map change) is
 
 module _ (sources : Sources) (by : Draw) (group : Group) where
   module _ (groups : Groups) (stories : Stories) (facts : Facts sources.owner groups stories) (is : groups by ≡ Some group) where
@@ -73,7 +73,7 @@ module _ (sources : Sources) (by : Draw) (group : Group) where
         → Coordinates group.core.lock tx → (story : Story) × (retold stories tx (change effect) tx ≡ Some story) × (story.outcome ≡ Some outcome)
     ended tx change effect outcome e ends (body, order, heard, lock) =
         let own = coordinator tx body order heard lock in
-        (change effect own.story, told_on_is stories tx (change effect) own.story own.is, ap (λ x. (change x own.story).outcome) e ∙ ends own.story)
+        (change effect own.story, recorded_next_is stories tx (change effect) own.story own.is, ap (λ x. (change x own.story).outcome) e ∙ ends own.story)
 
   ends_by_vote : (tx : Draw) (vote : Vote) (node : ℕ) → EndsBy sources by group tx (RecordVote tx vote node)
   ends_by_vote tx vote node outcome e name groups stories facts is may =
@@ -101,7 +101,7 @@ module _ (sources : Sources) (by : Draw) (group : Group) where
     watches = λ tx watch e name node groups stories facts is may. (
         let effect = (applied group (Watched tx watch)).1 in
         let change = λ (x : Effect). with_watch_vote (watch_vote_in x) in
-        (change effect may.0, told_on_is stories tx (change effect) may.0 may.1, ap (λ x. (change x may.0).watch_vote) e));
+        (change effect may.0, recorded_next_is stories tx (change effect) may.0 may.1, ap (λ x. (change x may.0).watch_vote) e));
     votes = ends_by_vote;
     watch_votes = ends_by_watch;
     gives_up = ends_by_giving;

@@ -12,7 +12,7 @@ use Rattle.sc_log_entries.specs.Definitions.{birth_of, division_of, StoreWorld, 
 use Rattle.sc_log_entries.specs.declared.Division.{Division}
 use Rattle.sc_log_entries.specs.declared.LogEntry.{LogEntry}
 use Rattle.sc_law_entries.proofs.HistoryProofs.Lemmas.{logs_make_states, applied_same}
-use Rattle.sc_law_entries.specs.ring.Definitions.{Sources, IsAllowed, AreAllowed, ToldWorld, told_on, told_after, put, Groups}
+use Rattle.sc_law_entries.specs.ring.Definitions.{Sources, IsAllowed, AreAllowed, StoryWorld, recorded_next, recorded_after, put, Groups}
 use Rattle.sc_law_entries.proofs.RingProofs.Lemmas.{at-same, at-other, arcs_in, groups_in, with_child, groups_are, KeptWorld, kept_on, fits, some_none}
 use Rattle.sc_log_entries.proofs.Lemmas.{draw_cases, found_name}
 use Rattle.sc_sound.specs.Definitions.{children_of, entries_from}
@@ -20,9 +20,9 @@ use Rattle.sc_law_entries.proofs.LogsProofs.Children.{log_of_own}
 use Rattle.std.proofs.lemmas.Option.{none-some, same_Some}
 
 -- more entries are applied to the world before them
-pub told_append : (w : ToldWorld) (entries more : List LogEntry) → told_after w (entries ++ more) ≡ told_after (told_after w entries) more
-told_append w [] more = refl
-told_append w (e ∷ es) more = told_append (told_on w e) es more
+pub recorded_append : (w : StoryWorld) (entries more : List LogEntry) → recorded_after w (entries ++ more) ≡ recorded_after (recorded_after w entries) more
+recorded_append w [] more = refl
+recorded_append w (e ∷ es) more = recorded_append (recorded_next w e) es more
 
 -- a group that there is stays
 pub stays_there : (world : StoreWorld) (name : Draw) (group : Group) → named_group name world.groups ≡ Some group → (entries : List LogEntry) → (later : Group) × (named_group name (world_after world entries).groups ≡ Some later)
@@ -73,7 +73,7 @@ pub record BornBy (name : Draw) (world : StoreWorld) (slot : ℕ) (group : Group
 
 module _ (sources : Sources) (name : Draw) where
   -- one entry of a group, and more after it
-  module _ (w : ToldWorld) (kept : KeptWorld sources.owner w) (group : Group) (found : named_group name w.store.groups ≡ Some group) (slot : ℕ) (c : Command) (allowed : IsAllowed sources w.stories name c) where
+  module _ (w : StoryWorld) (kept : KeptWorld sources.owner w) (group : Group) (found : named_group name w.store.groups ≡ Some group) (slot : ℕ) (c : Command) (allowed : IsAllowed sources w.stories name c) where
     abbrev entry : LogEntry
     entry = record { group = name; slot = slot; command = c }
 
@@ -186,7 +186,7 @@ module _ (sources : Sources) (name : Draw) where
       }
 
   -- all entries
-  pub born_by : (w : ToldWorld) → KeptWorld sources.owner w → (group : Group) → named_group name w.store.groups ≡ Some group → (slot : ℕ) (cs : List Command) → AreAllowed sources w (entries_from name slot cs) → BornBy name w.store slot group cs
+  pub born_by : (w : StoryWorld) → KeptWorld sources.owner w → (group : Group) → named_group name w.store.groups ≡ Some group → (slot : ℕ) (cs : List Command) → AreAllowed sources w (entries_from name slot cs) → BornBy name w.store slot group cs
   born_by w kept group found slot [] allowed = record {
     unborn = λ child a. absurd a;
     one = λ child other a b same. absurd a;
@@ -197,4 +197,4 @@ module _ (sources : Sources) (name : Draw) where
   born_by w kept group found slot (c ∷ cs) allowed =
       let e : LogEntry = record { group = name; slot = slot; command = c } in
       push_born_by w kept group found slot c allowed.0 cs
-      (born_by (told_on w e) (kept_on sources w e kept allowed.0) (applied group c).0 (own_there w kept group found slot c allowed.0) (slot + 1) cs allowed.1)
+      (born_by (recorded_next w e) (kept_on sources w e kept allowed.0) (applied group c).0 (own_there w kept group found slot c allowed.0) (slot + 1) cs allowed.1)

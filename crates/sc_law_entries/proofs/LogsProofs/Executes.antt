@@ -27,11 +27,11 @@ use Rattle.sc_machine_table.specs.Definitions.{Group, can_gain, gained_group, se
 use Rattle.sc_log_entries.specs.declared.LogEntry.{LogEntry}
 use Rattle.sc_log_entries.specs.declared.Transaction.{Transaction}
 use Rattle.sc_log_entries.specs.Definitions.{decision, transaction_in, after_outcome, is_commit, arc_in, is_named, named_group}
-use Rattle.sc_law_entries.specs.ring.Definitions.{Sources, IsVoteCast, IsAllowed, AreAllowed, ToldWorld, told_on, Story, Stories, unsigned, offer_for, offer_with, Groups, has_born, has_decided, IsCoordinating, LockOk}
+use Rattle.sc_law_entries.specs.ring.Definitions.{Sources, IsVoteCast, IsAllowed, AreAllowed, StoryWorld, recorded_next, Story, Stories, unsigned, offer_for, offer_with, Groups, has_born, has_decided, IsCoordinating, LockOk}
 use Rattle.sc_law_entries.proofs.RingProofs.Lemmas.{IsDeciding, own_is, mine_old, part_eff, promise_settled, apart_of, arcs_in, arc_of_cut, decisions, outcome_of, living, eff, arc_of, succ_of, view_of, Old, eff_by, eff_free, living_is, own_story, group_none, room_of, IsPair, pair_meets, Ends, unheard, sound_world, lock_free, watch_settled, groups_in, brief, story_brief, decision_is, KeptWorld, kept_on, some_none}
 use Rattle.sc_paxos_words.proofs.Lemmas.{find_found}
 use Rattle.sc_log_entries.proofs.Lemmas.{found_name}
-use Rattle.sc_law_entries.specs.history.Definitions.{HasCut, IsUncommitted, MayCall, MaySplit, IsItsOwn, IsParty, MayHear, MayHearWatcher, MayFinish, MayExecute, MayAllBeTold}
+use Rattle.sc_law_entries.specs.history.Definitions.{HasCut, IsUncommitted, MayCall, MaySplit, IsItsOwn, IsParty, MayHear, MayHearWatcher, MayFinish, MayExecute, AllMayBeApplied}
 use Rattle.std.proofs.lemmas.Option.{none-some, same_Some}
 
 -- what a lock that coordinates a transaction is
@@ -55,7 +55,7 @@ brief_some (Some t) b e = (t, refl, same_Some (brief t) b e)
 abort_false : (o : Outcome) → is_commit o ≡ true → o ≡ Abort → ⊥
 abort_false o c e = absurd (let f : true ≡ false = sym c ∙ ap is_commit e in cc)
 
-module _ (sources : Sources) (w : ToldWorld) (k : KeptWorld sources.owner w) (g : Draw) (s : Group) (is : named_group g w.store.groups ≡ Some s) where
+module _ (sources : Sources) (w : StoryWorld) (k : KeptWorld sources.owner w) (g : Draw) (s : Group) (is : named_group g w.store.groups ≡ Some s) where
   abbrev gs : Groups
   gs = groups_in w.store.groups
 
@@ -256,9 +256,9 @@ module _ (sources : Sources) (w : ToldWorld) (k : KeptWorld sources.owner w) (g 
   may_execute _ a = tt
 
 -- each allowed entry may be applied when its turn comes
-pub all_may_be_told : (sources : Sources) (w : ToldWorld) (entries : List LogEntry) → KeptWorld sources.owner w → AreAllowed sources w entries → MayAllBeTold sources.request w.store entries
-all_may_be_told sources w [] k a = tt
-all_may_be_told sources w (e ∷ es) k a = (
+pub all_may_be_applied : (sources : Sources) (w : StoryWorld) (entries : List LogEntry) → KeptWorld sources.owner w → AreAllowed sources w entries → AllMayBeApplied sources.request w.store entries
+all_may_be_applied sources w [] k a = tt
+all_may_be_applied sources w (e ∷ es) k a = (
   λ s is. may_execute sources w k e.group s is e.command a.0,
-  all_may_be_told sources (told_on w e) es (kept_on sources w e k a.0) a.1,
+  all_may_be_applied sources (recorded_next w e) es (kept_on sources w e k a.0) a.1,
 )

@@ -12,9 +12,9 @@ use Rattle.sc_machine_table.specs.Definitions.{group_of, state_after}
 use Rattle.sc_paxos_law.proofs.Lemmas.{Among-left}
 use Rattle.sc_log_entries.specs.Definitions.{named_group}
 use Rattle.sc_law_entries.specs.history.Definitions.{log_in, BeginBare}
-use Rattle.sc_law_entries.proofs.HistoryProofs.Lemmas.{fronts_answer}
+use Rattle.sc_law_entries.proofs.HistoryProofs.Lemmas.{prefixes_answer}
 use Rattle.sc_law_entries.specs.ring.Definitions.{Sources, BeginInPlace}
-use Rattle.sc_law_entries.specs.logs.Definitions.{AllowedEntriesMakeOneMap, Rows, IsFound, DecidesInTurn, DecideInTurn, AreFound, AreOldOrNew, AreItsLogs, TellOneMap, GroupsAreFound, GroupsAreOldOrNew, EntriesAreLogs, EntriesAreAllowed, EntriesTellOneMap}
+use Rattle.sc_law_entries.specs.logs.Definitions.{AllowedEntriesMakeOneMap, Rows, IsFound, DecidesInTurn, DecideInTurn, AreFound, AreOldOrNew, AreItsLogs, MakeOneMapWithNotes, GroupsAreFound, GroupsAreOldOrNew, EntriesAreLogs, EntriesAreAllowed, EntriesMakeOneMap}
 use Rattle.sc_law_entries.proofs.LogsProofs.OneGroup.{for_one}
 use Rattle.sc_law_entries.proofs.LogsProofs.Children.{children_append, log_append, log_of_others}
 use Rattle.sc_law_entries.proofs.LogsProofs.Generations.{FoundInTurn, group_found, found_group, known_by_name, no_birth_at, no_log_at, no_state_at, birth_found}
@@ -42,21 +42,21 @@ module _ (sources : Sources) (ahead : Ahead) (bases : List Base) (start : BeginI
   pub push_turn : (before : Rows) → Told sources ahead bases before → (row : Row Mail OrderLine) → DecidesInTurn sources ahead bases before row → Told sources ahead bases (before ++ row ∷ [])
   push_turn before k row turn = push_told sources ahead bases start before k row (found_turn before k row turn)
 
-  told_on : (before rows : Rows) → Told sources ahead bases before → DecideInTurn sources ahead bases before rows → Told sources ahead bases (before ++ rows)
-  told_on before [] k h = subst (Told sources ahead bases) (sym (append-nil before)) k
-  told_on before (row ∷ rows) k h =
+  recorded_next : (before rows : Rows) → Told sources ahead bases before → DecideInTurn sources ahead bases before rows → Told sources ahead bases (before ++ rows)
+  recorded_next before [] k h = subst (Told sources ahead bases) (sym (append-nil before)) k
+  recorded_next before (row ∷ rows) k h =
       subst (Told sources ahead bases) (append_assoc before (row ∷ []) rows)
-      (told_on (before ++ row ∷ []) rows (push_turn before k row h.0) h.1)
+      (recorded_next (before ++ row ∷ []) rows (push_turn before k row h.0) h.1)
 
-  pub told_rows : (rows : Rows) → DecideInTurn sources ahead bases [] rows → Told sources ahead bases rows
-  told_rows rows h = told_on [] rows (first_rows sources ahead bases start) h
+  pub deciding_rows : (rows : Rows) → DecideInTurn sources ahead bases [] rows → Told sources ahead bases rows
+  deciding_rows rows h = recorded_next [] rows (first_rows sources ahead bases start) h
 
   module _ (rows : Rows) (k : Told sources ahead bases rows) where
     pub are_found : AreFound ahead bases rows
     are_found = record {
       first = λ base a. found_group ahead bases rows k.one k.near base (0, a);
       closed = λ base a child c. (let (depth, there) = group_found ahead bases rows base a in found_group ahead bases rows k.one k.near child (suc depth, (base, there, c)));
-      fronts = λ base a front later is child c. (
+      prefixes = λ base a front later is child c. (
           let (depth, there) = group_found ahead bases rows base a in
           let all = ap (children_of (group_of base)) is ∙ children_append (group_of base) front later in
           found_group ahead bases rows k.one k.near child
@@ -93,7 +93,7 @@ module _ (sources : Sources) (ahead : Ahead) (bases : List Base) (start : BeginI
     pub are_logs : AreItsLogs ahead bases rows
     are_logs = record { logs = λ name. log_of name (birth_at ahead bases rows name) refl; states = λ name. state_of name (birth_at ahead bases rows name) refl }
 
-    pub one_map : AllowedEntriesMakeOneMap → BeginBare bases → TellOneMap ahead bases rows
+    pub one_map : AllowedEntriesMakeOneMap → BeginBare bases → MakeOneMapWithNotes ahead bases rows
     one_map law bare =
         let entries = entries_at ahead bases rows in
         let m = law sources bases entries start bare k.allowed in
@@ -107,7 +107,7 @@ module _ (sources : Sources) (ahead : Ahead) (bases : List Base) (start : BeginI
           };
           notes = λ base a front later is. (
               let b = k.born base (group_found ahead bases rows base a) in
-              fronts_answer bases entries m.notes b.first b.rest b.are base.core.id (group_of base) b.there front later (b.log_is ∙ is));
+              prefixes_answer bases entries m.notes b.first b.rest b.are base.core.id (group_of base) b.there front later (b.log_is ∙ is));
         }
 
     pub old_or_newborn : (row : Row Mail OrderLine) → DecidesInTurn sources ahead bases rows row → AreOldOrNew ahead bases rows row
@@ -125,16 +125,16 @@ module _ (sources : Sources) (ahead : Ahead) (bases : List Base) (start : BeginI
 -- ---- the laws
 
 pub groups_are_found : GroupsAreFound
-groups_are_found sources ahead bases start rows h = are_found sources ahead bases start rows (told_rows sources ahead bases start rows h)
+groups_are_found sources ahead bases start rows h = are_found sources ahead bases start rows (deciding_rows sources ahead bases start rows h)
 
 pub groups_are_old_or_new : GroupsAreOldOrNew
-groups_are_old_or_new sources ahead bases start before h row turn = old_or_newborn sources ahead bases start before (told_rows sources ahead bases start before h) row turn
+groups_are_old_or_new sources ahead bases start before h row turn = old_or_newborn sources ahead bases start before (deciding_rows sources ahead bases start before h) row turn
 
 pub entries_are_logs : EntriesAreLogs
-entries_are_logs sources ahead bases start rows h = are_logs sources ahead bases start rows (told_rows sources ahead bases start rows h)
+entries_are_logs sources ahead bases start rows h = are_logs sources ahead bases start rows (deciding_rows sources ahead bases start rows h)
 
 pub entries_are_allowed : EntriesAreAllowed
-entries_are_allowed sources ahead bases start rows h = (told_rows sources ahead bases start rows h).allowed
+entries_are_allowed sources ahead bases start rows h = (deciding_rows sources ahead bases start rows h).allowed
 
-pub entries_tell_one_map : AllowedEntriesMakeOneMap → EntriesTellOneMap
-entries_tell_one_map law sources ahead bases start bare rows h = one_map sources ahead bases start rows (told_rows sources ahead bases start rows h) law bare
+pub entries_make_one_map : AllowedEntriesMakeOneMap → EntriesMakeOneMap
+entries_make_one_map law sources ahead bases start bare rows h = one_map sources ahead bases start rows (deciding_rows sources ahead bases start rows h) law bare

@@ -13,12 +13,12 @@ use Rattle.sc_ideal.specs.declared.Entry.{Entry}
 use Rattle.sc_sound.specs.Definitions.{Ahead, groups_at, entries_by_rows, history_at, decided_log, Continues, told_from}
 use Rattle.sc_log_entries.specs.Definitions.{StoreWorld}
 use Rattle.sc_law_entries.specs.ring.Definitions.{Sources, BeginInPlace}
-use Rattle.sc_law_entries.specs.logs.Definitions.{Rows, IsFound, added_by, DecidesInTurn, DecideInTurn, HistoryIsTold, ToldRowsStay}
+use Rattle.sc_law_entries.specs.logs.Definitions.{Rows, IsFound, added_by, DecidesInTurn, DecideInTurn, HistoryIsDecided, DecidingRowsStay}
 use Rattle.sc_law_entries.proofs.LogsProofs.Generations.{log_on, still_descends, group_found, found_group, known_by_name}
 use Rattle.sc_law_entries.proofs.LogsProofs.Told.{Told, first_rows, Decides}
 use Rattle.sc_law_entries.proofs.LogsProofs.Pushes.{d, world_next}
 use Rattle.sc_law_entries.proofs.LogsProofs.Parts.{in_turn_parts, entries_parts, told_stays, get_front, get_behind}
-use Rattle.sc_law_entries.proofs.LogsProofs.Findings.{found_turn, push_turn, told_rows}
+use Rattle.sc_law_entries.proofs.LogsProofs.Findings.{found_turn, push_turn, deciding_rows}
 
 -- ---- with more rows
 
@@ -131,8 +131,8 @@ module _ (sources : Sources) (ahead : Ahead) (bases : List Base) (start : BeginI
 
 -- ---- the laws
 
-pub history_is_told : HistoryIsTold
-history_is_told sources ahead bases start rows h place entry at =
+pub history_is_decided : HistoryIsDecided
+history_is_decided sources ahead bases start rows h place entry at =
     let t = told_place sources ahead bases start [] rows (first_rows sources ahead bases start) h place entry (omega arith) at in
     record {
       before = t.front;
@@ -147,11 +147,11 @@ history_is_told sources ahead bases start rows h place entry at =
       call = t.call;
     }
 
-pub told_rows_stay : ToldRowsStay
-told_rows_stay sources ahead bases start rows more h =
+pub deciding_rows_stay : DecidingRowsStay
+deciding_rows_stay sources ahead bases start rows more h =
     let (first, rest) = in_turn_parts sources ahead bases [] rows more h in
-    let k = told_rows sources ahead bases start rows first in
-    let now = told_rows sources ahead bases start (rows ++ more) h in
+    let k = deciding_rows sources ahead bases start rows first in
+    let now = deciding_rows sources ahead bases start (rows ++ more) h in
     record {
       groups = λ base a. found_group ahead bases (rows ++ more) now.one now.near base (found_later sources ahead bases start rows more k rest base (group_found ahead bases rows base a));
       logs = λ base a. (

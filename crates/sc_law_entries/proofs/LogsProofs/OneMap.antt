@@ -2,17 +2,17 @@
 use Rattle.std.proofs.Common.{sym, ◌∙◌, ap}
 use Rattle.std.proofs.lemmas.Option.{same_Some}
 use Rattle.sc_machine_table.specs.Definitions.{Group}
-use Rattle.sc_law_entries.specs.ring.Definitions.{first_told}
+use Rattle.sc_law_entries.specs.ring.Definitions.{first_recorded}
 use Rattle.sc_law_entries.proofs.RingProofs.Lemmas.{entries_keep_the_ring, at_start}
-use Rattle.sc_law_entries.specs.history.Definitions.{EntriesThatMayBeToldTell}
-use Rattle.sc_law_entries.proofs.HistoryProofs.Lemmas.{entries_tell}
+use Rattle.sc_law_entries.specs.history.Definitions.{AppliedEntriesMakeHistory}
+use Rattle.sc_law_entries.proofs.HistoryProofs.Lemmas.{entries_report}
 use Rattle.sc_law_entries.specs.logs.Definitions.{AllowedEntriesMakeOneMap}
-use Rattle.sc_law_entries.proofs.LogsProofs.Executes.{all_may_be_told}
+use Rattle.sc_law_entries.proofs.LogsProofs.Executes.{all_may_be_applied}
 
-pub one_map : EntriesThatMayBeToldTell → AllowedEntriesMakeOneMap
+pub one_map : AppliedEntriesMakeHistory → AllowedEntriesMakeOneMap
 one_map telling sources bases entries start bare allowed =
     let ring = entries_keep_the_ring sources bases entries start allowed in
-    let told = telling sources.request bases bare entries (all_may_be_told sources (first_told bases) entries (at_start sources bases start) allowed) in
+    let told = telling sources.request bases bare entries (all_may_be_applied sources (first_recorded bases) entries (at_start sources bases start) allowed) in
     record {
       ring = ring;
       legal = told.told.legal;
@@ -21,4 +21,4 @@ one_map telling sources bases entries start bare allowed =
     }
 
 pub allowed_entries_make_one_map : AllowedEntriesMakeOneMap
-allowed_entries_make_one_map = one_map entries_tell
+allowed_entries_make_one_map = one_map entries_report

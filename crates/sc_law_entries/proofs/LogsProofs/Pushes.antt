@@ -14,7 +14,7 @@ use Rattle.sc_log_entries.specs.declared.LogEntry.{LogEntry}
 use Rattle.sc_log_entries.specs.Definitions.{StoreWorld, first_world, named_group, world_after}
 use Rattle.sc_log_entries.proofs.Lemmas.{world_append, draw_cases}
 use Rattle.sc_law_entries.specs.history.Definitions.{log_in}
-use Rattle.sc_law_entries.specs.ring.Definitions.{Sources, AreAllowed, first_told, BeginInPlace}
+use Rattle.sc_law_entries.specs.ring.Definitions.{Sources, AreAllowed, first_recorded, BeginInPlace}
 use Rattle.sc_law_entries.proofs.RingProofs.Lemmas.{allowed_lists_append, some_none}
 use Rattle.sc_sound.proofs.Lemmas.{entries-push, world-push}
 use Rattle.sc_law_entries.specs.logs.Definitions.{Rows, IsFound, added_by}
@@ -129,8 +129,8 @@ module _ (sources : Sources) (ahead : Ahead) (bases : List Base) (start : BeginI
   pub world_next : world_at ahead bases next ≡ world_after world new
   world_next = world-push ahead bases before row ∙ ap (world_after world) row_decides
 
-  allowed_next : AreAllowed sources (first_told bases) (entries_at ahead bases next)
-  allowed_next = subst (AreAllowed sources (first_told bases)) (sym entries_next) (allowed_lists_append sources (first_told bases) old new k.allowed d.allowed)
+  allowed_next : AreAllowed sources (first_recorded bases) (entries_at ahead bases next)
+  allowed_next = subst (AreAllowed sources (first_recorded bases)) (sym entries_next) (allowed_lists_append sources (first_recorded bases) old new k.allowed d.allowed)
 
   -- ---- whose entries they are
 

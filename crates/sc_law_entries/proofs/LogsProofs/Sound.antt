@@ -20,16 +20,16 @@ use Rattle.sc_sound.specs.Definitions.{Ahead, entries_at, history_at, IsRequest,
 use Rattle.sc_scenario.specs.declared.scenarios.Scenario.{Scenario}
 use Rattle.sc_law_entries.specs.history.Definitions.{BeginBare}
 use Rattle.sc_log_entries.specs.Definitions.{CoverThroughout}
-use Rattle.sc_law_entries.specs.ring.Definitions.{Sources, AreAllowed, first_told, BeginInPlace}
+use Rattle.sc_law_entries.specs.ring.Definitions.{Sources, AreAllowed, first_recorded, BeginInPlace}
 use Rattle.sc_law_entries.proofs.RingProofs.Lemmas.{entries_keep_the_ring}
 use Rattle.sc_law_entries.proofs.LogsProofs.Allowing.{allowed_parts}
-use Rattle.sc_law_entries.specs.logs.Definitions.{AllowedEntriesMakeOneMap, Rows, DecideInTurn, TellOneMap, IsToldAt, StayAsTold, IsIssuedIn, IsDecidedBefore, HoldsBeside, JournalsInTurnAreSound}
+use Rattle.sc_law_entries.specs.logs.Definitions.{AllowedEntriesMakeOneMap, Rows, DecideInTurn, MakeOneMapWithNotes, IsDecidedAt, StayRecorded, IsIssuedIn, IsDecidedBefore, HoldsBeside, JournalsInTurnAreSound}
 use Rattle.sc_law_entries.proofs.LogsProofs.Children.{state_append}
 use Rattle.sc_law_entries.proofs.LogsProofs.Parts.{in_turn_parts}
-use Rattle.sc_law_entries.proofs.LogsProofs.Findings.{entries_tell_one_map, entries_are_logs, entries_are_allowed}
-use Rattle.sc_law_entries.proofs.LogsProofs.Histories.{history_is_told, told_rows_stay}
+use Rattle.sc_law_entries.proofs.LogsProofs.Findings.{entries_make_one_map, entries_are_logs, entries_are_allowed}
+use Rattle.sc_law_entries.proofs.LogsProofs.Histories.{history_is_decided, deciding_rows_stay}
 use Rattle.sc_law_entries.proofs.LogsProofs.Notes.{replied_noted}
-use Rattle.sc_law_entries.proofs.LogsProofs.Times.{among_place, one_place, told_in_order, issue_within, issue_stays}
+use Rattle.sc_law_entries.proofs.LogsProofs.Times.{among_place, one_place, decided_in_order, issue_within, issue_stays}
 
 module _ (law : AllowedEntriesMakeOneMap) (sources : Sources) (ahead : Ahead) (scenario : Scenario) (start : BeginInPlace sources scenario.groups) (bare : BeginBare scenario.groups) (rows more : Rows)
     (all : DecideInTurn sources ahead scenario.groups [] (rows ++ more)) (beside : HoldsBeside ahead scenario rows) where
@@ -42,24 +42,24 @@ module _ (law : AllowedEntriesMakeOneMap) (sources : Sources) (ahead : Ahead) (s
   abbrev told : List Entry
   told = history_at ahead bases rows
 
-  map : TellOneMap ahead bases rows
-  map = entries_tell_one_map law sources ahead bases start bare rows turn
+  map : MakeOneMapWithNotes ahead bases rows
+  map = entries_make_one_map law sources ahead bases start bare rows turn
 
-  stay : StayAsTold ahead bases rows more
-  stay = told_rows_stay sources ahead bases start rows more all
+  stay : StayRecorded ahead bases rows more
+  stay = deciding_rows_stay sources ahead bases start rows more all
 
   -- ---- prefixes
 
   first_part : (before : Rows) (row : Row Mail OrderLine) (later : Rows) → rows ≡ before ++ row ∷ later → DecideInTurn sources ahead bases [] before
   first_part before row later are = (in_turn_parts sources ahead bases [] before (row ∷ later) (subst (DecideInTurn sources ahead bases []) are turn)).0
 
-  part_stays : (before : Rows) (row : Row Mail OrderLine) (later : Rows) → rows ≡ before ++ row ∷ later → StayAsTold ahead bases before (row ∷ later)
-  part_stays before row later are = told_rows_stay sources ahead bases start before (row ∷ later) (subst (DecideInTurn sources ahead bases []) are turn)
+  part_stays : (before : Rows) (row : Row Mail OrderLine) (later : Rows) → rows ≡ before ++ row ∷ later → StayRecorded ahead bases before (row ∷ later)
+  part_stays before row later are = deciding_rows_stay sources ahead bases start before (row ∷ later) (subst (DecideInTurn sources ahead bases []) are turn)
 
   -- ---- requests
 
-  told_at : (place : ℕ) (entry : Entry) → slice_get told place ≡ Some entry → IsToldAt ahead bases rows place entry
-  told_at place entry at = history_is_told sources ahead bases start rows turn place entry at
+  told_at : (place : ℕ) (entry : Entry) → slice_get told place ≡ Some entry → IsDecidedAt ahead bases rows place entry
+  told_at place entry at = history_is_decided sources ahead bases start rows turn place entry at
 
   issued_at : (place : ℕ) (entry : Entry) (at : slice_get told place ≡ Some entry) → IsIssuedIn scenario (told_at place entry at).before entry.client entry.seq entry.op
   issued_at place entry at = let t = told_at place entry at in beside.issued t.before t.row t.later t.are t.base t.stands entry.client entry.seq entry.op t.call
@@ -82,7 +82,7 @@ module _ (law : AllowedEntriesMakeOneMap) (sources : Sources) (ahead : Ahead) (s
         let c = Call client seq d.op in
         let group = state_after (group_of d.base) d.front in
         let n = replied_noted group client seq d.op reply d.replied in
-        let map_then = entries_tell_one_map law sources ahead bases start bare d.before (first_part d.before d.row d.later d.are) in
+        let map_then = entries_make_one_map law sources ahead bases start bare d.before (first_part d.before d.row d.later d.are) in
         let found : get (state_after (group_of d.base) (d.front ++ c ∷ [])).clients client ≡ Some n.noted = ap (λ (g : Group). get g.clients client) (state_append (group_of d.base) d.front (c ∷ [])) ∙ n.found in
         let h = map_then.notes d.base d.stands (d.front ++ c ∷ []) d.rest (d.log ∙ sym (append_assoc d.front (c ∷ []) d.rest)) client n.noted found in
         record { entry = h.entry; stands = h.stands; client_is = h.client_is; seq_is = h.seq_is ∙ n.seq_is; reply_is = h.reply_is ∙ n.reply_is }
@@ -110,7 +110,7 @@ module _ (law : AllowedEntriesMakeOneMap) (sources : Sources) (ahead : Ahead) (s
         let (other, at_then) = among_place then h.entry h.stands in
         let at_now : slice_get told other ≡ Some h.entry = subst (λ es. slice_get es other ≡ Some h.entry) (sym goes_on) (get_left then s.history.0 other h.entry at_then) in
         let same = one_place told map.map.legal.once place other entry h.entry there at_now (who ∙ sym h.client_is) (number ∙ sym h.seq_is) in
-        let t = history_is_told sources ahead bases start d.before (first_part d.before d.row d.later d.are) other h.entry at_then in
+        let t = history_is_decided sources ahead bases start d.before (first_part d.before d.row d.later d.are) other h.entry at_then in
         let now : told_row ahead bases other rows ≡ Some (length t.before + 1) = ap (told_row ahead bases other) d.are ∙ s.told other (length t.before + 1) t.is_told in
         let both : Some at ≡ Some (length t.before + 1) = sym is_at ∙ ap (λ p. told_row ahead bases p rows) same ∙ now in
         let at_is : at ≡ length t.before + 1 = cc in
@@ -155,14 +155,14 @@ module _ (law : AllowedEntriesMakeOneMap) (sources : Sources) (ahead : Ahead) (s
       elim (cases_lt place other) [
         | inl lt ↦ lt
         | inr ge ↦ (
-            let order = told_in_order ahead bases other place (omega (arith, ge)) [] rows other_time.decided one_time.decided other_time.is_decided one_time.is_decided in
+            let order = decided_in_order ahead bases other place (omega (arith, ge)) [] rows other_time.decided one_time.decided other_time.is_decided one_time.is_decided in
             absurd (omega (arith, order, before, le, one_issue, after)))
       ]
 
   rings : CoverThroughout bases (entries_at ahead bases rows)
   rings before later are =
       let allowed = entries_are_allowed sources ahead bases start rows turn in
-      (entries_keep_the_ring sources bases before start (allowed_parts sources (first_told bases) before later (subst (AreAllowed sources (first_told bases)) are allowed)).0).covers
+      (entries_keep_the_ring sources bases before start (allowed_parts sources (first_recorded bases) before later (subst (AreAllowed sources (first_recorded bases)) are allowed)).0).covers
 
   pub sound_rows : IsSound ahead scenario rows more
   sound_rows = record {

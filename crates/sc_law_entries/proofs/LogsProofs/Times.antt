@@ -44,9 +44,9 @@ past_rows ahead bases place before (row ∷ rows) at e =
     (λ _ k. (let later = past_rows ahead bases place (before ++ row ∷ []) rows at k in let longer = length_push before row in omega (arith, later, longer))) e
 
 -- an earlier entry is decided no later
-pub told_in_order : (ahead : Ahead) (bases : List Base) (place other : ℕ) → place ≤ other → (before rows : Rows) (at then : ℕ) → told_from ahead bases place before rows ≡ Some at → told_from ahead bases other before rows ≡ Some then → at ≤ then
-told_in_order ahead bases place other le before [] at then first second = cc
-told_in_order ahead bases place other le before (row ∷ rows) at then first second =
+pub decided_in_order : (ahead : Ahead) (bases : List Base) (place other : ℕ) → place ≤ other → (before rows : Rows) (at then : ℕ) → told_from ahead bases place before rows ≡ Some at → told_from ahead bases other before rows ≡ Some then → at ≤ then
+decided_in_order ahead bases place other le before [] at then first second = cc
+decided_in_order ahead bases place other le before (row ∷ rows) at then first second =
     let told = history_at ahead bases (before ++ row ∷ []) in
     elim (cases_Bool (nat_lt place (length told))) [
       | inl t ↦ (
@@ -57,7 +57,7 @@ told_in_order ahead bases place other le before (row ∷ rows) at then first sec
       | inr f ↦ (
           let out = ltb-false place (length told) f in
           let later = le-ltb other (length told) (omega (arith, out, le)) in
-          told_in_order ahead bases place other le (before ++ row ∷ []) rows at then
+          decided_in_order ahead bases place other le (before ++ row ∷ []) rows at then
           (sym (cond-false (nat_lt place (length told)) (Some (length before + 1)) (told_from ahead bases place (before ++ row ∷ []) rows) f) ∙ first)
           (sym (cond-false (nat_lt other (length told)) (Some (length before + 1)) (told_from ahead bases other (before ++ row ∷ []) rows) later) ∙ second))
     ]

@@ -21,7 +21,7 @@ use Rattle.sc_law_entries.specs.history.Definitions.{log_in}
 use Rattle.sc_law_entries.proofs.HistoryProofs.Lemmas.{logs_make_states, calls_of}
 use Rattle.sc_paxos_law.proofs.Lemmas.{from_map}
 use Rattle.sc_law_entries.proofs.RingProofs.Lemmas.{store_after, Pairwise, map_among, some_none, at_start, KeptWorld, kept_after}
-use Rattle.sc_law_entries.specs.ring.Definitions.{Sources, IsAllowed, AreAllowed, ToldWorld, first_told, told_after, BeginInPlace}
+use Rattle.sc_law_entries.specs.ring.Definitions.{Sources, IsAllowed, AreAllowed, StoryWorld, first_recorded, recorded_after, BeginInPlace}
 use Rattle.sc_law_entries.specs.logs.Definitions.{Rows, Descends, IsFound, added_by, newborn_by}
 use Rattle.sc_law_entries.proofs.LogsProofs.Lists.{HaveTwoNames}
 use Rattle.sc_law_entries.proofs.LogsProofs.Generations.{FoundInTurn, AreOne, AreNear, IsNamedNow, known_by_name, birth_found}
@@ -43,7 +43,7 @@ pub record Told (sources : Sources) (ahead : Ahead) (bases : List Base) (rows : 
   pub near : AreNear ahead bases rows
   pub one : AreOne ahead bases rows
   -- the entries are allowed one after another
-  pub allowed : AreAllowed sources (first_told bases) (entries_at ahead bases rows)
+  pub allowed : AreAllowed sources (first_recorded bases) (entries_at ahead bases rows)
   -- each group is created among them
   pub born : (base : Base) → IsFound ahead bases rows base → IsBorn bases (entries_at ahead bases rows) base (decided_log ahead base rows)
   -- each entry is a group's, and no other group is there
@@ -109,11 +109,11 @@ module _ (sources : Sources) (ahead : Ahead) (bases : List Base) (start : BeginI
         ∙ logs_make_states (world_of bases b.first) base.core.id (group_of base) b.there b.rest
         ∙ ap (λ cs. Some (state_after (group_of base) cs)) b.log_is
 
-    kept : KeptWorld sources.owner (told_after (first_told bases) old)
-    kept = kept_after sources (first_told bases) old (at_start sources bases start) k.allowed
+    kept : KeptWorld sources.owner (recorded_after (first_recorded bases) old)
+    kept = kept_after sources (first_recorded bases) old (at_start sources bases start) k.allowed
 
-    store_is : (told_after (first_told bases) old).store ≡ world
-    store_is = store_after (first_told bases) old
+    store_is : (recorded_after (first_recorded bases) old).store ≡ world
+    store_is = store_after (first_recorded bases) old
 
     -- ---- one more row
 
@@ -130,7 +130,7 @@ module _ (sources : Sources) (ahead : Ahead) (bases : List Base) (start : BeginI
         pub cs : List Command
         pub mine : (base : Base) → IsFound ahead bases before base → base.core.id ≡ turn.name → added base ≡ cs
         pub decider : (cs ≡ []) ⊎ ((base : Base) × IsFound ahead bases before base × (base.core.id ≡ turn.name) × (slot ≡ length (decided_log ahead base before) + 1))
-        pub allowed : AreAllowed sources (told_after (first_told bases) old) (entries_from turn.name slot cs)
+        pub allowed : AreAllowed sources (recorded_after (first_recorded bases) old) (entries_from turn.name slot cs)
         pub unborn : (child : Base) → IsNew child → named_group child.core.id world.groups ≡ None
         pub one : (child other : Base) → IsNew child → IsNew other → child.core.id ≡ other.core.id → child ≡ other
         pub born : (child : Base) → IsNew child → IsBornAmong world (entries_from turn.name slot cs) child
@@ -175,8 +175,8 @@ module _ (sources : Sources) (ahead : Ahead) (bases : List Base) (start : BeginI
         abbrev at : ℕ
         at = length (decided_log ahead group before) + 1
 
-        abbrev w : ToldWorld
-        w = told_after (first_told bases) old
+        abbrev w : StoryWorld
+        w = recorded_after (first_recorded bases) old
 
         may : AreAllowed sources w (entries_from turn.name at (added group))
         may = all_allowed sources bases start old k.allowed turn.name at (added group) (subst (λ n. Each (IsAllowed sources w.stories n) (added group)) named (turn.allowed group found))

@@ -14,7 +14,7 @@ use Rattle.sc_law_entries.specs.names.Definitions.{Opt, CoreNames, CommandNames,
 use Rattle.sc_law_entries.proofs.NamesProofs.Lists.{opt_slot, slot_without, flight_without}
 use Rattle.sc_law_entries.proofs.NamesProofs.Machine.{applied_names, child_by_names}
 use Rattle.sc_law_walks.proofs.Lemmas.{welcomed_place, executed_place, landed_place, either_way}
-use Rattle.sc_law_entries.proofs.NamesProofs.Sent.{BeforeNames, sent_names, sent_others_names, told_names, before_names, spoken_names}
+use Rattle.sc_law_entries.proofs.NamesProofs.Sent.{BeforeNames, sent_names, sent_others_names, reported_names, before_names, spoken_names}
 use Rattle.sc_law_entries.proofs.NamesProofs.Held.{Fine, Cmds, Cmd, back_names, flying_names, elected_names, ended_names, stopped_names, welcomed_names, forgotten_names, pumped_names}
 
 module _ (K : Draw → Type 0) where
@@ -67,7 +67,7 @@ module _ (K : Draw → Type 0) where
   told_effect_names : (result : Option ToldResult) (command : Command) (place : Place) → Opt (ResultNames K) result → F place → F (told_effect result command place)
   unfolding told_effect
   told_effect_names None command place r f = f
-  told_effect_names (Some result) command (replica, mails) r f = (f.0, told_names K replica.me (order_number command) result mails r f.1)
+  told_effect_names (Some result) command (replica, mails) r f = (f.0, reported_names K replica.me (order_number command) result mails r f.1)
 
   announced_names : (counted : Bool) (effect : Effect) (command : Command) (place : Place) → EffectNames K effect → F place → F (announced counted effect command place)
   unfolding announced

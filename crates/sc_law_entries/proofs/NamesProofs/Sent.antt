@@ -48,18 +48,18 @@ module _ (K : Draw → Type 0) where
   answered_all_names me group answer [] mails g a m = m
   answered_all_names me group answer (command ∷ commands) mails g a m = answered_all_names me group answer commands (answered me group answer command mails) g a (answered_names me group answer command mails g a m)
 
-  pub told_names : (me number : ℕ) (result : ToldResult) (mails : List Mail) → ResultNames K result → Sent mails → Sent (told_order me number result mails)
+  pub reported_names : (me number : ℕ) (result : ToldResult) (mails : List Mail) → ResultNames K result → Sent mails → Sent (told_order me number result mails)
   unfolding told_order
-  told_names me number result mails r m = either_way Sent (nat_lt 0 number) _ _ (sent_names me 0 (Told number result) mails r m) m
+  reported_names me number result mails r m = either_way Sent (nat_lt 0 number) _ _ (sent_names me 0 (Told number result) mails r m) m
 
   dismissed_names : (me : ℕ) (group : Draw) (hint : Option ℕ) (answer : AnswerBody) (command : Command) (mails : List Mail) → K group → AnswerNames K answer → Sent mails → Sent (dismissed me group hint answer command mails)
   unfolding dismissed
   dismissed_names me group hint answer (Call client seq op) mails g a m = sent_names me _ (Answer group seq answer) mails (g, a) m
-  dismissed_names me group hint answer (Join node order) mails g a m = told_names me order (Tells.Refused (Why.NotLeader hint)) mails tt m
-  dismissed_names me group hint answer (Leave node order) mails g a m = told_names me order (Tells.Refused (Why.NotLeader hint)) mails tt m
-  dismissed_names me group hint answer (Split at child order) mails g a m = told_names me order (Tells.Refused (Why.NotLeader hint)) mails tt m
-  dismissed_names me group hint answer (Begin tx body order) mails g a m = told_names me order (Tells.Refused (Why.NotLeader hint)) mails tt m
-  dismissed_names me group hint answer _ mails g a m = told_names me 0 (Tells.Refused (Why.NotLeader hint)) mails tt m
+  dismissed_names me group hint answer (Join node order) mails g a m = reported_names me order (Tells.Refused (Why.NotLeader hint)) mails tt m
+  dismissed_names me group hint answer (Leave node order) mails g a m = reported_names me order (Tells.Refused (Why.NotLeader hint)) mails tt m
+  dismissed_names me group hint answer (Split at child order) mails g a m = reported_names me order (Tells.Refused (Why.NotLeader hint)) mails tt m
+  dismissed_names me group hint answer (Begin tx body order) mails g a m = reported_names me order (Tells.Refused (Why.NotLeader hint)) mails tt m
+  dismissed_names me group hint answer _ mails g a m = reported_names me 0 (Tells.Refused (Why.NotLeader hint)) mails tt m
 
   pub dismissed_all_names : (me : ℕ) (group : Draw) (hint : Option ℕ) (answer : AnswerBody) (commands : List Command) (mails : List Mail) → K group → AnswerNames K answer → Sent mails → Sent (dismissed_all me group hint answer commands mails)
   unfolding dismissed_all
@@ -156,7 +156,7 @@ module _ (K : Draw → Type 0) where
 
   result_told : (me : ℕ) (result : Option ToldResult) (number : ℕ) (mails : List Mail) → ResultOf result → Sent mails → Sent (told_result me result number mails)
   result_told me None number mails r m = m
-  result_told me (Some result) number mails r m = told_names me number result mails r m
+  result_told me (Some result) number mails r m = reported_names me number result mails r m
 
   told_begun_names : (me : ℕ) (before : Before) (effect : Effect) (command : Command) (mails : List Mail) → EffectNames K effect → Sent mails → Sent (told_begun me before effect command mails)
   unfolding told_begun

@@ -17,7 +17,7 @@ use Rattle.sc_machine_table.specs.Definitions.{Group, group_of, served_by_note, 
 use Rattle.sc_log_entries.specs.declared.Cut.{Cut}
 use Rattle.sc_log_entries.specs.declared.LogEntry.{LogEntry}
 use Rattle.sc_log_entries.specs.Definitions.{Covers, first_cut, with_result, first_world, world_of, world_after}
-use Rattle.sc_law_entries.specs.ring.Definitions.{AreAllowed, ToldWorld, first_told, told_on, told_after, no_stories, stories_after, BeginInPlace, BeginsInPlace, drawn, told_entry, ring_cut_of, sources, merge_put, watcher_put, merge_get, group_one, group_two, group_three, merge_bases, two_called, two_frozen, merge_offer, merge_watch_asked, merge_outcome, merge_entries, split_left, split_right, split_bases, split_entries, MergeIsAllowed, SplitIsAllowed}
+use Rattle.sc_law_entries.specs.ring.Definitions.{AreAllowed, StoryWorld, first_recorded, recorded_next, recorded_after, no_stories, stories_after, BeginInPlace, BeginsInPlace, drawn, example_entry, ring_cut_of, sources, merge_put, watcher_put, merge_get, group_one, group_two, group_three, merge_bases, two_called, two_frozen, merge_offer, merge_watch_asked, merge_outcome, merge_entries, split_left, split_right, split_bases, split_entries, MergeIsAllowed, SplitIsAllowed}
 use Rattle.sc_law_entries.proofs.RingProofs.Finds.{all_pairs}
 use Rattle.sc_law_entries.proofs.RingProofs.Insides.{clear_of}
 use Rattle.sc_law_entries.proofs.RingProofs.Rings.{AreApart}
@@ -114,30 +114,30 @@ merge_start = record {
 }
 
 -- the world after the first call, by what the table notes of the client
-abbrev called_first : Option Noted → ToldWorld
+abbrev called_first : Option Noted → StoryWorld
 called_first o = record { store = with_result (first_world merge_bases) (group_of group_two) (Call 9 1 merge_put) (served_by_note o (group_of group_two) 9 1 merge_put); stories = no_stories }
 
-first_is : told_on (first_told merge_bases) (told_entry (drawn 0 2) 1 (Call 9 1 merge_put)) ≡ called_first None
+first_is : recorded_next (first_recorded merge_bases) (example_entry (drawn 0 2) 1 (Call 9 1 merge_put)) ≡ called_first None
 first_is = ap called_first (get-empty nat_cmp 9)
 
 -- the entries up to the watcher's vote
 abbrev to_watch : List LogEntry
 to_watch =
-    told_entry (drawn 0 1) 1 (Begin (drawn 1 1) At.Merge 1)
-    ∷ told_entry (drawn 0 2) 2 (Prepared (drawn 1 1) merge_offer)
-    ∷ told_entry (drawn 0 1) 2 (RecordVote (drawn 1 1) (Ballot.Yes two_frozen) 2)
-    ∷ told_entry (drawn 0 3) 1 (Watched (drawn 1 1) merge_watch_asked) ∷ []
+    example_entry (drawn 0 1) 1 (Begin (drawn 1 1) At.Merge 1)
+    ∷ example_entry (drawn 0 2) 2 (Prepared (drawn 1 1) merge_offer)
+    ∷ example_entry (drawn 0 1) 2 (RecordVote (drawn 1 1) (Ballot.Yes two_frozen) 2)
+    ∷ example_entry (drawn 0 3) 1 (Watched (drawn 1 1) merge_watch_asked) ∷ []
 
-abbrev watched_world : ToldWorld
-watched_world = told_after (called_first None) to_watch
+abbrev watched_world : StoryWorld
+watched_world = recorded_after (called_first None) to_watch
 
 abbrev watcher : Group
 watcher = (watched (group_of group_three) (drawn 1 1) merge_watch_asked).0
 
-abbrev called_second : Option Noted → ToldWorld
+abbrev called_second : Option Noted → StoryWorld
 called_second o = record { store = with_result watched_world.store watcher (Call 8 1 watcher_put) (served_by_note o watcher 8 1 watcher_put); stories = watched_world.stories }
 
-second_is : told_on watched_world (told_entry (drawn 0 3) 2 (Call 8 1 watcher_put)) ≡ called_second None
+second_is : recorded_next watched_world (example_entry (drawn 0 3) 2 (Call 8 1 watcher_put)) ≡ called_second None
 second_is = ap called_second (get-empty nat_cmp 8)
 
 -- the coordinator that has heard its participant
@@ -147,7 +147,7 @@ coordinator = heard_group (begun_group (group_of group_one) (drawn 1 1) At.Merge
 abbrev merges : Bool → Group × Effect
 merges shared = committed (cond (not shared) (Some (merged_group coordinator two_frozen, merge_outcome)) None) coordinator (drawn 1 1)
 
-abbrev merged_world : Bool → ToldWorld
+abbrev merged_world : Bool → StoryWorld
 merged_world shared = record {
   store = with_result (called_second None).store coordinator (RecordWatch (drawn 1 1) Cast.Yes 3) (merges shared);
   stories = stories_after coordinator (RecordWatch (drawn 1 1) Cast.Yes 3) (merges shared).1 (called_second None).stories;
@@ -156,26 +156,26 @@ merged_world shared = record {
 no_key : has_key_of coordinator.pairs two_frozen.pairs ≡ false
 no_key = clear_of empty (entries two_called.pairs) (entries_sorted two_called.pairs) (λ q v f. get-empty (slice_cmp nat_cmp) q)
 
-third_is : told_on (called_second None) (told_entry (drawn 0 1) 3 (RecordWatch (drawn 1 1) Cast.Yes 3)) ≡ merged_world false
+third_is : recorded_next (called_second None) (example_entry (drawn 0 1) 3 (RecordWatch (drawn 1 1) Cast.Yes 3)) ≡ merged_world false
 third_is = ap merged_world no_key
 
 -- the entries that are left after each of these
 abbrev after_third : List LogEntry
 after_third =
-    told_entry (drawn 0 2) 3 (Finish (drawn 1 1) merge_outcome)
-    ∷ told_entry (drawn 0 3) 3 (Finish (drawn 1 1) merge_outcome)
-    ∷ told_entry (drawn 0 1) 4 (Call 9 2 merge_get) ∷ []
+    example_entry (drawn 0 2) 3 (Finish (drawn 1 1) merge_outcome)
+    ∷ example_entry (drawn 0 3) 3 (Finish (drawn 1 1) merge_outcome)
+    ∷ example_entry (drawn 0 1) 4 (Call 9 2 merge_get) ∷ []
 
 abbrev after_second : List LogEntry
-after_second = told_entry (drawn 0 1) 3 (RecordWatch (drawn 1 1) Cast.Yes 3) ∷ after_third
+after_second = example_entry (drawn 0 1) 3 (RecordWatch (drawn 1 1) Cast.Yes 3) ∷ after_third
 
 abbrev after_first : List LogEntry
 after_first =
-    told_entry (drawn 0 1) 1 (Begin (drawn 1 1) At.Merge 1)
-    ∷ told_entry (drawn 0 2) 2 (Prepared (drawn 1 1) merge_offer)
-    ∷ told_entry (drawn 0 1) 2 (RecordVote (drawn 1 1) (Ballot.Yes two_frozen) 2)
-    ∷ told_entry (drawn 0 3) 1 (Watched (drawn 1 1) merge_watch_asked)
-    ∷ told_entry (drawn 0 3) 2 (Call 8 1 watcher_put)
+    example_entry (drawn 0 1) 1 (Begin (drawn 1 1) At.Merge 1)
+    ∷ example_entry (drawn 0 2) 2 (Prepared (drawn 1 1) merge_offer)
+    ∷ example_entry (drawn 0 1) 2 (RecordVote (drawn 1 1) (Ballot.Yes two_frozen) 2)
+    ∷ example_entry (drawn 0 3) 1 (Watched (drawn 1 1) merge_watch_asked)
+    ∷ example_entry (drawn 0 3) 2 (Call 8 1 watcher_put)
     ∷ after_second
 
 third_allowed : AreAllowed sources (merged_world false) after_third
@@ -190,14 +190,14 @@ first_allowed = (
   ((_, refl, refl, refl), ((_, refl, refl), ((_, refl, refl, refl), (refl, subst (λ w. AreAllowed sources w after_second) (sym second_is) second_allowed)))),
 )
 
-merge_allowed : AreAllowed sources (first_told merge_bases) merge_entries
+merge_allowed : AreAllowed sources (first_recorded merge_bases) merge_entries
 merge_allowed = (refl, subst (λ w. AreAllowed sources w after_first) (sym first_is) first_allowed)
 
 merge_ring : (world_of merge_bases merge_entries).ring ≡ ring_cut_of 0 1728053248 (drawn 0 1) ∷ ring_cut_of 1728053248 2566914048 (drawn 0 3) ∷ []
 merge_ring =
-    ap (λ (w : ToldWorld). (world_after w.store after_first).ring) first_is
-    ∙ ap (λ (w : ToldWorld). (world_after w.store after_second).ring) second_is
-    ∙ ap (λ (w : ToldWorld). (world_after w.store after_third).ring) third_is
+    ap (λ (w : StoryWorld). (world_after w.store after_first).ring) first_is
+    ∙ ap (λ (w : StoryWorld). (world_after w.store after_second).ring) second_is
+    ∙ ap (λ (w : StoryWorld). (world_after w.store after_third).ring) third_is
 
 pub merge_is_allowed : MergeIsAllowed
 merge_is_allowed = record { start = merge_start; allowed = merge_allowed; after = merge_ring }
@@ -221,7 +221,7 @@ split_start = record {
 lt_half : 1073741824 < 2 ^ 32
 lt_half = omega arith
 
-split_allowed : AreAllowed sources (first_told split_bases) split_entries
+split_allowed : AreAllowed sources (first_recorded split_bases) split_entries
 split_allowed = (
   (refl, lt_half),
   (

@@ -28,7 +28,7 @@ use Rattle.sc_cmd.specs.Definitions.{is_changed, decided_in, is_alone}
 use Rattle.sc_machine_table.specs.Definitions.{Group, applied, split_group, begun_group, asks_watcher, participant_answered, vote_recorded, watch_answered, watch_recorded, is_coordinating, aborted, has_voted, vote_of, watch_vote_of, past_of}
 use Rattle.sc_log_entries.specs.Definitions.{named_group}
 use Rattle.sc_log_entries.specs.declared.LogEntry.{LogEntry}
-use Rattle.sc_law_entries.specs.ring.Definitions.{Sources, IsVoteCast, IsWatchVoteCast, IsAllowed, AreAllowed, ToldWorld, first_told, stories_told, told_on, told_after, Story, Stories, put, retold, new_story, unsigned, unsigned_watch, watch_for, vote_in, watch_vote_in, with_vote, with_watch_vote, with_decision, with_asked, with_answer, stories_after, Groups, AllowedEntriesStayAllowed}
+use Rattle.sc_law_entries.specs.ring.Definitions.{Sources, IsVoteCast, IsWatchVoteCast, IsAllowed, AreAllowed, StoryWorld, first_recorded, recorded_stories, recorded_next, recorded_after, Story, Stories, put, retold, new_story, unsigned, unsigned_watch, watch_for, vote_in, watch_vote_in, with_vote, with_watch_vote, with_decision, with_asked, with_answer, stories_after, Groups, AllowedEntriesStayAllowed}
 use Rattle.sc_log_entries.proofs.Lemmas.{draw_cases}
 use Rattle.sc_law_entries.proofs.RingProofs.View.{Ring}
 use Rattle.sc_law_entries.proofs.RingProofs.Cover.{at-is, at-other}
@@ -42,7 +42,7 @@ use Rattle.sc_law_entries.proofs.RingProofs.Worlds.{KeptWorld, kept_on, kept_aft
 use Rattle.sc_law_entries.proofs.RingProofs.Finds.{some_none}
 
 -- a story records all that another recorded
-pub record TellsOn (y z : Story) : Type 0 where
+pub record RecordsOn (y z : Story) : Type 0 where
   pub offer : z.offer ≡ y.offer
   pub vote : (f : Frozen) → y.vote ≡ Some (Ballot.Yes f) → z.vote ≡ Some (Ballot.Yes f)
   pub watch : (w : Watch) → y.watch ≡ Some w → z.watch ≡ Some w
@@ -51,9 +51,9 @@ pub record TellsOn (y z : Story) : Type 0 where
 
 -- each story goes on recording what it recorded
 abbrev pub Grows : Stories → Stories → Type 0
-Grows ys zs = (tx : Draw) (y : Story) → ys tx ≡ Some y → (z : Story) × (zs tx ≡ Some z) × TellsOn y z
+Grows ys zs = (tx : Draw) (y : Story) → ys tx ≡ Some y → (z : Story) × (zs tx ≡ Some z) × RecordsOn y z
 
-tells_same : (y : Story) → TellsOn y y
+tells_same : (y : Story) → RecordsOn y y
 tells_same y = record { offer = refl; vote = λ f e. e; watch = λ w e. e; watch_vote = λ e. e; outcome = λ o e. e }
 
 pub grows_same : (ys : Stories) → Grows ys ys
@@ -79,7 +79,7 @@ grows_then xs ys zs a b tx x e =
 grows_new : (ys : Stories) (tx : Draw) (y : Story) → ys tx ≡ None → Grows ys (put ys tx (Some y))
 grows_new ys tx y none t z e = (z, at-other ys tx (Some y) t (λ q. some_none z (sym e ∙ ap ys q ∙ none)) ∙ e, tells_same z)
 
-grows_told : (ys : Stories) (tx : Draw) (f : Story → Story) → ((y : Story) → ys tx ≡ Some y → TellsOn y (f y)) → Grows ys (retold ys tx f)
+grows_told : (ys : Stories) (tx : Draw) (f : Story → Story) → ((y : Story) → ys tx ≡ Some y → RecordsOn y (f y)) → Grows ys (retold ys tx f)
 grows_told ys tx f k t y e =
     elim (draw_cases t tx) [
       | inl q ↦ (f y, at-is ys tx (option_map f (ys tx)) t q ∙ ap (option_map f) (ap ys (sym q) ∙ e), k y (ap ys (sym q) ∙ e))
@@ -104,7 +104,7 @@ module _ (sources : Sources) (ring : Ring) (gs : Groups) (ys : Stories) (g : Dra
       (λ e q. subst (λ b. Grows ys (cond b (put ys tx (Some story)) ys)) (sym q) (grows_same ys))
       (λ o n. grows_new ys tx story (draw_new gs ys sources.owner g tx s k.0 mine is o.free n.undecided (ys tx) refl))
 
-  vote_first : (y : Story) (v : Option Vote) → y.vote ≡ None → TellsOn y (with_vote v y)
+  vote_first : (y : Story) (v : Option Vote) → y.vote ≡ None → RecordsOn y (with_vote v y)
   vote_first y None none = tells_same y
   vote_first y (Some v) none = record { offer = refl; vote = λ f e. absurd (some_none (Ballot.Yes f) (sym e ∙ none)); watch = λ w e. e; watch_vote = λ e. e; outcome = λ o e. e }
 
@@ -117,7 +117,7 @@ module _ (sources : Sources) (ring : Ring) (gs : Groups) (ys : Stories) (g : Dra
       let none = unheard gs sources.owner tx y offer s (k.0.story tx y there) offered (ap gs part ∙ is) e y.vote refl in
       vote_first z (vote_in s (Was.Voted (past_of (vote_of s.core offer)))) (ap (λ (x : Story). x.vote) (sym same) ∙ none))))
 
-  watch_first : (y : Story) (v : Option Past) → (y.watch_vote ≡ Some Cast.Yes → ⊥) → TellsOn y (with_watch_vote v y)
+  watch_first : (y : Story) (v : Option Past) → (y.watch_vote ≡ Some Cast.Yes → ⊥) → RecordsOn y (with_watch_vote v y)
   watch_first y None none = tells_same y
   watch_first y (Some v) none = record { offer = refl; vote = λ f e. e; watch = λ w e. e; watch_vote = λ e. absurd (none e); outcome = λ o e. e }
 
@@ -136,11 +136,11 @@ module _ (sources : Sources) (ring : Ring) (gs : Groups) (ys : Stories) (g : Dra
       let same = same_Some y own.story (sym there ∙ own.is) in
       (ap (λ (z : Story). z.outcome) same ∙ own.undecided, ap (λ (z : Story). z.watch) same ∙ own.watch)
 
-  outcome_first : (y : Story) (o : Option Outcome) → y.outcome ≡ None → TellsOn y (with_decision o y)
+  outcome_first : (y : Story) (o : Option Outcome) → y.outcome ≡ None → RecordsOn y (with_decision o y)
   outcome_first y None none = tells_same y
   outcome_first y (Some o) none = record { offer = refl; vote = λ f e. e; watch = λ w e. e; watch_vote = λ e. e; outcome = λ p e. absurd (some_none p (sym e ∙ none)) }
 
-  asked_first : (y : Story) (v : Vote) → y.watch ≡ None → TellsOn y (with_asked s.core v y)
+  asked_first : (y : Story) (v : Vote) → y.watch ≡ None → RecordsOn y (with_asked s.core v y)
   asked_first y (Ballot.Yes f) none = record { offer = refl; vote = λ f e. e; watch = λ w e. absurd (some_none w (sym e ∙ none)); watch_vote = λ e. e; outcome = λ o e. e }
   asked_first y (Ballot.No why) none = tells_same y
 
@@ -152,9 +152,9 @@ module _ (sources : Sources) (ring : Ring) (gs : Groups) (ys : Stories) (g : Dra
   unasked core (At.Migrate node) heard e = refl
   unasked core (At.Split at child) heard e = absurd (let f : true ≡ false = e in cc)
 
-  answer_first : (y : Story) (v : Vote) (effect : Effect) → y.watch ≡ None → y.outcome ≡ None → TellsOn y (with_answer s.core v effect y)
+  answer_first : (y : Story) (v : Vote) (effect : Effect) → y.watch ≡ None → y.outcome ≡ None → RecordsOn y (with_answer s.core v effect y)
   answer_first y v effect unwatched open_yet =
-      elim (is_changed effect) as (λ b. TellsOn y (cond b (with_asked s.core v y) (with_decision (decided_in effect) y))) [
+      elim (is_changed effect) as (λ b. RecordsOn y (cond b (with_asked s.core v y) (with_decision (decided_in effect) y))) [
         | true ↦ asked_first y v unwatched
         | false ↦ outcome_first y (decided_in effect) open_yet
       ]
@@ -229,18 +229,18 @@ stays sources ys zs k g (RecordWatch tx vote by) a = watch_stays ys zs k tx vote
 stays sources ys zs k g (Finish tx outcome) a = (let r = k tx a.0 a.1 in (r.0, r.1, r.2.outcome outcome a.2))
 stays sources ys zs k g _ a = tt
 
-step_grows : (sources : Sources) (w : ToldWorld) (g : Draw) (command : Command) → KeptWorld sources.owner w → IsAllowed sources w.stories g command → (o : Option Group) → named_group g w.store.groups ≡ o → Grows w.stories (stories_told w.stories o command)
+step_grows : (sources : Sources) (w : StoryWorld) (g : Draw) (command : Command) → KeptWorld sources.owner w → IsAllowed sources w.stories g command → (o : Option Group) → named_group g w.store.groups ≡ o → Grows w.stories (recorded_stories w.stories o command)
 step_grows sources w g command k a None e = grows_same w.stories
 step_grows sources w g command k a (Some s) e = grows sources (arcs_in w.store.ring) (groups_in w.store.groups) w.stories g s k.kept e command a
 
-all_grow : (sources : Sources) (w : ToldWorld) (entries : List LogEntry) → KeptWorld sources.owner w → AreAllowed sources w entries → Grows w.stories (told_after w entries).stories
+all_grow : (sources : Sources) (w : StoryWorld) (entries : List LogEntry) → KeptWorld sources.owner w → AreAllowed sources w entries → Grows w.stories (recorded_after w entries).stories
 all_grow sources w [] k a = grows_same w.stories
 all_grow sources w (e ∷ es) k a =
-    grows_then w.stories (told_on w e).stories (told_after (told_on w e) es).stories
+    grows_then w.stories (recorded_next w e).stories (recorded_after (recorded_next w e) es).stories
     (step_grows sources w e.group e.command k a.0 (named_group e.group w.store.groups) refl)
-    (all_grow sources (told_on w e) es (kept_on sources w e k a.0) a.1)
+    (all_grow sources (recorded_next w e) es (kept_on sources w e k a.0) a.1)
 
 pub allowed_entries_stay_allowed : AllowedEntriesStayAllowed
 allowed_entries_stay_allowed sources bases entries more start allowed further name command a =
-    let w = told_after (first_told bases) entries in
-    stays sources w.stories (told_after w more).stories (all_grow sources w more (kept_after sources (first_told bases) entries (at_start sources bases start) allowed) further) name command a
+    let w = recorded_after (first_recorded bases) entries in
+    stays sources w.stories (recorded_after w more).stories (all_grow sources w more (kept_after sources (first_recorded bases) entries (at_start sources bases start) allowed) further) name command a

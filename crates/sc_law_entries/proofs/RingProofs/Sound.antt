@@ -16,7 +16,7 @@ use Rattle.sc_log_entries.specs.declared.Cut.{Cut}
 use Rattle.sc_log_entries.specs.declared.LogEntry.{LogEntry}
 use Rattle.sc_log_entries.specs.declared.Transaction.{Transaction}
 use Rattle.sc_log_entries.specs.Definitions.{after_outcome, effective_by, effective, is_open, serves, Covers, arc_in, StoreWorld, named_group, world_after, IsPlaced}
-use Rattle.sc_law_entries.specs.ring.Definitions.{Sources, IsAllowed, AreAllowed, ToldWorld, first_told, told_on, told_after, Stories, Facts, IsRingSound, EntriesKeepTheRing, EntriesKeepThePromises, DrawsAreOfOneLog, draw_of, AllowedListsAppend}
+use Rattle.sc_law_entries.specs.ring.Definitions.{Sources, IsAllowed, AreAllowed, StoryWorld, first_recorded, recorded_next, recorded_after, Stories, Facts, IsRingSound, EntriesKeepTheRing, EntriesKeepThePromises, DrawsAreOfOneLog, draw_of, AllowedListsAppend}
 use Rattle.sc_law_entries.proofs.RingProofs.View.{Holds, HeldBy, CoversBy}
 use Rattle.sc_law_entries.proofs.RingProofs.Finds.{all_pairs}
 use Rattle.sc_law_entries.proofs.RingProofs.Cuts.{arcs_in, cut_of_arc, arc_of_cut}
@@ -41,14 +41,14 @@ living_was None x e q = (same_Some x e q, refl)
 living_was (Some into) x e q = absurd (none-some e q)
 
 -- a record that has an arc
-pub record HasRecord (w : ToldWorld) (g : Draw) (a : Arc) : Type 0 where
+pub record HasRecord (w : StoryWorld) (g : Draw) (a : Arc) : Type 0 where
   pub group : Group
   pub is : effective w.store g ≡ Some group
   pub here : group.core.gone ≡ None
   pub arc : group.core.arc ≡ a
   pub old : Old (groups_in w.store.groups) w.stories g ≡ Some group
 
-eff_has : (w : ToldWorld) (g : Draw) (a : Arc) (e : Group) → Agree w.store.transactions w.stories → e.core.arc ≡ a → (o : Option Group) → named_group g w.store.groups ≡ o → eff (decisions w.stories) o ≡ Some e → HasRecord w g a
+eff_has : (w : StoryWorld) (g : Draw) (a : Arc) (e : Group) → Agree w.store.transactions w.stories → e.core.arc ≡ a → (o : Option Group) → named_group g w.store.groups ≡ o → eff (decisions w.stories) o ≡ Some e → HasRecord w g a
 eff_has w g a e k arc None is q = absurd (none-some e q)
 eff_has w g a e k arc (Some u) is q =
     let x = settle_by u.core.lock (decisions w.stories) u in
@@ -75,7 +75,7 @@ not_gone : (o : Option Route) → is_none o ≡ true → o ≡ None
 not_gone None e = refl
 not_gone (Some into) e = absurd (let f : false ≡ true = e in cc)
 
-module _ (owner : Draw → Option Draw) (w : ToldWorld) (k : KeptWorld owner w) where
+module _ (owner : Draw → Option Draw) (w : StoryWorld) (k : KeptWorld owner w) where
   abbrev d : Draw → Option Group
   d = Old (groups_in w.store.groups) w.stories
 
@@ -151,34 +151,34 @@ module _ (owner : Draw → Option Draw) (w : ToldWorld) (k : KeptWorld owner w) 
 
 -- ---- the laws
 
-pub store_after : (w : ToldWorld) (entries : List LogEntry) → (told_after w entries).store ≡ world_after w.store entries
+pub store_after : (w : StoryWorld) (entries : List LogEntry) → (recorded_after w entries).store ≡ world_after w.store entries
 store_after w [] = refl
-store_after w (e ∷ es) = store_after (told_on w e) es
+store_after w (e ∷ es) = store_after (recorded_next w e) es
 
 pub entries_keep_the_ring : EntriesKeepTheRing
 entries_keep_the_ring sources bases entries start allowed =
-    subst IsRingSound (store_after (first_told bases) entries)
-    (sound_world sources.owner (told_after (first_told bases) entries) (kept_after sources (first_told bases) entries (at_start sources bases start) allowed))
+    subst IsRingSound (store_after (first_recorded bases) entries)
+    (sound_world sources.owner (recorded_after (first_recorded bases) entries) (kept_after sources (first_recorded bases) entries (at_start sources bases start) allowed))
 
 pub entries_keep_the_promises : EntriesKeepThePromises
 entries_keep_the_promises sources bases entries start allowed =
-    subst (λ (w : StoreWorld). Facts sources.owner (λ name. named_group name w.groups) (told_after (first_told bases) entries).stories) (store_after (first_told bases) entries)
-    (kept_after sources (first_told bases) entries (at_start sources bases start) allowed).kept.0
+    subst (λ (w : StoreWorld). Facts sources.owner (λ name. named_group name w.groups) (recorded_after (first_recorded bases) entries).stories) (store_after (first_recorded bases) entries)
+    (kept_after sources (first_recorded bases) entries (at_start sources bases start) allowed).kept.0
 
 pub owned : (sources : Sources) (ys : Stories) (g : Draw) (command : Command) (name : Draw) → IsAllowed sources ys g command → draw_of command ≡ Some name → sources.owner name ≡ Some g
 owned sources ys g (Split at child order) name a e = ap sources.owner (sym (same_Some child name e)) ∙ a.0
 owned sources ys g (Begin tx body order) name a e = ap sources.owner (sym (same_Some tx name e)) ∙ a.0
 owned sources ys g _ name a e = absurd (none-some name e)
 
-owned_among : (sources : Sources) (w : ToldWorld) (entries : List LogEntry) → AreAllowed sources w entries → (a : LogEntry) → Among a entries → (name : Draw) → draw_of a.command ≡ Some name → sources.owner name ≡ Some a.group
+owned_among : (sources : Sources) (w : StoryWorld) (entries : List LogEntry) → AreAllowed sources w entries → (a : LogEntry) → Among a entries → (name : Draw) → draw_of a.command ≡ Some name → sources.owner name ≡ Some a.group
 owned_among sources w [] k a x name e = absurd x
 owned_among sources w (b ∷ es) k a (inl q) name e = subst (λ (z : LogEntry). draw_of z.command ≡ Some name → sources.owner name ≡ Some z.group) q (owned sources w.stories b.group b.command name k.0) e
-owned_among sources w (b ∷ es) k a (inr x) name e = owned_among sources (told_on w b) es k.1 a x name e
+owned_among sources w (b ∷ es) k a (inr x) name e = owned_among sources (recorded_next w b) es k.1 a x name e
 
 pub draws_are_of_one_log : DrawsAreOfOneLog
 draws_are_of_one_log sources bases entries k a b x y name e q =
-    same_Some a.group b.group (sym (owned_among sources (first_told bases) entries k a x name e) ∙ owned_among sources (first_told bases) entries k b y name q)
+    same_Some a.group b.group (sym (owned_among sources (first_recorded bases) entries k a x name e) ∙ owned_among sources (first_recorded bases) entries k b y name q)
 
 pub allowed_lists_append : AllowedListsAppend
 allowed_lists_append sources w [] more a b = b
-allowed_lists_append sources w (e ∷ es) more a b = (a.0, allowed_lists_append sources (told_on w e) es more a.1 b)
+allowed_lists_append sources w (e ∷ es) more a b = (a.0, allowed_lists_append sources (recorded_next w e) es more a.1 b)

@@ -14,7 +14,7 @@ use Rattle.sc_cmd.specs.declared.cores.Base.{Base}
 use Rattle.sc_machine_table.specs.Definitions.{Group, group_of}
 use Rattle.sc_log_entries.specs.declared.Cut.{Cut}
 use Rattle.sc_log_entries.specs.Definitions.{Covers, is_cut_of, arc_in, first_cut, is_named, named_group}
-use Rattle.sc_law_entries.specs.ring.Definitions.{Sources, first_told, no_stories, Groups, LockOk, Facts, BeginInPlace, BeginsInPlace}
+use Rattle.sc_law_entries.specs.ring.Definitions.{Sources, first_recorded, no_stories, Groups, LockOk, Facts, BeginInPlace, BeginsInPlace}
 use Rattle.sc_log_entries.proofs.Lemmas.{other_name, found_name}
 use Rattle.sc_law_entries.proofs.RingProofs.View.{IsOnRing, Holds, HeldBy, Ring, CoversBy, View, IsLinked}
 use Rattle.sc_paxos_law.proofs.Lemmas.{from_map}
@@ -232,7 +232,7 @@ module _ (sources : Sources) (bases : List Base) (start : BeginInPlace sources b
     origin = λ h u e. (let r = is_first h u e in inl (ap sources.owner (sym (found_name h (map group_of bases) u e) ∙ ap (λ (x : Group). x.core.id) (sym r.0.is)) ∙ r.1.unowned));
   }
 
-  pub at_start : KeptWorld sources.owner (first_told bases)
+  pub at_start : KeptWorld sources.owner (first_recorded bases)
   at_start = record {
     kept = (facts, good);
     found = λ u a. (let r = from_map group_of bases u a in

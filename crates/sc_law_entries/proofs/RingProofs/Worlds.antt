@@ -26,7 +26,7 @@ use Rattle.sc_log_entries.specs.Definitions.{division_by, division_in, division_
 use Rattle.sc_log_entries.specs.declared.Division.{Division}
 use Rattle.sc_log_entries.specs.declared.LogEntry.{LogEntry}
 use Rattle.sc_log_entries.specs.declared.Transaction.{Transaction}
-use Rattle.sc_law_entries.specs.ring.Definitions.{Sources, IsAllowed, AreAllowed, ToldWorld, stories_told, told_on, told_after, Story, Stories, put, retold, new_story, vote_in, watch_vote_in, with_vote, with_watch_vote, with_decision, with_asked, with_answer, stories_after, Groups}
+use Rattle.sc_law_entries.specs.ring.Definitions.{Sources, IsAllowed, AreAllowed, StoryWorld, recorded_stories, recorded_next, recorded_after, Story, Stories, put, retold, new_story, vote_in, watch_vote_in, with_vote, with_watch_vote, with_decision, with_asked, with_answer, stories_after, Groups}
 use Rattle.sc_law_entries.proofs.RingProofs.View.{Ring}
 use Rattle.sc_law_entries.proofs.RingProofs.Cover.{at-same, at-other}
 use Rattle.sc_law_entries.proofs.RingProofs.Ends.{draw_new, group_none, own_story, same_lock}
@@ -138,9 +138,9 @@ module _ (sources : Sources) (ring : Ring) (gs : Groups) (ys : Stories) (g : Dra
   own_apart : (tx : Draw) (body : Body) (order : ℕ) (heard : Option Heard) → s.core.lock ≡ Coordinating tx body order heard → s.core.id ≡ s.core.succ.group → ⊥
   own_apart tx body order heard lock q = (own_story gs ys sources.owner g s tx body order heard k.0 is lock).apart (sym q ∙ named)
 
-  vote_told : (tx : Draw) (vote : Vote) (effect : Effect) → ((y : Story) → ys tx ≡ Some y → y.coordinator ≡ s.core.id) → (ts : List Transaction) → Agree ts ys
+  vote_reported : (tx : Draw) (vote : Vote) (effect : Effect) → ((y : Story) → ys tx ≡ Some y → y.coordinator ≡ s.core.id) → (ts : List Transaction) → Agree ts ys
       → Agree (cond (is_changed effect) (amended tx s.core.id (with_watcher (named_watcher vote)) ts) (concluded (decided_in effect) tx s.core.id ts)) (retold ys tx (with_answer s.core vote effect))
-  vote_told tx vote effect coord ts a =
+  vote_reported tx vote effect coord ts a =
       elim (is_changed effect)
       as (λ b. Agree (cond b (amended tx s.core.id (with_watcher (named_watcher vote)) ts) (concluded (decided_in effect) tx s.core.id ts)) (retold ys tx (λ y. cond b (with_asked s.core vote y) (with_decision (decided_in effect) y)))) [
         | true ↦ agree_watcher ts ys tx s.core.id (named_watcher vote) (with_asked s.core vote) a (asked_brief s vote)
@@ -156,7 +156,7 @@ module _ (sources : Sources) (ring : Ring) (gs : Groups) (ys : Stories) (g : Dra
       cond_both (same_draw t tx) (cond (asks_watcher body heard) (s, Was.NoEffect tx) (participant_answered vote body s tx order by)) (s, Was.NoEffect tx) (λ (r : Group × Effect). Fits gs ys s (RecordVote tx vote by) r.1)
       (λ q. (let lock = same_lock s.core.lock t tx body order heard e q in record {
         births = λ d w. no_division d w;
-        told = vote_told tx vote (cond (asks_watcher body heard) (s, Was.NoEffect tx) (participant_answered vote body s tx order by)).1 (own_coordinator tx body order heard lock);
+        told = vote_reported tx vote (cond (asks_watcher body heard) (s, Was.NoEffect tx) (participant_answered vote body s tx order by)).1 (own_coordinator tx body order heard lock);
         apart = λ x w. own_apart tx body order heard lock;
       }))
       (λ q. vote_quiet tx vote by)
@@ -233,7 +233,7 @@ module _ (sources : Sources) (ring : Ring) (gs : Groups) (ys : Stories) (g : Dra
 -- ---- worlds
 
 -- what holds of a world
-pub record KeptWorld (owner : Draw → Option Draw) (w : ToldWorld) : Type 0 where
+pub record KeptWorld (owner : Draw → Option Draw) (w : StoryWorld) : Type 0 where
   pub kept : Kept owner (arcs_in w.store.ring) (groups_in w.store.groups) w.stories
   pub found : AreFound w.store.groups
   pub apart : AreApart w.store.ring
@@ -256,8 +256,8 @@ birth_new gs g s after is (Some d) fresh base e =
     let id : d.child ≡ base.core.id = ap (λ (b : Base). b.core.id) (same_Some (child_of s d.at d.child) base e) in
     at-other gs g (Some after) base.core.id (λ q. some_none s (sym is ∙ ap gs (sym q) ∙ ap gs (sym id) ∙ fresh d refl)) ∙ ap gs (sym id) ∙ fresh d refl
 
-step_kept : (sources : Sources) (w : ToldWorld) (g : Draw) (command : Command) → KeptWorld sources.owner w → IsAllowed sources w.stories g command → (o : Option Group) → named_group g w.store.groups ≡ o
-    → KeptWorld sources.owner (record { store = after_command w.store o command; stories = stories_told w.stories o command })
+step_kept : (sources : Sources) (w : StoryWorld) (g : Draw) (command : Command) → KeptWorld sources.owner w → IsAllowed sources w.stories g command → (o : Option Group) → named_group g w.store.groups ≡ o
+    → KeptWorld sources.owner (record { store = after_command w.store o command; stories = recorded_stories w.stories o command })
 step_kept sources w g command k a None e = k
 step_kept sources w g command k a (Some s) e =
     let gs = groups_in w.store.groups in
@@ -286,9 +286,9 @@ step_kept sources w g command k a (Some s) e =
       told = fit.told w.store.transactions k.told;
     }
 
-pub kept_on : (sources : Sources) (w : ToldWorld) (entry : LogEntry) → KeptWorld sources.owner w → IsAllowed sources w.stories entry.group entry.command → KeptWorld sources.owner (told_on w entry)
+pub kept_on : (sources : Sources) (w : StoryWorld) (entry : LogEntry) → KeptWorld sources.owner w → IsAllowed sources w.stories entry.group entry.command → KeptWorld sources.owner (recorded_next w entry)
 kept_on sources w entry k a = step_kept sources w entry.group entry.command k a (named_group entry.group w.store.groups) refl
 
-pub kept_after : (sources : Sources) (w : ToldWorld) (entries : List LogEntry) → KeptWorld sources.owner w → AreAllowed sources w entries → KeptWorld sources.owner (told_after w entries)
+pub kept_after : (sources : Sources) (w : StoryWorld) (entries : List LogEntry) → KeptWorld sources.owner w → AreAllowed sources w entries → KeptWorld sources.owner (recorded_after w entries)
 kept_after sources w [] k a = k
-kept_after sources w (e ∷ es) k a = kept_after sources (told_on w e) es (kept_on sources w e k a.0) a.1
+kept_after sources w (e ∷ es) k a = kept_after sources (recorded_next w e) es (kept_on sources w e k a.0) a.1

@@ -10,7 +10,7 @@ use Rattle.sc_cmd.specs.declared.cores.Base.{Base}
 use Rattle.sc_cmd.specs.declared.cores.Lock.TheVariants.{Free}
 use Rattle.sc_log_entries.specs.declared.LogEntry.{LogEntry}
 use Rattle.sc_log_entries.specs.Definitions.{first_world, world_of}
-use Rattle.sc_law_entries.specs.history.Telling.{MayAllBeTold}
+use Rattle.sc_law_entries.specs.history.Telling.{AllMayBeApplied}
 use Rattle.sc_law_entries.specs.history.Worlds.{BeginBare}
 use Rattle.sc_law_entries.specs.history.Moves.{Holding, Holdings, Move, DividedAt, GivenFrom, ServedBy, RequestOf, AreBare, MayMakeAll, history_by, with_holding}
 
@@ -101,5 +101,5 @@ example_log = put_entry ∷ split_entry ∷ get_entry ∷ []
 -- the group begins empty, each entry may be applied, and the history is both requests
 pub record ExampleOfEntries : Type 0 where
   pub bare : BeginBare (lone_base ∷ [])
-  pub may : MayAllBeTold two_requests (first_world (lone_base ∷ [])) example_log
+  pub may : AllMayBeApplied two_requests (first_world (lone_base ∷ [])) example_log
   pub history : (world_of (lone_base ∷ []) example_log).history ≡ answers_with None (Some (120 ∷ []))

@@ -21,10 +21,10 @@ LogsMakeStates = (world : StoreWorld) (name : Draw) (group : Group) → named_gr
     → named_group name (world_after world entries).groups ≡ Some (state_after group (log_in name entries))
 
 -- what a group's log made it note after each prefix, counted from where the group was there, has its entry in the history of all entries
-abbrev pub FrontNotesStay : List Base → List LogEntry → Type 0
-FrontNotesStay bases entries = (born rest : List LogEntry) → entries ≡ born ++ rest → (name : Draw) (group : Group) → named_group name (world_of bases born).groups ≡ Some group
+abbrev pub PrefixNotesStay : List Base → List LogEntry → Type 0
+PrefixNotesStay bases entries = (born rest : List LogEntry) → entries ≡ born ++ rest → (name : Draw) (group : Group) → named_group name (world_of bases born).groups ≡ Some group
     → (front later : List Command) → log_in name rest ≡ front ++ later → HasNotes (world_of bases entries).history (state_after group front).clients
 
 -- where the notes of all logs stay in the history, those after each prefix of each log do: a replica that has executed a prefix of its group's log, and answers by it, answers by the history
-abbrev pub FrontsAnswerByHistory : Type 0
-FrontsAnswerByHistory = (bases : List Base) (entries : List LogEntry) → LogNotesStay bases entries → FrontNotesStay bases entries
+abbrev pub PrefixesAnswerByHistory : Type 0
+PrefixesAnswerByHistory = (bases : List Base) (entries : List LogEntry) → LogNotesStay bases entries → PrefixNotesStay bases entries

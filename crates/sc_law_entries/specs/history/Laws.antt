@@ -43,7 +43,7 @@ pub record IsDone (group : Group) (log : List Command) (place client seq : ℕ) 
   pub effect : slice_get (effects_of group log) place ≡ Some (Done reply)
 
 -- the calls of a log that take effect are the history of its group; each is a call of the log; a reply to a call is that of its entry; each has one place, and no request takes effect at two
-pub record LogTells (group : Group) (log : List Command) : Type 0 where
+pub record LogMakesHistory (group : Group) (log : List Command) : Type 0 where
   pub tells : IsHistoryOf (done_by group log) (state_after group log)
   pub calls : (entry : Entry) → Among entry (done_by group log) → Among (Call entry.client entry.seq entry.op) log
   pub replies : (client seq : ℕ) (op : Op) (reply : Reply) → IsReplied (applied (state_after group log) (Call client seq op)).1 reply
@@ -67,5 +67,5 @@ LeavesWhole (Watched tx watch) = ⊥
 LeavesWhole (RecordWatch tx vote by) = ⊥
 
 -- each log of such commands has its calls that take effect as the history of its group, from an empty start
-abbrev pub LogsTellHistories : Type 0
-LogsTellHistories = (group : Group) → HoldsNothing group → (log : List Command) → Each LeavesWhole log → LogTells group log
+abbrev pub LogsMakeHistories : Type 0
+LogsMakeHistories = (group : Group) → HoldsNothing group → (log : List Command) → Each LeavesWhole log → LogMakesHistory group log

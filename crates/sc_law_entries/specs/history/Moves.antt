@@ -203,17 +203,17 @@ abbrev pub HasNotes : List Entry → ClientTable → Type 0
 HasNotes history clients = (client : ℕ) (noted : Noted) → get clients client ≡ Some noted → HasEntry history client noted.seq noted.reply
 
 -- a holding matches the history: its pairs are those of the map after the history on its arc; it notes each request whose key lies there; and each of its notes has its entry
-pub record IsToldOf (history : List Entry) (holding : Holding) : Type 0 where
+pub record IsReportedOf (history : List Entry) (holding : Holding) : Type 0 where
   pub pairs : holding.pairs ≡ part_of holding.arc (contents_after empty history)
   pub noted : (entry : Entry) → Among entry history → IsTrue (holds_key holding.arc (key_of entry.op)) → IsNotedIn holding.clients entry
   pub notes : HasNotes history holding.clients
 
 -- the history is legal, each entry has the operation of its request, the holdings share no position, and each matches the history
-pub record TellsHoldings (request : RequestOf) (history : List Entry) (holdings : Holdings) : Type 0 where
+pub record MatchesHoldings (request : RequestOf) (history : List Entry) (holdings : Holdings) : Type 0 where
   pub legal : Legal history
   pub asked : (entry : Entry) → Among entry history → entry.op ≡ request entry.client entry.seq
   pub disjoint : AreDisjoint holdings
-  pub told : (group : Draw) (holding : Holding) → holdings group ≡ Some holding → IsToldOf history holding
+  pub told : (group : Draw) (holding : Holding) → holdings group ≡ Some holding → IsReportedOf history holding
 
 -- a holding with no pairs and an empty client table
 pub record IsBare (holding : Holding) : Type 0 where
@@ -230,7 +230,7 @@ pub record AreBare (holdings : Holdings) : Type 0 where
 -- a move that may be made leaves holdings that match the history with the entries that it adds
 abbrev pub MovesKeepHistories : Type 0
 MovesKeepHistories = (request : RequestOf) (history : List Entry) (holdings : Holdings) (move : Move)
-    → TellsHoldings request history holdings → MayMake request holdings move → TellsHoldings request (history ++ entries_by move holdings) (holdings_after move holdings)
+    → MatchesHoldings request history holdings → MayMake request holdings move → MatchesHoldings request (history ++ entries_by move holdings) (holdings_after move holdings)
 
 -- what any table noted after any prefix of the moves has its entry in the history of all moves: who answers by an older table answers by the history
 abbrev pub NotesStay : Holdings → List Move → Type 0
@@ -238,6 +238,6 @@ NotesStay holdings moves = (front more : List Move) → moves ≡ front ++ more 
     → HasNotes (history_by holdings moves) holding.clients
 
 -- moves that may be made from an empty start, one after another, have a legal history that matches what all groups hold after them, and what they noted before
-abbrev pub MovesTellHistories : Type 0
-MovesTellHistories = (request : RequestOf) (holdings : Holdings) → AreBare holdings → (moves : List Move) → MayMakeAll request holdings moves
-    → TellsHoldings request (history_by holdings moves) (holdings_after_all holdings moves) × NotesStay holdings moves
+abbrev pub MovesMakeHistories : Type 0
+MovesMakeHistories = (request : RequestOf) (holdings : Holdings) → AreBare holdings → (moves : List Move) → MayMakeAll request holdings moves
+    → MatchesHoldings request (history_by holdings moves) (holdings_after_all holdings moves) × NotesStay holdings moves

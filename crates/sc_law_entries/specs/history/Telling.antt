@@ -24,8 +24,8 @@ use Rattle.sc_base.specs.declared.ops.Op.{Op}
 use Rattle.sc_log_entries.specs.declared.LogEntry.{LogEntry}
 use Rattle.sc_log_entries.specs.declared.Transaction.{Transaction}
 use Rattle.sc_log_entries.specs.Definitions.{decision, transaction_in, is_commit, serves, arc_in, StoreWorld, first_world, named_group, told}
-use Rattle.sc_law_entries.specs.history.Moves.{RequestOf, TellsHoldings}
-use Rattle.sc_law_entries.specs.history.Worlds.{BeginBare, MakesMove, TellByMoves, holdings_in}
+use Rattle.sc_law_entries.specs.history.Moves.{RequestOf, MatchesHoldings}
+use Rattle.sc_law_entries.specs.history.Worlds.{BeginBare, MakesMove, MatchByMoves, holdings_in}
 
 -- a group has a range of the ring
 abbrev pub HasCut : StoreWorld → Draw → Type 0
@@ -110,14 +110,14 @@ abbrev pub MayBeTold : RequestOf → StoreWorld → LogEntry → Type 0
 MayBeTold request world entry = (group : Group) → named_group entry.group world.groups ≡ Some group → MayExecute request world group entry.command
 
 -- each entry may be applied when its turn comes
-abbrev pub MayAllBeTold : RequestOf → StoreWorld → List LogEntry → Type 0
-MayAllBeTold request world [] = Unit {0}
-MayAllBeTold request world (entry ∷ entries) = MayBeTold request world entry × MayAllBeTold request (told world entry) entries
+abbrev pub AllMayBeApplied : RequestOf → StoreWorld → List LogEntry → Type 0
+AllMayBeApplied request world [] = Unit {0}
+AllMayBeApplied request world (entry ∷ entries) = MayBeTold request world entry × AllMayBeApplied request (told world entry) entries
 
 -- where the history matches what all groups hold, an entry that may be applied makes a move
 abbrev pub EntriesMakeMoves : Type 0
-EntriesMakeMoves = (request : RequestOf) (world : StoreWorld) (entry : LogEntry) → TellsHoldings request world.history (holdings_in world) → MayBeTold request world entry → MakesMove request world entry
+EntriesMakeMoves = (request : RequestOf) (world : StoreWorld) (entry : LogEntry) → MatchesHoldings request world.history (holdings_in world) → MayBeTold request world entry → MakesMove request world entry
 
 -- entries of every kind that may be applied one after another from an empty start make a history that matches what all groups hold
-abbrev pub EntriesThatMayBeToldTell : Type 0
-EntriesThatMayBeToldTell = (request : RequestOf) (bases : List Base) → BeginBare bases → (entries : List LogEntry) → MayAllBeTold request (first_world bases) entries → TellByMoves request bases entries
+abbrev pub AppliedEntriesMakeHistory : Type 0
+AppliedEntriesMakeHistory = (request : RequestOf) (bases : List Base) → BeginBare bases → (entries : List LogEntry) → AllMayBeApplied request (first_world bases) entries → MatchByMoves request bases entries

@@ -13,7 +13,7 @@ use Rattle.sc_log_entries.specs.declared.Cut.{Cut}
 use Rattle.sc_log_entries.specs.declared.LogEntry.{LogEntry}
 use Rattle.sc_log_entries.specs.Definitions.{effective, HoldsItsPart, Covers, arc_in, first_cut, StoreWorld, first_world, named_group, told, world_of}
 use Rattle.sc_law_entries.specs.history.Laws.{LeavesWhole}
-use Rattle.sc_law_entries.specs.history.Moves.{Holding, Holdings, Move, RequestOf, HasNotes, MayMake, TellsHoldings, entries_by, holding_of, holdings_after}
+use Rattle.sc_law_entries.specs.history.Moves.{Holding, Holdings, Move, RequestOf, HasNotes, MayMake, MatchesHoldings, entries_by, holding_of, holdings_after}
 
 -- what each group with a range holds, by its effective record
 abbrev pub holdings_in : StoreWorld → Holdings
@@ -55,20 +55,20 @@ LogNotesStay bases entries = (front more : List LogEntry) → entries ≡ front 
     → HasNotes (world_of bases entries).history group.clients
 
 -- the history of a world is legal and matches what all groups hold, and each range's group has its part of the map
-pub record IsToldWorld (request : RequestOf) (world : StoreWorld) : Type 0 where
+pub record HistoryMatchesWorld (request : RequestOf) (world : StoreWorld) : Type 0 where
   pub legal : Legal world.history
-  pub told : TellsHoldings request world.history (holdings_in world)
+  pub told : MatchesHoldings request world.history (holdings_in world)
   pub parts : (cut : Cut) → Among cut world.ring → HoldsItsPart world cut
 
 -- after such entries the history of the requests that took effect is legal and matches what all groups hold, the ranges are those of the start, and the notes of all logs stay in the history
-pub record TellQuietly (request : RequestOf) (bases : List Base) (entries : List LogEntry) : Type 0 where
-  pub world : IsToldWorld request (world_of bases entries)
+pub record MatchQuietly (request : RequestOf) (bases : List Base) (entries : List LogEntry) : Type 0 where
+  pub world : HistoryMatchesWorld request (world_of bases entries)
   pub ring : (world_of bases entries).ring ≡ map first_cut bases
   pub notes : LogNotesStay bases entries
 
 -- requests, joins and leaves from an empty start, in any number of groups, make one legal history that matches what all groups hold
-abbrev pub QuietEntriesTell : Type 0
-QuietEntriesTell = (request : RequestOf) (bases : List Base) → BeginBare bases → (entries : List LogEntry) → Each (IsQuiet request) entries → TellQuietly request bases entries
+abbrev pub QuietEntriesMakeHistory : Type 0
+QuietEntriesMakeHistory = (request : RequestOf) (bases : List Base) → BeginBare bases → (entries : List LogEntry) → Each (IsQuiet request) entries → MatchQuietly request bases entries
 
 -- ---- entries of every kind
 
@@ -101,11 +101,11 @@ abbrev pub HasCutArc : StoreWorld → Cut → Type 0
 HasCutArc world cut = (group : Group) → effective world cut.group ≡ Some group → group.core.arc ≡ cut.arc
 
 -- the history matches what all groups hold, each range's group has its part of the map where its record has the range's arc, and the notes of all logs stay in the history
-pub record TellByMoves (request : RequestOf) (bases : List Base) (entries : List LogEntry) : Type 0 where
-  pub told : TellsHoldings request (world_of bases entries).history (holdings_in (world_of bases entries))
+pub record MatchByMoves (request : RequestOf) (bases : List Base) (entries : List LogEntry) : Type 0 where
+  pub told : MatchesHoldings request (world_of bases entries).history (holdings_in (world_of bases entries))
   pub parts : (cut : Cut) → Among cut (world_of bases entries).ring → HasCutArc (world_of bases entries) cut → HoldsItsPart (world_of bases entries) cut
   pub notes : LogNotesStay bases entries
 
 -- entries of which each makes a move, from an empty start, make a history that matches what all groups hold
-abbrev pub EntriesThatMoveTell : Type 0
-EntriesThatMoveTell = (request : RequestOf) (bases : List Base) → BeginBare bases → (entries : List LogEntry) → AllMakeMoves request (first_world bases) entries → TellByMoves request bases entries
+abbrev pub MovingEntriesMakeHistory : Type 0
+MovingEntriesMakeHistory = (request : RequestOf) (bases : List Base) → BeginBare bases → (entries : List LogEntry) → AllMakeMoves request (first_world bases) entries → MatchByMoves request bases entries

@@ -31,7 +31,7 @@ pub record AreFound (ahead : Ahead) (bases : List Base) (rows : Rows) : Type 0 w
   -- the children that a group's log creates are groups of the journal
   pub closed : (base : Base) → Among base (groups_at ahead bases rows) → (child : Base) → Among child (children_by ahead rows base) → Among child (groups_at ahead bases rows)
   -- the children that a prefix of a group's log creates are groups of the journal
-  pub fronts : (base : Base) → Among base (groups_at ahead bases rows) → (front later : List Command) → decided_log ahead base rows ≡ front ++ later
+  pub prefixes : (base : Base) → Among base (groups_at ahead bases rows) → (front later : List Command) → decided_log ahead base rows ≡ front ++ later
       → (child : Base) → Among child (children_of (group_of base) front) → Among child (groups_at ahead bases rows)
   -- the groups of the journal are exactly those that descend from the scenario's
   pub all : (base : Base) → IsFound ahead bases rows base → Among base (groups_at ahead bases rows)
@@ -62,7 +62,7 @@ pub record AreItsLogs (ahead : Ahead) (bases : List Base) (rows : Rows) : Type 0
   pub states : (name : Draw) → named_group name (world_at ahead bases rows).groups ≡ state_at ahead bases rows name
 
 -- the entries make one map, and what a group's log made it note, after each prefix of it, has its entry in the history
-pub record TellOneMap (ahead : Ahead) (bases : List Base) (rows : Rows) : Type 0 where
+pub record MakeOneMapWithNotes (ahead : Ahead) (bases : List Base) (rows : Rows) : Type 0 where
   pub map : IsOneMap (world_at ahead bases rows)
   pub notes : (base : Base) → Among base (groups_at ahead bases rows) → (front later : List Command) → decided_log ahead base rows ≡ front ++ later
       → HasNotes (history_at ahead bases rows) (state_after (group_of base) front).clients
@@ -70,7 +70,7 @@ pub record TellOneMap (ahead : Ahead) (bases : List Base) (rows : Rows) : Type 0
 -- ---- rows
 
 -- the row that decides the entry of the history at a place: it decides the call, for a group that was there before it
-pub record IsToldAt (ahead : Ahead) (bases : List Base) (rows : Rows) (place : ℕ) (entry : Entry) : Type 0 where
+pub record IsDecidedAt (ahead : Ahead) (bases : List Base) (rows : Rows) (place : ℕ) (entry : Entry) : Type 0 where
   pub before : Rows
   pub row : Row Mail OrderLine
   pub later : Rows
@@ -85,7 +85,7 @@ pub record IsToldAt (ahead : Ahead) (bases : List Base) (rows : Rows) (place : �
   pub call : Among (Call entry.client entry.seq entry.op) (added_by ahead before row base)
 
 -- what stays with more rows: the groups with their logs, the entries, the history, and the rows that decide its entries
-pub record StayAsTold (ahead : Ahead) (bases : List Base) (rows more : Rows) : Type 0 where
+pub record StayRecorded (ahead : Ahead) (bases : List Base) (rows more : Rows) : Type 0 where
   pub groups : (base : Base) → Among base (groups_at ahead bases rows) → Among base (groups_at ahead bases (rows ++ more))
   pub logs : (base : Base) → Among base (groups_at ahead bases rows) → Continues (decided_log ahead base rows) (log_at ahead bases (rows ++ more) base.core.id)
   pub entries : (later : List LogEntry) × (entries_at ahead bases (rows ++ more) ≡ entries_at ahead bases rows ++ later)

@@ -11,13 +11,13 @@ use Rattle.sc_ideal.specs.declared.Entry.{Entry}
 use Rattle.sc_sound.specs.Definitions.{Ahead, groups_at, entries_at, history_at, decided_log, IsSound}
 use Rattle.sc_scenario.specs.declared.scenarios.Scenario.{Scenario}
 use Rattle.sc_machine_table.specs.Definitions.{Group, group_of, state_after}
-use Rattle.sc_law_entries.specs.ring.Definitions.{Sources, IsAllowed, AreAllowed, first_told, BeginInPlace, stories_of}
+use Rattle.sc_law_entries.specs.ring.Definitions.{Sources, IsAllowed, AreAllowed, first_recorded, BeginInPlace, stories_of}
 use Rattle.sc_law_entries.specs.history.Definitions.{BeginBare}
 use Rattle.sc_law_entries.specs.logs.Allows.{AllowsAsItStands, MakesAllowed, GroupAllows}
 use Rattle.sc_law_entries.specs.logs.Beside.{HoldsBeside}
 use Rattle.sc_law_entries.specs.logs.Descent.{Rows}
 use Rattle.sc_law_entries.specs.logs.InTurn.{DecidesInTurn, DecideInTurn, DecidesForOne}
-use Rattle.sc_law_entries.specs.logs.Findings.{AreFound, AreOldOrNew, AreItsLogs, TellOneMap, IsToldAt, StayAsTold}
+use Rattle.sc_law_entries.specs.logs.Findings.{AreFound, AreOldOrNew, AreItsLogs, MakeOneMapWithNotes, IsDecidedAt, StayRecorded}
 
 -- each row, lawful or not, decides for one group at most
 abbrev pub RowsDecideForOne : Type 0
@@ -44,7 +44,7 @@ EntriesAreLogs = (sources : Sources) (ahead : Ahead) (bases : List Base) → Beg
 -- where each row decides in turn, each entry is allowed by those before it
 abbrev pub EntriesAreAllowed : Type 0
 EntriesAreAllowed = (sources : Sources) (ahead : Ahead) (bases : List Base) → BeginInPlace sources bases → (rows : Rows) → DecideInTurn sources ahead bases [] rows
-    → AreAllowed sources (first_told bases) (entries_at ahead bases rows)
+    → AreAllowed sources (first_recorded bases) (entries_at ahead bases rows)
 
 -- where each row decides in turn, a command that is allowed stays allowed with more rows
 abbrev pub AllowedStaysAllowed : Type 0
@@ -52,8 +52,8 @@ AllowedStaysAllowed = (sources : Sources) (ahead : Ahead) (bases : List Base) �
     → (name : Draw) (command : Command) → IsAllowed sources (stories_of bases (entries_at ahead bases rows)) name command → IsAllowed sources (stories_of bases (entries_at ahead bases (rows ++ more))) name command
 
 -- where each row decides in turn, a command that an entry of a group's log makes allowed is allowed
-abbrev pub FrontsAllow : Type 0
-FrontsAllow = (sources : Sources) (ahead : Ahead) (bases : List Base) → BeginInPlace sources bases → (rows : Rows) → DecideInTurn sources ahead bases [] rows
+abbrev pub PrefixesAllow : Type 0
+PrefixesAllow = (sources : Sources) (ahead : Ahead) (bases : List Base) → BeginInPlace sources bases → (rows : Rows) → DecideInTurn sources ahead bases [] rows
     → (base : Base) → Among base (groups_at ahead bases rows) → (front : List Command) (entry : Command) (later : List Command) → decided_log ahead base rows ≡ front ++ entry ∷ later
     → (name : Draw) (command : Command) → MakesAllowed sources base.core.id (state_after (group_of base) front) entry name command → IsAllowed sources (stories_of bases (entries_at ahead bases rows)) name command
 
@@ -68,18 +68,18 @@ abbrev pub GroupsAllowOthers : Type 0
 GroupsAllowOthers = (sources : Sources) (by : Draw) (group : Group) → GroupAllows sources by group
 
 -- where each row decides in turn, from groups that hold nothing, the entries make one map
-abbrev pub EntriesTellOneMap : Type 0
-EntriesTellOneMap = (sources : Sources) (ahead : Ahead) (bases : List Base) → BeginInPlace sources bases → BeginBare bases → (rows : Rows) → DecideInTurn sources ahead bases [] rows
-    → TellOneMap ahead bases rows
+abbrev pub EntriesMakeOneMap : Type 0
+EntriesMakeOneMap = (sources : Sources) (ahead : Ahead) (bases : List Base) → BeginInPlace sources bases → BeginBare bases → (rows : Rows) → DecideInTurn sources ahead bases [] rows
+    → MakeOneMapWithNotes ahead bases rows
 
 -- where each row decides in turn, each entry of the history is decided by a row that decides its call
-abbrev pub HistoryIsTold : Type 0
-HistoryIsTold = (sources : Sources) (ahead : Ahead) (bases : List Base) → BeginInPlace sources bases → (rows : Rows) → DecideInTurn sources ahead bases [] rows
-    → (place : ℕ) (entry : Entry) → slice_get (history_at ahead bases rows) place ≡ Some entry → IsToldAt ahead bases rows place entry
+abbrev pub HistoryIsDecided : Type 0
+HistoryIsDecided = (sources : Sources) (ahead : Ahead) (bases : List Base) → BeginInPlace sources bases → (rows : Rows) → DecideInTurn sources ahead bases [] rows
+    → (place : ℕ) (entry : Entry) → slice_get (history_at ahead bases rows) place ≡ Some entry → IsDecidedAt ahead bases rows place entry
 
 -- where each row decides in turn, groups, logs, entries, history and the rows that decide its entries stay with more rows
-abbrev pub ToldRowsStay : Type 0
-ToldRowsStay = (sources : Sources) (ahead : Ahead) (bases : List Base) → BeginInPlace sources bases → (rows more : Rows) → DecideInTurn sources ahead bases [] (rows ++ more) → StayAsTold ahead bases rows more
+abbrev pub DecidingRowsStay : Type 0
+DecidingRowsStay = (sources : Sources) (ahead : Ahead) (bases : List Base) → BeginInPlace sources bases → (rows more : Rows) → DecideInTurn sources ahead bases [] (rows ++ more) → StayRecorded ahead bases rows more
 
 -- ---- all together
 

@@ -6,7 +6,7 @@ use Rattle.sc_ideal.specs.Definitions.{Legal}
 use Rattle.sc_log_entries.specs.declared.Cut.{Cut}
 use Rattle.sc_log_entries.specs.declared.LogEntry.{LogEntry}
 use Rattle.sc_log_entries.specs.Definitions.{HoldsItsPart, world_of}
-use Rattle.sc_law_entries.specs.ring.Definitions.{Sources, AreAllowed, first_told, BeginInPlace, IsRingSound}
+use Rattle.sc_law_entries.specs.ring.Definitions.{Sources, AreAllowed, first_recorded, BeginInPlace, IsRingSound}
 use Rattle.sc_law_entries.specs.history.Definitions.{BeginBare, LogNotesStay}
 
 -- the ring is sound, the history is legal, the map after it, on each range, is the pairs of the range's group, and what any log ever made its group note has its entry in the history
@@ -18,4 +18,4 @@ pub record MakeOneMap (bases : List Base) (entries : List LogEntry) : Type 0 whe
 
 -- every list of allowed entries, from groups in place that hold nothing, makes one map
 abbrev pub AllowedEntriesMakeOneMap : Type 0
-AllowedEntriesMakeOneMap = (sources : Sources) (bases : List Base) (entries : List LogEntry) → BeginInPlace sources bases → BeginBare bases → AreAllowed sources (first_told bases) entries → MakeOneMap bases entries
+AllowedEntriesMakeOneMap = (sources : Sources) (bases : List Base) (entries : List LogEntry) → BeginInPlace sources bases → BeginBare bases → AreAllowed sources (first_recorded bases) entries → MakeOneMap bases entries

@@ -59,31 +59,31 @@ IsAllowed sources stories name (GiveUp tx) = Unit {0}
 -- ---- lists of entries
 
 -- the world with the stories of its transactions
-pub record ToldWorld : Type 0 where
+pub record StoryWorld : Type 0 where
   pub store : StoreWorld
   pub stories : Stories
 
 -- the world of a scenario's groups before any entry, with no story
-abbrev pub first_told : List Base → ToldWorld
-first_told bases = record { store = first_world bases; stories = no_stories }
+abbrev pub first_recorded : List Base → StoryWorld
+first_recorded bases = record { store = first_world bases; stories = no_stories }
 
 -- the stories after a command of the group that was found; where no group was found they stay as they are
-abbrev pub stories_told : Stories → Option Group → Command → Stories
-stories_told stories None command = stories
-stories_told stories (Some group) command = stories_after group command (applied group command).1 stories
+abbrev pub recorded_stories : Stories → Option Group → Command → Stories
+recorded_stories stories None command = stories
+recorded_stories stories (Some group) command = stories_after group command (applied group command).1 stories
 
 -- the world and the stories after one entry
-abbrev pub told_on : ToldWorld → LogEntry → ToldWorld
-told_on world entry = record {
+abbrev pub recorded_next : StoryWorld → LogEntry → StoryWorld
+recorded_next world entry = record {
   store = told world.store entry;
-  stories = stories_told world.stories (named_group entry.group world.store.groups) entry.command;
+  stories = recorded_stories world.stories (named_group entry.group world.store.groups) entry.command;
 }
 
 -- the world and the stories after a list of entries, in their order
-abbrev pub told_after : ToldWorld → List LogEntry → ToldWorld
-told_after = fold told_on
+abbrev pub recorded_after : StoryWorld → List LogEntry → StoryWorld
+recorded_after = fold recorded_next
 
 -- each entry is allowed by the stories that the entries before it leave
-abbrev pub AreAllowed : Sources → ToldWorld → List LogEntry → Type 0
+abbrev pub AreAllowed : Sources → StoryWorld → List LogEntry → Type 0
 AreAllowed sources world [] = Unit {0}
-AreAllowed sources world (entry ∷ entries) = IsAllowed sources world.stories entry.group entry.command × AreAllowed sources (told_on world entry) entries
+AreAllowed sources world (entry ∷ entries) = IsAllowed sources world.stories entry.group entry.command × AreAllowed sources (recorded_next world entry) entries

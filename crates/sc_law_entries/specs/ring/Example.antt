@@ -19,7 +19,7 @@ use Rattle.sc_machine_table.specs.Definitions.{Group, group_of, done, frozen_of}
 use Rattle.sc_log_entries.specs.declared.Cut.{Cut}
 use Rattle.sc_log_entries.specs.declared.LogEntry.{LogEntry}
 use Rattle.sc_log_entries.specs.Definitions.{world_of}
-use Rattle.sc_law_entries.specs.ring.Allowed.{Sources, AreAllowed, first_told}
+use Rattle.sc_law_entries.specs.ring.Allowed.{Sources, AreAllowed, first_recorded}
 use Rattle.sc_law_entries.specs.ring.Laws.{BeginInPlace}
 
 -- the name with this node and count
@@ -48,8 +48,8 @@ first_group name lo len members succ pred = record {
 }
 
 -- an entry of a group's log
-abbrev pub told_entry : Draw → ℕ → Command → LogEntry
-told_entry group slot command = record { group = group; slot = slot; command = command }
+abbrev pub example_entry : Draw → ℕ → Command → LogEntry
+example_entry group slot command = record { group = group; slot = slot; command = command }
 
 -- a range of the ring
 abbrev pub ring_cut_of : ℕ → ℕ → Draw → Cut
@@ -115,16 +115,16 @@ merge_outcome = Merged (record { group = drawn 0 1; lo = 0; members = 1 ∷ 2 �
 -- the entries of the merge
 abbrev pub merge_entries : List LogEntry
 merge_entries =
-    told_entry (drawn 0 2) 1 (Call 9 1 merge_put)
-    ∷ told_entry (drawn 0 1) 1 (Begin (drawn 1 1) At.Merge 1)
-    ∷ told_entry (drawn 0 2) 2 (Prepared (drawn 1 1) merge_offer)
-    ∷ told_entry (drawn 0 1) 2 (RecordVote (drawn 1 1) (Yes two_frozen) 2)
-    ∷ told_entry (drawn 0 3) 1 (Watched (drawn 1 1) merge_watch_asked)
-    ∷ told_entry (drawn 0 3) 2 (Call 8 1 watcher_put)
-    ∷ told_entry (drawn 0 1) 3 (RecordWatch (drawn 1 1) Cast.Yes 3)
-    ∷ told_entry (drawn 0 2) 3 (Finish (drawn 1 1) merge_outcome)
-    ∷ told_entry (drawn 0 3) 3 (Finish (drawn 1 1) merge_outcome)
-    ∷ told_entry (drawn 0 1) 4 (Call 9 2 merge_get)
+    example_entry (drawn 0 2) 1 (Call 9 1 merge_put)
+    ∷ example_entry (drawn 0 1) 1 (Begin (drawn 1 1) At.Merge 1)
+    ∷ example_entry (drawn 0 2) 2 (Prepared (drawn 1 1) merge_offer)
+    ∷ example_entry (drawn 0 1) 2 (RecordVote (drawn 1 1) (Yes two_frozen) 2)
+    ∷ example_entry (drawn 0 3) 1 (Watched (drawn 1 1) merge_watch_asked)
+    ∷ example_entry (drawn 0 3) 2 (Call 8 1 watcher_put)
+    ∷ example_entry (drawn 0 1) 3 (RecordWatch (drawn 1 1) Cast.Yes 3)
+    ∷ example_entry (drawn 0 2) 3 (Finish (drawn 1 1) merge_outcome)
+    ∷ example_entry (drawn 0 3) 3 (Finish (drawn 1 1) merge_outcome)
+    ∷ example_entry (drawn 0 1) 4 (Call 9 2 merge_get)
     ∷ []
 
 -- ---- the split
@@ -148,16 +148,16 @@ split_watch_asked child = record { coord = drawn 0 1; members = 1 ∷ 2 ∷ []; 
 -- the entries of the split: the first one is given up, its watcher's late Yes has no effect, and its name is not taken again
 abbrev pub split_entries : List LogEntry
 split_entries =
-    told_entry (drawn 0 1) 1 (Split 1073741824 (drawn 1 1) 1)
-    ∷ told_entry (drawn 0 1) 2 (GiveUp (drawn 1 1))
-    ∷ told_entry (drawn 0 2) 1 (Watched (drawn 1 1) (split_watch_asked (drawn 1 1)))
-    ∷ told_entry (drawn 0 1) 3 (RecordWatch (drawn 1 1) Cast.Yes 3)
-    ∷ told_entry (drawn 0 2) 2 (Finish (drawn 1 1) Abort)
-    ∷ told_entry (drawn 0 1) 4 (Split 1073741824 (drawn 1 1) 1)
-    ∷ told_entry (drawn 0 1) 5 (Split 1073741824 (drawn 1 2) 1)
-    ∷ told_entry (drawn 0 2) 3 (Watched (drawn 1 2) (split_watch_asked (drawn 1 2)))
-    ∷ told_entry (drawn 0 1) 6 (RecordWatch (drawn 1 2) Cast.Yes 3)
-    ∷ told_entry (drawn 0 2) 4 (Finish (drawn 1 2) Divided)
+    example_entry (drawn 0 1) 1 (Split 1073741824 (drawn 1 1) 1)
+    ∷ example_entry (drawn 0 1) 2 (GiveUp (drawn 1 1))
+    ∷ example_entry (drawn 0 2) 1 (Watched (drawn 1 1) (split_watch_asked (drawn 1 1)))
+    ∷ example_entry (drawn 0 1) 3 (RecordWatch (drawn 1 1) Cast.Yes 3)
+    ∷ example_entry (drawn 0 2) 2 (Finish (drawn 1 1) Abort)
+    ∷ example_entry (drawn 0 1) 4 (Split 1073741824 (drawn 1 1) 1)
+    ∷ example_entry (drawn 0 1) 5 (Split 1073741824 (drawn 1 2) 1)
+    ∷ example_entry (drawn 0 2) 3 (Watched (drawn 1 2) (split_watch_asked (drawn 1 2)))
+    ∷ example_entry (drawn 0 1) 6 (RecordWatch (drawn 1 2) Cast.Yes 3)
+    ∷ example_entry (drawn 0 2) 4 (Finish (drawn 1 2) Divided)
     ∷ []
 
 -- ---- both
@@ -165,7 +165,7 @@ split_entries =
 -- a list is allowed from a start with groups in place, and leaves this ring
 pub record IsExample (bases : List Base) (entries : List LogEntry) (ring : List Cut) : Type 0 where
   pub start : BeginInPlace sources bases
-  pub allowed : AreAllowed sources (first_told bases) entries
+  pub allowed : AreAllowed sources (first_recorded bases) entries
   pub after : (world_of bases entries).ring ≡ ring
 
 -- the list of the merge is allowed, and leaves a ring of two ranges

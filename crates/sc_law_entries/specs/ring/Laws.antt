@@ -10,7 +10,7 @@ use Rattle.sc_cmd.specs.declared.cores.Lock.TheVariants.{Free}
 use Rattle.sc_log_entries.specs.declared.Cut.{Cut}
 use Rattle.sc_log_entries.specs.declared.LogEntry.{LogEntry}
 use Rattle.sc_log_entries.specs.Definitions.{IsPlaced, ServesItsCut, Covers, first_cut, StoreWorld, named_group, world_of}
-use Rattle.sc_law_entries.specs.ring.Allowed.{Sources, IsAllowed, AreAllowed, ToldWorld, first_told, told_after}
+use Rattle.sc_law_entries.specs.ring.Allowed.{Sources, IsAllowed, AreAllowed, StoryWorld, first_recorded, recorded_after}
 use Rattle.sc_law_entries.specs.ring.Invariant.{Facts}
 use Rattle.sc_law_entries.specs.ring.Stories.{Stories}
 
@@ -44,18 +44,18 @@ pub record IsRingSound (world : StoreWorld) : Type 0 where
 
 -- after every list of allowed entries the ring is sound
 abbrev pub EntriesKeepTheRing : Type 0
-EntriesKeepTheRing = (sources : Sources) (bases : List Base) (entries : List LogEntry) → BeginInPlace sources bases → AreAllowed sources (first_told bases) entries
+EntriesKeepTheRing = (sources : Sources) (bases : List Base) (entries : List LogEntry) → BeginInPlace sources bases → AreAllowed sources (first_recorded bases) entries
     → IsRingSound (world_of bases entries)
 
 -- ---- locks, votes and decisions
 
 -- the stories of all transactions after a list of entries
 abbrev pub stories_of : List Base → List LogEntry → Stories
-stories_of bases entries = (told_after (first_told bases) entries).stories
+stories_of bases entries = (recorded_after (first_recorded bases) entries).stories
 
 -- after every list of allowed entries each lock, vote and decision is as the stories record it: from the entry that begins a transaction to its decision the coordinator is as it was, from its Yes to the end a participant is as it was frozen, and a watcher watches
 abbrev pub EntriesKeepThePromises : Type 0
-EntriesKeepThePromises = (sources : Sources) (bases : List Base) (entries : List LogEntry) → BeginInPlace sources bases → AreAllowed sources (first_told bases) entries
+EntriesKeepThePromises = (sources : Sources) (bases : List Base) (entries : List LogEntry) → BeginInPlace sources bases → AreAllowed sources (first_recorded bases) entries
     → Facts sources.owner (λ name. named_group name (world_of bases entries).groups) (stories_of bases entries)
 
 -- ---- drawn names
@@ -77,7 +77,7 @@ draw_of (RecordWatch tx vote by) = None
 
 -- a name occurs in the Begins and Splits of one group's log alone
 abbrev pub DrawsAreOfOneLog : Type 0
-DrawsAreOfOneLog = (sources : Sources) (bases : List Base) (entries : List LogEntry) → AreAllowed sources (first_told bases) entries
+DrawsAreOfOneLog = (sources : Sources) (bases : List Base) (entries : List LogEntry) → AreAllowed sources (first_recorded bases) entries
     → (a b : LogEntry) → Among a entries → Among b entries → (name : Draw) → draw_of a.command ≡ Some name → draw_of b.command ≡ Some name → a.group ≡ b.group
 
 -- ---- what is allowed
@@ -85,10 +85,10 @@ DrawsAreOfOneLog = (sources : Sources) (bases : List Base) (entries : List LogEn
 -- an entry that is allowed stays allowed after more allowed entries
 abbrev pub AllowedEntriesStayAllowed : Type 0
 AllowedEntriesStayAllowed = (sources : Sources) (bases : List Base) (entries more : List LogEntry) → BeginInPlace sources bases
-    → AreAllowed sources (first_told bases) entries → AreAllowed sources (told_after (first_told bases) entries) more
-    → (name : Draw) (command : Command) → IsAllowed sources (stories_of bases entries) name command → IsAllowed sources (told_after (told_after (first_told bases) entries) more).stories name command
+    → AreAllowed sources (first_recorded bases) entries → AreAllowed sources (recorded_after (first_recorded bases) entries) more
+    → (name : Draw) (command : Command) → IsAllowed sources (stories_of bases entries) name command → IsAllowed sources (recorded_after (recorded_after (first_recorded bases) entries) more).stories name command
 
 -- lists that are allowed one after another are allowed as one list
 abbrev pub AllowedListsAppend : Type 0
-AllowedListsAppend = (sources : Sources) (world : ToldWorld) (entries more : List LogEntry) → AreAllowed sources world entries
-    → AreAllowed sources (told_after world entries) more → AreAllowed sources world (entries ++ more)
+AllowedListsAppend = (sources : Sources) (world : StoryWorld) (entries more : List LogEntry) → AreAllowed sources world entries
+    → AreAllowed sources (recorded_after world entries) more → AreAllowed sources world (entries ++ more)

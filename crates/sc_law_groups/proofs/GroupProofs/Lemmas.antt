@@ -14,7 +14,7 @@ pub use Rattle.sc_law_groups.proofs.GroupProofs.Nodes.{IsNode}
 pub use Rattle.sc_law_groups.proofs.GroupProofs.Ticks.{MayTick}
 pub use Rattle.sc_law_groups.proofs.GroupProofs.Projected.{steps-push}
 pub use Rattle.sc_law_groups.proofs.GroupProofs.Places.{or_now, issue-push, Journal, split_at}
-pub use Rattle.sc_law_groups.proofs.GroupProofs.Orders.{TellsSo, IsToldSo, told_induction}
+pub use Rattle.sc_law_groups.proofs.GroupProofs.Orders.{TellsSo, GivesAllowedOrder, told_induction}
 pub use Rattle.sc_law_groups.proofs.GroupProofs.Clients.{IsAnswered, IsIssued}
 pub use Rattle.sc_law_groups.proofs.GroupProofs.Families.{h_of, Kept, IsLater, Moved, push, decided_made, entry_offered, Part, IsNodeAt, IsClientAt, Stepped, log_goes_on}
 pub use Rattle.sc_law_groups.proofs.GroupProofs.Replies.{front_is}

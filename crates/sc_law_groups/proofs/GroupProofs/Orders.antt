@@ -19,14 +19,14 @@ given false o y e = e
 
 module _ {O : Type 0} (Q : ℕ → O → Type 0) where
   -- an event that brings this actor only such orders
-  abbrev pub IsToldSo : ℕ → Event O → Type 0
-  IsToldSo who (Told order) = Q who order
-  IsToldSo who (Deliver mail) = Unit {0}
-  IsToldSo who Go = Unit {0}
-  IsToldSo who Tick = Unit {0}
-  IsToldSo who Crash = Unit {0}
-  IsToldSo who (Drop mail) = Unit {0}
-  IsToldSo who (Again mail) = Unit {0}
+  abbrev pub GivesAllowedOrder : ℕ → Event O → Type 0
+  GivesAllowedOrder who (Told order) = Q who order
+  GivesAllowedOrder who (Deliver mail) = Unit {0}
+  GivesAllowedOrder who Go = Unit {0}
+  GivesAllowedOrder who Tick = Unit {0}
+  GivesAllowedOrder who Crash = Unit {0}
+  GivesAllowedOrder who (Drop mail) = Unit {0}
+  GivesAllowedOrder who (Again mail) = Unit {0}
 
   -- a line that brings only such orders
   abbrev pub TellsSo : Line O → Type 0
@@ -79,25 +79,25 @@ module _ {O : Type 0} (Q : ℕ → O → Type 0) where
     -- ---- rows
 
     module _ (rows : List (Row M O)) where
-      acts_so : (who : ℕ) (event : Event O) (row : Row M O) → IsToldSo who event → acts s rows who event ≡ Some row → IsToldSo row.who row.event
+      acts_so : (who : ℕ) (event : Event O) (row : Row M O) → GivesAllowedOrder who event → acts s rows who event ≡ Some row → GivesAllowedOrder row.who row.event
       acts_so who event row q e =
           let m = map-some (λ seat. row_of s.table seat rows event) (find (λ seat. eqb seat.who who) s.births) row e in
           let found = find_found (λ (seat : Seat A). eqb seat.who who) s.births m.0 m.1 in
-          subst (λ (r : Row M O). IsToldSo r.who r.event) m.2 (subst (λ n. IsToldSo n event) (sym (eqb-true m.0.who who found.1)) q)
+          subst (λ (r : Row M O). GivesAllowedOrder r.who r.event) m.2 (subst (λ n. GivesAllowedOrder n event) (sym (eqb-true m.0.who who found.1)) q)
 
-      network_so : (event : Event O) (row : Row M O) → ((who : ℕ) → IsToldSo who event) → network event ≡ row → IsToldSo row.who row.event
-      network_so event row q e = subst (λ (r : Row M O). IsToldSo r.who r.event) e (q 0)
+      network_so : (event : Event O) (row : Row M O) → ((who : ℕ) → GivesAllowedOrder who event) → network event ≡ row → GivesAllowedOrder row.who row.event
+      network_so event row q e = subst (λ (r : Row M O). GivesAllowedOrder r.who r.event) e (q 0)
 
-      delivery_so : (mail : ℕ) (row : Row M O) → delivery s rows mail ≡ Some row → IsToldSo row.who row.event
+      delivery_so : (mail : ℕ) (row : Row M O) → delivery s rows mail ≡ Some row → GivesAllowedOrder row.who row.event
       delivery_so mail row e = let p = and_then-some (λ m. acts s rows (s.receiver m) (Deliver mail)) (numbered (mails rows) mail) row e in acts_so (s.receiver p.0) (Deliver mail) row tt p.2
 
-      repeat_so : (mail : ℕ) (row : Row M O) → repeat_of s rows mail ≡ Some row → IsToldSo row.who row.event
+      repeat_so : (mail : ℕ) (row : Row M O) → repeat_of s rows mail ≡ Some row → GivesAllowedOrder row.who row.event
       repeat_so mail row e =
           let p = and_then-some (λ m. cond (may_get (numbers_of s.births) rows (s.receiver m)) (Some (network (Again mail))) None) (numbered (mails rows) mail) row e in
           let q = cond_some (may_get (numbers_of s.births) rows (s.receiver p.0)) (network (Again mail)) row p.2 in
           network_so (Again mail) row (λ who. tt) q.1
 
-      row_so : (line : Line O) (row : Row M O) → TellsSo line → Allows s rows (Once line) row → IsToldSo row.who row.event
+      row_so : (line : Line O) (row : Row M O) → TellsSo line → Allows s rows (Once line) row → GivesAllowedOrder row.who row.event
       row_so (GoLine who) row q e = acts_so who Go row tt (given (has_gone rows who) (acts s rows who Go) row e)
       row_so (DeliverLine who k) row q e = let p = and_then-some (λ mail. acts s rows who (Deliver mail)) (kth (waiting s rows (Some who)) k) row e in acts_so who (Deliver p.0) row tt p.2
       row_so (DropLine who k) row q e = let p = map-some (λ mail. network (Drop mail)) (kth (waiting s rows (Some who)) k) row e in network_so (Drop p.0) row (λ who. tt) p.2
@@ -109,7 +109,7 @@ module _ {O : Type 0} (Q : ℕ → O → Type 0) where
       row_so (Free most workers) row q e = cc
       row_so (Storm number most) row q e = cc
 
-      storm_row_so : (w v : ℕ) (row : Row M O) → storm_row s rows w v ≡ Some row → IsToldSo row.who row.event
+      storm_row_so : (w v : ℕ) (row : Row M O) → storm_row s rows w v ≡ Some row → GivesAllowedOrder row.who row.event
       storm_row_so zero v row e = let p = map-some (λ mail. network (Drop mail)) (picked s rows v) row e in network_so (Drop p.0) row (λ who. tt) p.2
       storm_row_so (suc zero) v row e = repeat_so (1 + v % length (mails rows)) row e
       storm_row_so (suc (suc zero)) v row e =
@@ -118,19 +118,19 @@ module _ {O : Type 0} (Q : ℕ → O → Type 0) where
       storm_row_so (suc (suc (suc more))) v row e = let p = and_then-some (delivery s rows) (picked s rows v) row e in delivery_so p.0 row p.2
 
       -- what a task allows brings only such orders
-      pub allows_so : (task : Task O) (row : Row M O) → IsTaskSo task → Allows s rows task row → IsToldSo row.who row.event
+      pub allows_so : (task : Task O) (row : Row M O) → IsTaskSo task → Allows s rows task row → GivesAllowedOrder row.who row.event
       allows_so (Once line) row q e = row_so line row q e
       allows_so (Settles left) row q e = let p = and_then-some (delivery s rows) (kth (waiting s rows None) 1) row e in delivery_so p.0 row p.2
       allows_so (Frees left) row q e = let p = and_then-some (λ mail. acts s rows row.who (Deliver mail)) (kth (waiting s rows (Some row.who)) 1) row e in acts_so row.who (Deliver p.0) row tt p.2
       allows_so (Storms words) row q e = storm_row_so (words.0 % 16) words.1 row e
 
-      may_add_so : (tasks : List (Task O)) (row : Row M O) → Each IsTaskSo tasks → MayAdd s rows tasks row → IsToldSo row.who row.event
+      may_add_so : (tasks : List (Task O)) (row : Row M O) → Each IsTaskSo tasks → MayAdd s rows tasks row → GivesAllowedOrder row.who row.event
       may_add_so [] row q e = absurd e
       may_add_so (task ∷ tasks) row q e = allows_so task row q.0 e
 
     -- ---- induction over lawful journals, where nodes get only such orders
 
-    module _ (P : List (Row M O) → Type 0) (keeps : (rows : List (Row M O)) (row : Row M O) → P rows → IsToldSo row.who row.event → IsStep s rows row → P (rows ++ row ∷ [])) where
+    module _ (P : List (Row M O) → Type 0) (keeps : (rows : List (Row M O)) (row : Row M O) → P rows → GivesAllowedOrder row.who row.event → IsStep s rows row → P (rows ++ row ∷ [])) where
       walk_told : (place : WalkPlace M O) (rows : List (Row M O)) → Each IsTaskSo place.tasks → P place.rows → IsWalk s place rows → P (place.rows ++ rows)
       walk_told place [] q now walk = subst P (sym (append-nil place.rows)) now
       walk_told place (row ∷ rows) q now walk =

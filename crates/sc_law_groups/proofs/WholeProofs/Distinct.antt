@@ -11,7 +11,7 @@ use Rattle.sc_cmd.specs.Definitions.{is_changed, decided_in, is_alone}
 use Rattle.sc_machine_table.specs.Definitions.{Group, applied}
 use Rattle.sc_log_entries.specs.Definitions.{after_outcome, named_group}
 use Rattle.sc_log_entries.specs.declared.LogEntry.{LogEntry}
-use Rattle.sc_law_entries.specs.ring.Definitions.{Sources, IsVoteCast, IsAllowed, AreAllowed, ToldWorld, first_told, told_on, told_after, stories_told, Groups, LockOk, IsCoordinating, IsPromised, BeginInPlace, stories_of, Story, Stories, put, retold, unsigned, new_story, vote_in, watch_vote_in, with_vote, with_watch_vote, with_decision, with_asked, with_answer, stories_after}
+use Rattle.sc_law_entries.specs.ring.Definitions.{Sources, IsVoteCast, IsAllowed, AreAllowed, StoryWorld, first_recorded, recorded_next, recorded_after, recorded_stories, Groups, LockOk, IsCoordinating, IsPromised, BeginInPlace, stories_of, Story, Stories, put, retold, unsigned, new_story, vote_in, watch_vote_in, with_vote, with_watch_vote, with_decision, with_asked, with_answer, stories_after}
 use Rattle.sc_law_entries.proofs.RingProofs.Lemmas.{Decisions, decisions, outcome_of, settle_by, living, living_by, eff, view_of, arc_of, succ_of, Old, IsPair, not_back, at_start, Kept, Ring, KeptWorld, kept_on}
 use Rattle.sc_law_groups.specs.whole.Definitions.{PartiesAreApart}
 use Rattle.sc_law_groups.proofs.WholeProofs.Coming.{IsDull, comes}
@@ -149,18 +149,18 @@ module _ (sources : Sources) (ring : Ring) (gs : Groups) (ys : Stories) (g : Dra
   entry_apart (GiveUp tx) a old = apart_retold ys tx _ (λ y e. decided_same (decided_in (applied s (GiveUp tx)).1) y (old tx y e)) old
 
 -- with one entry more
-told_apart : (sources : Sources) (w : ToldWorld) (e : LogEntry) → KeptWorld sources.owner w → IsAllowed sources w.stories e.group e.command → PartiesAreApart w.stories → PartiesAreApart (told_on w e).stories
+told_apart : (sources : Sources) (w : StoryWorld) (e : LogEntry) → KeptWorld sources.owner w → IsAllowed sources w.stories e.group e.command → PartiesAreApart w.stories → PartiesAreApart (recorded_next w e).stories
 told_apart sources w e k a old = by (named_group e.group w.store.groups) refl
   where
-    by : (o : Option Group) → named_group e.group w.store.groups ≡ o → PartiesAreApart (stories_told w.stories o e.command)
+    by : (o : Option Group) → named_group e.group w.store.groups ≡ o → PartiesAreApart (recorded_stories w.stories o e.command)
     by None is = old
     by (Some s) is = entry_apart sources _ _ w.stories e.group s k.kept is e.command a old
 
 -- with all entries
-all_apart : (sources : Sources) (w : ToldWorld) (entries : List LogEntry) → KeptWorld sources.owner w → AreAllowed sources w entries → PartiesAreApart w.stories → PartiesAreApart (told_after w entries).stories
+all_apart : (sources : Sources) (w : StoryWorld) (entries : List LogEntry) → KeptWorld sources.owner w → AreAllowed sources w entries → PartiesAreApart w.stories → PartiesAreApart (recorded_after w entries).stories
 all_apart sources w [] k a old = old
-all_apart sources w (e ∷ entries) k a old = all_apart sources (told_on w e) entries (kept_on sources w e k a.0) a.1 (told_apart sources w e k a.0 old)
+all_apart sources w (e ∷ entries) k a old = all_apart sources (recorded_next w e) entries (kept_on sources w e k a.0) a.1 (told_apart sources w e k a.0 old)
 
 -- after allowed entries
-pub parties_are_apart : (sources : Sources) (bases : List Base) → BeginInPlace sources bases → (entries : List LogEntry) → AreAllowed sources (first_told bases) entries → PartiesAreApart (stories_of bases entries)
-parties_are_apart sources bases start entries allowed = all_apart sources (first_told bases) entries (at_start sources bases start) allowed (λ tx story e. cc)
+pub parties_are_apart : (sources : Sources) (bases : List Base) → BeginInPlace sources bases → (entries : List LogEntry) → AreAllowed sources (first_recorded bases) entries → PartiesAreApart (stories_of bases entries)
+parties_are_apart sources bases start entries allowed = all_apart sources (first_recorded bases) entries (at_start sources bases start) allowed (λ tx story e. cc)

@@ -14,7 +14,7 @@ use Rattle.sc_log_entries.specs.Definitions.{birth_of, is_named, named_group, wi
 use Rattle.sc_log_entries.specs.declared.LogEntry.{LogEntry}
 use Rattle.sc_log_entries.proofs.Lemmas.{births_are_children}
 use Rattle.sc_paxos_words.proofs.Lemmas.{Each-among, Each-append, find_found}
-use Rattle.sc_law_entries.specs.ring.Definitions.{Sources, IsAllowed, AreAllowed, ToldWorld, first_told, told_on, told_after, stories_told, stories_of, Story, Stories, put, retold, unsigned, new_story, vote_by, vote_in, watch_vote_in, with_vote, with_watch_vote, with_decision, with_asked, stories_after}
+use Rattle.sc_law_entries.specs.ring.Definitions.{Sources, IsAllowed, AreAllowed, StoryWorld, first_recorded, recorded_next, recorded_after, recorded_stories, stories_of, Story, Stories, put, retold, unsigned, new_story, vote_by, vote_in, watch_vote_in, with_vote, with_watch_vote, with_decision, with_asked, stories_after}
 use Rattle.sc_law_groups.specs.whole.Definitions.{IsFresh, MergesFit}
 use Rattle.sc_law_groups.proofs.WholeProofs.Children.{fresh_child}
 use Rattle.sc_law_groups.proofs.WholeProofs.Members.{members_after}
@@ -179,15 +179,15 @@ rosters_after s c groups roster all =
     (kids (birth_of s c (applied s c).1) (λ kid e. fresh_child s c roster kid (births_are_children s c ∙ e)))
 
 -- with one entry more
-pub record Fit (w : ToldWorld) : Type 0 where
+pub record Fit (w : StoryWorld) : Type 0 where
   pub rosters : HaveRosters w.store.groups
   pub stories : AllFit w.stories
 
 -- groups and stories with one entry more
-told_fit : (sources : Sources) (w : ToldWorld) (e : LogEntry) → IsAllowed sources w.stories e.group e.command → Fit w → Fit (told_on w e)
+told_fit : (sources : Sources) (w : StoryWorld) (e : LogEntry) → IsAllowed sources w.stories e.group e.command → Fit w → Fit (recorded_next w e)
 told_fit sources w e a k = by (named_group e.group w.store.groups) refl
   where
-    by : (o : Option Group) → named_group e.group w.store.groups ≡ o → Fit (record { store = after_command w.store o e.command; stories = stories_told w.stories o e.command })
+    by : (o : Option Group) → named_group e.group w.store.groups ≡ o → Fit (record { store = after_command w.store o e.command; stories = recorded_stories w.stories o e.command })
     by None is = k
     by (Some s) is =
         let there = find_found (is_named e.group) w.store.groups s is in
@@ -195,9 +195,9 @@ told_fit sources w e a k = by (named_group e.group w.store.groups) refl
         record { rosters = rosters_after s e.command w.store.groups roster k.rosters; stories = entry_fit sources w.stories e.group s roster e.command a k.stories }
 
 -- with all entries
-all_fit : (sources : Sources) (w : ToldWorld) (entries : List LogEntry) → AreAllowed sources w entries → Fit w → Fit (told_after w entries)
+all_fit : (sources : Sources) (w : StoryWorld) (entries : List LogEntry) → AreAllowed sources w entries → Fit w → Fit (recorded_after w entries)
 all_fit sources w [] a k = k
-all_fit sources w (e ∷ entries) a k = all_fit sources (told_on w e) entries a.1 (told_fit sources w e a.0 k)
+all_fit sources w (e ∷ entries) a k = all_fit sources (recorded_next w e) entries a.1 (told_fit sources w e a.0 k)
 
 -- the groups at the start have rosters
 first_rosters : (bases : List Base) → ((base : Base) → Among base bases → IsFresh base) → HaveRosters (map group_of bases)
@@ -205,7 +205,7 @@ first_rosters [] fresh = tt
 first_rosters (base ∷ bases) fresh = ((fresh base (inl refl)).roster, first_rosters bases (λ b a. fresh b (inr a)))
 
 -- after allowed entries
-pub merges_fit : (sources : Sources) (bases : List Base) → ((base : Base) → Among base bases → IsFresh base) → (entries : List LogEntry) → AreAllowed sources (first_told bases) entries → MergesFit (stories_of bases entries)
+pub merges_fit : (sources : Sources) (bases : List Base) → ((base : Base) → Among base bases → IsFresh base) → (entries : List LogEntry) → AreAllowed sources (first_recorded bases) entries → MergesFit (stories_of bases entries)
 merges_fit sources bases fresh entries allowed tx story e offer offered merge frozen vote =
-    let k = all_fit sources (first_told bases) entries allowed (record { rosters = first_rosters bases fresh; stories = λ t y is. cc }) in
+    let k = all_fit sources (first_recorded bases) entries allowed (record { rosters = first_rosters bases fresh; stories = λ t y is. cc }) in
     (k.stories tx story e).1 offer offered merge frozen vote

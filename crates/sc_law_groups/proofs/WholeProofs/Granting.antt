@@ -16,7 +16,7 @@ use Rattle.sc_sound.specs.Definitions.{Ahead, groups_at, decided_log}
 use Rattle.sc_scenario.specs.declared.scenarios.Scenario.{Scenario}
 use Rattle.sc_law_entries.specs.ring.Definitions.{Sources, IsAllowed, BeginInPlace, Story, Stories, unsigned, unsigned_watch}
 use Rattle.sc_law_entries.specs.logs.Definitions.{AllowsAsItStands, MakesAllowed, GroupAllows, Rows, DecideInTurn}
-use Rattle.sc_law_entries.proofs.LogsProofs.Lemmas.{fronts_allow, states_allow, groups_allow_others}
+use Rattle.sc_law_entries.proofs.LogsProofs.Lemmas.{prefixes_allow, states_allow, groups_allow_others}
 use Rattle.sc_law_groups.proofs.GroupProofs.Lemmas.{h_of, rule, first, AreSaid, Meets, Speaks}
 use Rattle.sc_law_groups.specs.whole.Definitions.{stories_at, MayQueue, IsHeardAt, IsFresh, PartiesAreApart, MergesFit}
 use Rattle.sc_law_groups.proofs.WholeProofs.Coming.{Binds}
@@ -78,19 +78,19 @@ module _ (sources : Sources) (ahead : Ahead) (scenario : Scenario) (start : Begi
   state_allows log is other c stands = states_allow sources ahead scenario.groups start rows turn base among log (drop (length log) decided) (on log is) other c stands
 
   -- what an entry of its log makes allowed
-  front_allows : (front : List Command) (entry : Command) (later : List Command) → decided ≡ front ++ entry ∷ later → (other : Draw) (c : Command) → MakesAllowed sources name (after front) entry other c → IsAllowed sources told other c
-  front_allows front entry later e other c makes = fronts_allow sources ahead scenario.groups start rows turn base among front entry later e other c makes
+  prefix_allows : (front : List Command) (entry : Command) (later : List Command) → decided ≡ front ++ entry ∷ later → (other : Draw) (c : Command) → MakesAllowed sources name (after front) entry other c → IsAllowed sources told other c
+  prefix_allows front entry later e other c makes = prefixes_allow sources ahead scenario.groups start rows turn base among front entry later e other c makes
 
   -- what the last entry of a log makes allowed
   entry_allows : (log : List Command) (c : Command) → Log (log ++ c ∷ []) → (other : Draw) (d : Command) → MakesAllowed sources name (after log) c other d → IsAllowed sources told other d
   entry_allows log c is other d makes =
-      front_allows log c (drop (length (log ++ c ∷ [])) decided) (on (log ++ c ∷ []) is ∙ append_assoc log (c ∷ []) (drop (length (log ++ c ∷ [])) decided)) other d makes
+      prefix_allows log c (drop (length (log ++ c ∷ [])) decided) (on (log ++ c ∷ []) is ∙ append_assoc log (c ∷ []) (drop (length (log ++ c ∷ [])) decided)) other d makes
 
   -- what an earlier entry of a log makes allowed
   ever_allows : (log : List Command) → Log log → (Did : Group → Command → Type 0) (since : Ever Did (group_of base) log) → (other : Draw) (c : Command) → MakesAllowed sources name (after since.front) since.entry other c → IsAllowed sources told other c
   ever_allows log is Did since other c makes =
       let rest = drop (length log) decided in
-      front_allows since.front since.entry (since.later ++ rest)
+      prefix_allows since.front since.entry (since.later ++ rest)
       (on log is ∙ ap (λ l. l ++ rest) since.is ∙ append_assoc since.front (since.entry ∷ since.later) rest) other c makes
 
   -- what is begun has a participant

@@ -14,9 +14,9 @@ use Rattle.sc_scenario.specs.declared.scenarios.SchedLine.{SchedLine}
 use Rattle.sc_scenario.specs.declared.scenarios.SchedLine.TheVariants as scheduled
 use Rattle.sc_law_entries.specs.ring.Definitions.{IsAllowed}
 use Rattle.sc_law_entries.specs.names.Definitions.{IsAtPosition, TakesOrder, TakenOrdersAreAllowed, TakesWish, TakenWishesAreAllowed, WishesAreAtPositions, owner_in}
-use Rattle.sc_law_groups.proofs.GroupProofs.Lemmas.{IsToldSo, TellsSo, told_induction}
+use Rattle.sc_law_groups.proofs.GroupProofs.Lemmas.{GivesAllowedOrder, TellsSo, told_induction}
 use Rattle.sc_law_entries.specs.logs.Definitions.{Rows}
-use Rattle.sc_law_groups.specs.whole.Definitions.{section_op, ToldAreAllowed, WishedAreAllowed, OrdersAreAllowed}
+use Rattle.sc_law_groups.specs.whole.Definitions.{section_op, QueuedOrdersAreAllowed, WishedAreAllowed, OrdersAreAllowed}
 
 -- ---- the schedule
 
@@ -50,7 +50,7 @@ placed_lines nodes clients (line ∷ lines) bounded = (placed_line nodes clients
 module _ (ahead : Ahead) (words : ℕ → ℕ → ℕ × ℕ) (scenario : Scenario) (bounded : IsBounded scenario) where
   -- a row that brings no order but at a position
   abbrev IsPlacedRow : Row Mail OrderLine → Type 0
-  IsPlacedRow row = IsToldSo IsPlaced row.who row.event
+  IsPlacedRow row = GivesAllowedOrder IsPlaced row.who row.event
 
   placed_rows : (rows : Rows) → Lawful ahead words scenario rows → Each IsPlacedRow rows
   placed_rows rows lawful =
@@ -58,10 +58,10 @@ module _ (ahead : Ahead) (words : ℕ → ℕ → ℕ × ℕ) (scenario : Scenar
       (placed_lines scenario.nodes scenario.clients scenario.lines (Each-from_All (IsBoundedLine scenario.nodes scenario.clients) scenario.lines bounded.lines)) tt lawful
 
   -- what is queued for an order of the schedule is allowed by the owners of the whole journal
-  told_allowed : TakenOrdersAreAllowed → (rows : Rows) → Lawful ahead words scenario rows → ToldAreAllowed (record { owner = owner_in ahead scenario rows; request = section_op scenario }) ahead scenario rows
+  told_allowed : TakenOrdersAreAllowed → (rows : Rows) → Lawful ahead words scenario rows → QueuedOrdersAreAllowed (record { owner = owner_in ahead scenario rows; request = section_op scenario }) ahead scenario rows
   told_allowed law rows lawful before row later are line told low high node value_is r found taken stories =
       let all = subst (Each IsPlacedRow) are (placed_rows rows lawful) in
-      let placed = subst (IsToldSo IsPlaced row.who) told (Each-among IsPlacedRow (before ++ row ∷ later) row all (Among-right row before (row ∷ later) (inl refl))) in
+      let placed = subst (GivesAllowedOrder IsPlaced row.who) told (Each-among IsPlacedRow (before ++ row ∷ later) row all (Among-right row before (row ∷ later) (inl refl))) in
       let takes : TakesOrder ahead scenario before row line node r = record { low = low; high = high; value_is = value_is; event_is = told; found = found; taken = taken } in
       subst (λ (journal : Rows). IsAllowed (record { owner = owner_in ahead scenario journal; request = section_op scenario }) stories (group_of_order line.order) (ordered_command (next_name node.draws) line.number line.order)) (sym are)
       (law ahead scenario before row later line node r takes placed (section_op scenario) stories)

@@ -12,10 +12,10 @@ use Rattle.sc_paxos_law.proofs.Lemmas.{Among-left, Among-right, get_pushed}
 use Rattle.sc_scenario.specs.declared.scenarios.Asks.{Asks}
 use Rattle.sc_scenario.specs.declared.scenarios.Scenario.{Scenario}
 use Rattle.sc_sound.specs.Definitions.{Ahead, system_of, replies_of, children_of, groups_at, birth_at, entries_at, world_at, decided_log, decided_state, issues, kept_replies}
-use Rattle.sc_law_entries.specs.ring.Definitions.{Sources, IsAllowed, first_told, told_after, BeginInPlace}
+use Rattle.sc_law_entries.specs.ring.Definitions.{Sources, IsAllowed, first_recorded, recorded_after, BeginInPlace}
 use Rattle.sc_law_entries.proofs.RingProofs.Lemmas.{at_start, kept_after, store_after, some_none}
 use Rattle.sc_law_entries.specs.logs.Definitions.{Rows, added_by, newborn_by, AreFound, IsNewborn, DecidesInTurn, DecideInTurn}
-use Rattle.sc_law_entries.proofs.LogsProofs.Lemmas.{allowed_stays_allowed, BornBy, born_by, all_allowed, told_rows, groups_are_found, groups_are_old_or_new, group_found, told_rows_stay, rows_go_on, Told, state_there}
+use Rattle.sc_law_entries.proofs.LogsProofs.Lemmas.{allowed_stays_allowed, BornBy, born_by, all_allowed, deciding_rows, groups_are_found, groups_are_old_or_new, group_found, deciding_rows_stay, rows_go_on, Told, state_there}
 use Rattle.sc_law_entries.proofs.NamesProofs.Lemmas.{Each-drop}
 use Rattle.sc_law_groups.proofs.GroupProofs.Lemmas.{first_of, IsIssued, IsAnswered, h_of, Kept, Stepped, IsLater, Moved, push, log_goes_on, decided_made, or_now, issue-push, HasPlayers, MayTell, KnowsOffspring, moved}
 use Rattle.sc_law_groups.specs.whole.Definitions.{stories_at, IsIssuedCall, MayQueue, IsHeardAt, IsFresh, HasSeats, AsksAre, PartiesAreApart, MergesFit}
@@ -74,7 +74,7 @@ module _ (sources : Sources) (ahead : Ahead) (words : ℕ → ℕ → ℕ × ℕ
 
     -- what the entries of their logs record
     told : Told sources ahead scenario.groups rows
-    told = told_rows sources ahead scenario.groups start rows h.turn
+    told = deciding_rows sources ahead scenario.groups start rows h.turn
 
     -- each group stands among all with the state after its log
     state_is : (b : Base) → Among b (bases rows) → named_group b.core.id (world_at ahead scenario.groups rows).groups ≡ Some (decided_state ahead b rows)
@@ -109,9 +109,9 @@ module _ (sources : Sources) (ahead : Ahead) (words : ℕ → ℕ → ℕ × ℕ
       born : Steps rows row → (b : Base) (a : Among b (bases rows)) → BornBy b.core.id (world_at ahead scenario.groups rows) (length (decided_log ahead b rows) + 1) (decided_state ahead b rows) (added b)
       born steps b a =
           let old = entries_at ahead scenario.groups rows in
-          let w = told_after (first_told scenario.groups) old in
-          let store_is = store_after (first_told scenario.groups) old in
-          let kept = kept_after sources (first_told scenario.groups) old (at_start sources scenario.groups start) told.allowed in
+          let w = recorded_after (first_recorded scenario.groups) old in
+          let store_is = store_after (first_recorded scenario.groups) old in
+          let kept = kept_after sources (first_recorded scenario.groups) old (at_start sources scenario.groups start) told.allowed in
           let may = all_allowed sources scenario.groups start old told.allowed b.core.id (length (decided_log ahead b rows) + 1) (added b) (allowed steps b a) in
           subst (λ (x : StoreWorld). BornBy b.core.id x (length (decided_log ahead b rows) + 1) (decided_state ahead b rows) (added b)) store_is
           (born_by sources b.core.id w kept (decided_state ahead b rows) (ap (λ (x : StoreWorld). named_group b.core.id x.groups) store_is ∙ state_is b a) (length (decided_log ahead b rows) + 1) (added b) may)
@@ -179,8 +179,8 @@ module _ (sources : Sources) (ahead : Ahead) (words : ℕ → ℕ → ℕ × ℕ
         let on = goes_on_from ahead b rows (h.kept.parts b a).lawful log is.is_log in
         let birth = sym (births_are_children (state_after (group_of b) is.front) is.command) ∙ is.child_is in
         record {
-          among = found.fronts b a log (drop (length log) decided) on child (child_in (group_of b) is.front is.command child birth);
-          alone = λ other o same. found.apart other child o (found.fronts b a log (drop (length log) decided) on child (child_in (group_of b) is.front is.command child birth)) same;
+          among = found.prefixes b a log (drop (length log) decided) on child (child_in (group_of b) is.front is.command child birth);
+          alone = λ other o same. found.apart other child o (found.prefixes b a log (drop (length log) decided) on child (child_in (group_of b) is.front is.command child birth)) same;
           open_slots = seats.open_slots;
         }
 
@@ -249,7 +249,7 @@ module _ (sources : Sources) (ahead : Ahead) (words : ℕ → ℕ → ℕ × ℕ
       pub holds_next : Holds (rows ++ row ∷ [])
       holds_next =
           let turn = turned_all row steps in
-          let stay = told_rows_stay sources ahead scenario.groups start rows (row ∷ []) turn in
+          let stay = deciding_rows_stay sources ahead scenario.groups start rows (row ∷ []) turn in
           record {
             kept = grown ahead scenario scenario.groups (bases rows) (bases (rows ++ row ∷ [])) route made heard (rows ++ row ∷ []) stay.groups (λ b other client seq op m. m) after old_or_new;
             turn = turn;

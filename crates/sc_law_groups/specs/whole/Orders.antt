@@ -12,8 +12,8 @@ use Rattle.sc_law_entries.specs.names.Definitions.{waited, wished_at}
 use Rattle.sc_law_entries.specs.logs.Definitions.{Rows}
 
 -- what a node of the scenario queues for an order that it takes, in a row of the journal, is allowed at the order's group, whatever the stories are
-abbrev pub ToldAreAllowed : Sources → Ahead → Scenario → Rows → Type 0
-ToldAreAllowed sources ahead scenario rows = (before : Rows) (row : Row Mail OrderLine) (later : Rows) → rows ≡ before ++ row ∷ later
+abbrev pub QueuedOrdersAreAllowed : Sources → Ahead → Scenario → Rows → Type 0
+QueuedOrdersAreAllowed sources ahead scenario rows = (before : Rows) (row : Row Mail OrderLine) (later : Rows) → rows ≡ before ++ row ∷ later
     → (line : OrderLine) → row.event ≡ Told line → 1 ≤ row.who → row.who ≤ scenario.nodes → (node : NodeState) → value player_table (node_seat ahead scenario.groups scenario.policy row.who) before ≡ Node node
     → (r : ReplicaState) → replica_of (group_of_order line.order) node.replicas ≡ Some r → untaken node.draws line r ≡ None
     → (stories : Stories) → IsAllowed sources stories (group_of_order line.order) (ordered_command (next_name node.draws) line.number line.order)
@@ -28,5 +28,5 @@ WishedAreAllowed sources ahead scenario rows = (before : Rows) (row : Row Mail O
 
 -- what is queued for orders of the schedule and of policies is allowed
 pub record OrdersAreAllowed (sources : Sources) (ahead : Ahead) (scenario : Scenario) (rows : Rows) : Type 0 where
-  pub told : ToldAreAllowed sources ahead scenario rows
+  pub told : QueuedOrdersAreAllowed sources ahead scenario rows
   pub wished : WishedAreAllowed sources ahead scenario rows

@@ -69,12 +69,12 @@ entries_push me name group (entry ∷ entries) command =
     ∙ sym (append_assoc first (entry_answers me name next entries) (effect_answers me name (answer_of (applied (state_after next entries) command).1) command))
 
 -- a counted call gets its answer, and no other
-pub told_answers : (answer : Option AnswerBody) (command : Command) (place : Place) → answers_in (told_call answer command place).1 ≡ answers_in place.1 ++ effect_answers place.0.me (name_of place.0) answer command
+pub reported_answers : (answer : Option AnswerBody) (command : Command) (place : Place) → answers_in (told_call answer command place).1 ≡ answers_in place.1 ++ effect_answers place.0.me (name_of place.0) answer command
 unfolding told_call answered put_back
-told_answers (Some answer) (Call client seq op) (r, mails) = answer_adds mails r.me (client_actor client) (name_of r) seq answer
-told_answers None (Call client seq op) (r, mails) = sym (append-nil (answers_in mails))
-told_answers (Some answer) _ (r, mails) = sym (append-nil (answers_in mails))
-told_answers None _ (r, mails) = sym (append-nil (answers_in mails))
+reported_answers (Some answer) (Call client seq op) (r, mails) = answer_adds mails r.me (client_actor client) (name_of r) seq answer
+reported_answers None (Call client seq op) (r, mails) = sym (append-nil (answers_in mails))
+reported_answers (Some answer) _ (r, mails) = sym (append-nil (answers_in mails))
+reported_answers None _ (r, mails) = sym (append-nil (answers_in mails))
 
 -- ---- the cause of each
 

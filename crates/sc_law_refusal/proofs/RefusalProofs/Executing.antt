@@ -15,8 +15,8 @@ use Rattle.sc_law_entries.proofs.NamesProofs.Lemmas.{opt_slot, slot_without, fli
 use Rattle.sc_law_walks.proofs.Lemmas.{welcomed_place, cleared, either_way}
 use Rattle.sc_law_refusal.specs.refusal.Definitions.{answers_in, effect_answers, log_with, log_after}
 use Rattle.sc_law_refusal.proofs.RefusalProofs.Keeping.{Kept, KeptOne, Due, Holds, back_kept, flying_kept}
-use Rattle.sc_law_refusal.proofs.RefusalProofs.Plain.{others_plain, told_plain, spoken_plain}
-use Rattle.sc_law_refusal.proofs.RefusalProofs.Answering.{told_answers}
+use Rattle.sc_law_refusal.proofs.RefusalProofs.Plain.{others_plain, reported_plain, spoken_plain}
+use Rattle.sc_law_refusal.proofs.RefusalProofs.Answering.{reported_answers}
 use Rattle.sc_law_refusal.proofs.RefusalProofs.Standing.{AllCaused, plain_caused, entry_caused, turned_caused, StandsIn, FineAs, Fine, turned_fine, resent}
 use Rattle.sc_law_refusal.proofs.RefusalProofs.Locking.{entry_turns, still_allowed}
 use Rattle.sc_law_refusal.proofs.RefusalProofs.Stopping.{ended_fine, stopped_fine, elected_fine, welcomed_fine}
@@ -70,7 +70,7 @@ module _ (start : ReplicaState) (A : Command → Type 0) (G : Draw → ℕ → T
   answers_so : (answer : Option AnswerBody) (command : Command) (r : ReplicaState) (mails : List Mail) (f : F (r, mails)) → answer ≡ answer_of (applied r.group command).1
       → answers_in (told_call answer command (entered command r, mails)).1 ≡ answers_in mails ++ effect_answers start.me (name_of start) (answer_of (applied (state_after start.group f.1.entries) command).1) command
   answers_so answer command r mails f e =
-      let here : answers_in (told_call answer command (entered command r, mails)).1 ≡ answers_in mails ++ effect_answers (entered command r).me (name_of (entered command r)) answer command = told_answers answer command (entered command r, mails) in
+      let here : answers_in (told_call answer command (entered command r, mails)).1 ≡ answers_in mails ++ effect_answers (entered command r).me (name_of (entered command r)) answer command = reported_answers answer command (entered command r, mails) in
       here
       ∙ ap (λ (me : ℕ). answers_in mails ++ effect_answers me (name_of (entered command r)) answer command) (entered_me command r ∙ f.1.me_is)
       ∙ ap (λ (name : Draw). answers_in mails ++ effect_answers start.me name answer command) (entered_name command r ∙ f.1.name_is)
@@ -111,7 +111,7 @@ module _ (start : ReplicaState) (A : Command → Type 0) (G : Draw → ℕ → T
   unfolding told_effect
   effect_fine None command place f = f
   effect_fine (Some result) command (r, mails) f =
-      (f.0, resent start A G W Q false false r mails _ f.1 (told_plain (AllCaused start A G W Q f.1.entries false false) (plain_caused start A G W Q f.1.entries false false) r.me (order_number command) result mails f.1.sent))
+      (f.0, resent start A G W Q false false r mails _ f.1 (reported_plain (AllCaused start A G W Q f.1.entries false false) (plain_caused start A G W Q f.1.entries false false) r.me (order_number command) result mails f.1.sent))
 
   -- a counted entry, of a command that was kept
   pub counted_fine : (command : Command) (r : ReplicaState) (mails : List Mail) → Kept A G command → F (r, mails) → F (announced true (applied r.group command).1 command (entered command r, mails))

@@ -75,9 +75,9 @@ module _ (Sent : List Mail → Type 0) (plain : (me to : ℕ) (body : MailBody) 
   others_plain me (node ∷ nodes) body mails b m =
       others_plain me nodes body (cond (eqb node me) mails (sent me node body mails)) b (either_way Sent (eqb node me) mails (sent me node body mails) m (plain me node body mails b m))
 
-  pub told_plain : (me number : ℕ) (result : ToldResult) (mails : List Mail) → Sent mails → Sent (told_order me number result mails)
+  pub reported_plain : (me number : ℕ) (result : ToldResult) (mails : List Mail) → Sent mails → Sent (told_order me number result mails)
   unfolding told_order
-  told_plain me number result mails m = either_way Sent (nat_lt 0 number) (sent me 0 (Told number result) mails) mails (plain me 0 (Told number result) mails tt m) m
+  reported_plain me number result mails m = either_way Sent (nat_lt 0 number) (sent me 0 (Told number result) mails) mails (plain me 0 (Told number result) mails tt m) m
 
   -- ---- the parties of a transaction
 
@@ -114,7 +114,7 @@ module _ (Sent : List Mail → Type 0) (plain : (me to : ℕ) (body : MailBody) 
 
   result_plain : (me : ℕ) (result : Option ToldResult) (number : ℕ) (mails : List Mail) → Sent mails → Sent (told_result me result number mails)
   result_plain me None number mails m = m
-  result_plain me (Some result) number mails m = told_plain me number result mails m
+  result_plain me (Some result) number mails m = reported_plain me number result mails m
 
   begun_plain : (me : ℕ) (before : Before) (effect : Effect) (command : Command) (mails : List Mail) → Sent mails → Sent (told_begun me before effect command mails)
   unfolding told_begun

@@ -10,7 +10,7 @@ use Rattle.sc_paxos_words.specs.Definitions.{below, new_leader}
 use Rattle.sc_node_table.specs.Definitions.{open_nodes, elected, ended, stopped, saw, install_to, asked_to_promise, welcomed_all, sent, answered, answered_all, told_order, dismissed, dismissed_all, ReplicaState, Place, name_of, next, under_way}
 use Rattle.sc_law_walks.proofs.Lemmas.{either_way}
 use Rattle.sc_law_refusal.proofs.RefusalProofs.Keeping.{Kept, KeptAll, way_kept, fewer_due}
-use Rattle.sc_law_refusal.proofs.RefusalProofs.Plain.{told_plain}
+use Rattle.sc_law_refusal.proofs.RefusalProofs.Plain.{reported_plain}
 use Rattle.sc_law_refusal.proofs.RefusalProofs.Standing.{CauseSo, AllCaused, plain_caused, answer_caused, stopped_caused, Stands, FineAs, Fine, with_plain, with_all}
 
 module _ (start : ReplicaState) (A : Command → Type 0) (G : Draw → ℕ → Type 0) (W : Ballot → Draw → ℕ) (Q : Type 0) where
@@ -38,7 +38,7 @@ module _ (start : ReplicaState) (A : Command → Type 0) (G : Draw → ℕ → T
     answers_caused (command ∷ commands) mails k c = answers_caused commands (answered me group answer command mails) k.1 (answered_caused command mails k.0 c)
 
     desk : (number : ℕ) (hint : Option ℕ) (mails : List Mail) → C mails → C (told_order me number (Tells.Refused (Why.NotLeader hint)) mails)
-    desk number hint mails c = told_plain (AllCaused start A G W Q entries refused turned) (plain_caused start A G W Q entries refused turned) me number (Tells.Refused (Why.NotLeader hint)) mails c
+    desk number hint mails c = reported_plain (AllCaused start A G W Q entries refused turned) (plain_caused start A G W Q entries refused turned) me number (Tells.Refused (Why.NotLeader hint)) mails c
 
     dismissed_caused : (hint : Option ℕ) (command : Command) (mails : List Mail) → Kept A G command → C mails → C (dismissed me group hint answer command mails)
     unfolding dismissed

@@ -14,7 +14,7 @@ use Rattle.sc_live_steps.proofs.FollowingProofs.Lemmas.{slots_are_kept, prepares
 use Rattle.sc_live_journals.specs.rows.Definitions.{view_at, progress_at, marks_at, taken_mark, begun_course, led_course, elected_course, with_event, IsKind, IsReplicasRow}
 use Rattle.sc_live_journals.proofs.RowsProofs.Lemmas.{rows_keep, same_some, rows_are, view_others}
 use Rattle.sc_live_journals.specs.groups.Definitions.{Ends, hint_in, hints_at, dated_at, IsWellLed, IsStage, LeavesWell, LeadsWell, ElectsWell, RowsKeepLed}
-use Rattle.sc_live_journals.proofs.GroupsProofs.Dating.{taken_dated, taken_same, with_slot, with_none, rows_dated}
+use Rattle.sc_live_journals.proofs.GroupsProofs.PrepareSlots.{taken_dated, taken_same, with_slot, with_none, rows_dated}
 
 -- ---- what is the same for marks that are the same
 
@@ -225,7 +225,7 @@ module _ (at : Sets) (over : Ends) (by : Tellers) (words : ℕ → ℕ → ℕ �
         low = slots_are_kept.leads at now (after_ c) seat.who (taken_dated name (mails rows) event) sent_dated dated dated_then (dated_row c) followed_dated dated_leads
             (record {
               low = λ who next. subst (λ ms. AreLow next (dated_for name who ms)) (sym row.sends_all) (l.low who next);
-              own = λ some. none_of (dated seat.who) (subst (Each IsNoPrepare) (sym (marks_same seat.who)) (own_is_kept.executes at now (after_ c) seat.who (option_map (λ d. d.0) (taken_dated name (mails rows) event)) (λ who. marks_in (sent_dated who)) marks dated_leads stage.was.own some));
+              own = λ some. none_of (dated seat.who) (subst (Each IsNoPrepare) (sym (marks_same seat.who)) (own_is_kept.execution at now (after_ c) seat.who (option_map (λ d. d.0) (taken_dated name (mails rows) event)) (λ who. marks_in (sent_dated who)) marks dated_leads stage.was.own some));
             }) was_low;
         own = own_is_kept.leads at now (after_ c) seat.who taken sent marks marks_then (row_in c) leads stage.was.followed.follows l.counts stage.was.own;
         orderly = orderly_then (λ other e runs.
@@ -246,18 +246,18 @@ module _ (at : Sets) (over : Ends) (by : Tellers) (words : ℕ → ℕ → ℕ �
   keeps_electing : (ballot : Ballot) (r : ReplicaState) (after : Place) → IsReplicasRow births rows seat event name (Some r) after → ElectsWell at births rows seat event base course ballot after → IsWellLed at over by words births then_ base (elected_course course ballot)
   keeps_electing ballot r after row e =
       let c = elected_course course ballot in
-      let elects = e.elects in
-      let some = with_slot (taken_dated name (mails rows) event) elects.mark (taken_same name (mails rows) event ∙ elects.takes) in
+      let self_election = e.self_election in
+      let some = with_slot (taken_dated name (mails rows) event) self_election.mark (taken_same name (mails rows) event ∙ self_election.takes) in
       record {
-        followed = rows_keep.elects at words births rows seat event base course ballot r after stage.rosters stage.timely stage.was.followed row elects e.runs e.leads;
-        heeded = hints_are_kept.elects at by now (after_ c) seat.who taken sent marks marks_then hints hints_then stage.rosters (row_in c) elects stage.was.followed.follows others_hint tt stage.was.heeded;
-        low = slots_are_kept.elects at now (after_ c) seat.who some.0 sent_dated dated dated_then (subst (λ o. IsDatedRow now (after_ c) seat.who o sent_dated dated dated_then) some.1 (dated_row c)) followed_dated
-            (elects_same at now (after_ c) seat.who (Some some.0.0) sent (λ who. marks_in (sent_dated who)) sent_same (subst (λ o. Elects at now (after_ c) seat.who o sent) (elects.takes ∙ ap Some (sym some.2)) elects))
+        followed = rows_keep.self_election at words births rows seat event base course ballot r after stage.rosters stage.timely stage.was.followed row self_election e.runs e.leads;
+        heeded = hints_are_kept.self_election at by now (after_ c) seat.who taken sent marks marks_then hints hints_then stage.rosters (row_in c) self_election stage.was.followed.follows others_hint tt stage.was.heeded;
+        low = slots_are_kept.self_election at now (after_ c) seat.who some.0 sent_dated dated dated_then (subst (λ o. IsDatedRow now (after_ c) seat.who o sent_dated dated dated_then) some.1 (dated_row c)) followed_dated
+            (elects_same at now (after_ c) seat.who (Some some.0.0) sent (λ who. marks_in (sent_dated who)) sent_same (subst (λ o. Elects at now (after_ c) seat.who o sent) (self_election.takes ∙ ap Some (sym some.2)) self_election))
             (λ who. subst (λ ms. Each (λ (d : Dated). course.newest ≤ d.1) (dated_for name who ms)) (sym row.sends_all) (e.low who)) was_low;
-        own = own_is_kept.elects at now (after_ c) seat.who taken sent marks marks_then (row_in c) elects stage.was.followed.follows (record { none = λ who. refl; told = e.told }) stage.was.own;
+        own = own_is_kept.self_election at now (after_ c) seat.who taken sent marks marks_then (row_in c) self_election stage.was.followed.follows (record { none = λ who. refl; told = e.told }) stage.was.own;
         orderly = orderly_then (λ other view runs. subst IsOrderly (same_some (view_at births then_ name seat.who) after.0 other row.is view) e.orderly);
-        young = λ none. absurd (true≢false (sym (ap (λ (x : Course). x.runs) (stage.was.young (none_before (some_there after row.is) none))) ∙ elects.idle));
-        ends = sym elects.stands ∙ stage.was.ends;
+        young = λ none. absurd (true≢false (sym (ap (λ (x : Course). x.runs) (stage.was.young (none_before (some_there after row.is) none))) ∙ self_election.idle));
+        ends = sym self_election.stands ∙ stage.was.ends;
         rests = stage.was.rests;
       }
 
@@ -267,5 +267,5 @@ rows_keep_led = record {
   idle = λ at over by words births rows seat event base course stage leaves idle hint. keeps_idle at over by words births rows seat event base course stage leaves idle hint;
   takes = λ at over by words births rows seat event base course stage leaves takes hint. keeps_taking at over by words births rows seat event base course stage leaves takes hint;
   leads = λ at over by words births rows seat event base course r after stage row l. keeps_leading at over by words births rows seat event base course stage r after row l;
-  elects = λ at over by words births rows seat event base course ballot r after stage row e. keeps_electing at over by words births rows seat event base course stage ballot r after row e;
+  self_election = λ at over by words births rows seat event base course ballot r after stage row e. keeps_electing at over by words births rows seat event base course stage ballot r after row e;
 }

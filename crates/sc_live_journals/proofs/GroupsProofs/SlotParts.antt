@@ -14,7 +14,7 @@ use Rattle.sc_node_table.specs.declared.Before.{Before}
 use Rattle.sc_law_walks.proofs.Lemmas.{entered_next, welcomed_place, landed_place, either_way}
 use Rattle.sc_live_journals.specs.groups.Definitions.{HasFrom, IsSlotKept}
 use Rattle.sc_live_journals.proofs.GroupsProofs.SlotLists.{fly_past, fly_pushed, wait_past}
-use Rattle.sc_live_journals.proofs.GroupsProofs.Clearing.{none_mapped, none_first}
+use Rattle.sc_live_journals.proofs.GroupsProofs.QuietLeaders.{none_mapped, none_first}
 use Rattle.sc_node_table.proofs.Lemmas.{one-shorter}
 use Rattle.sc_live_steps.proofs.FollowingProofs.Lemmas.{none_there as none_is}
 
@@ -269,8 +269,8 @@ acts_kept act (r, mails) k = pumps (with_act act r, mails) (either_way (λ (x : 
 pub ends : (hint : Option ℕ) (answer : AnswerBody) (place : Place) → K place → K (ended hint answer place)
 ends hint answer place k = from_parts (next place.0) (ended hint answer place) (ended_well (next place.0) (next place.0) true hint answer place (to_parts place k))
 
-pub elects : (place : Place) → K place → K (elected place)
-elects place k = from_parts (next place.0) (elected place) (elected_well (next place.0) (next place.0) true place (to_parts place k))
+pub self_election : (place : Place) → K place → K (elected place)
+self_election place k = from_parts (next place.0) (elected place) (elected_well (next place.0) (next place.0) true place (to_parts place k))
 
 pub sees : (ballot : Ballot) (place : Place) → K place → K (saw ballot place)
 sees ballot place k = from_parts (next place.0) (saw ballot place) (saw_well (next place.0) (next place.0) true ballot place (to_parts place k))

@@ -14,7 +14,7 @@ use Rattle.sc_node_table.specs.Definitions.{with_act, has_act, act_queued, ended
 use Rattle.sc_law_walks.proofs.Lemmas.{promised_place, asked_place, either_way}
 use Rattle.sc_live_journals.specs.groups.Definitions.{FlyFrom, WaitFrom, HasFrom, IsSlotKept}
 use Rattle.sc_live_journals.proofs.GroupsProofs.SlotLists.{fly_without, fly_polled, flies_from, wait_in, in_other}
-use Rattle.sc_live_journals.proofs.GroupsProofs.SlotParts.{K, KAfter, off_done, empty_done, pumps, acts_kept, ends, elects, sees, sends, looks, executed_well}
+use Rattle.sc_live_journals.proofs.GroupsProofs.SlotParts.{K, KAfter, off_done, empty_done, pumps, acts_kept, ends, self_election, sees, sends, looks, executed_well}
 
 no_room : (b c : Bool) (o : Option Command) → c ≡ false → cond (b && c) o None ≡ None
 no_room true true o e = absurd (true≢false e)
@@ -263,7 +263,7 @@ module _ (me : ℕ) where
   unfolding tick_row
   tick_well on drawer (r, mails) k =
       either_way K (is_some r.group.core.gone || not (is_member (members r) r.me)) _ _ k
-      (either_way K (not (settled r)) _ _ (elects (r, mails) k)
+      (either_way K (not (settled r)) _ _ (self_election (r, mails) k)
       (either_way K (is_idle r) _ _ (reminding_well on drawer (r, told_last (entry_at (next r - 1) r.log) r mails) k) (reminding_well on drawer (r, asked_again r (next r) r.sets mails) k)))
 
   -- ---- all mail

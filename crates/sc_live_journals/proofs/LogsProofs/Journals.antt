@@ -13,15 +13,15 @@ use Rattle.sc_scenario.specs.declared.scenarios.Scenario.{Scenario}
 use Rattle.sc_node_table.specs.Definitions.{NodeState, ReplicaState, name_of, next, numbers_from, slots_ahead}
 use Rattle.sc_sound.specs.Definitions.{groups_at, decided_log, Ahead, Player, Lawful, births, node_seat, client_seat, player_table, system_of, schedule, accepts_at}
 use Rattle.sc_law_entries.specs.ring.Definitions.{Sources}
-use Rattle.sc_law_entries.specs.logs.Definitions.{Rows, AreFound, StayAsTold, DecideInTurn}
-use Rattle.sc_law_entries.proofs.LogsProofs.Lemmas.{groups_are_found, told_rows_stay}
+use Rattle.sc_law_entries.specs.logs.Definitions.{Rows, AreFound, StayRecorded, DecideInTurn}
+use Rattle.sc_law_entries.proofs.LogsProofs.Lemmas.{groups_are_found, deciding_rows_stay}
 use Rattle.sc_law_groups.specs.group.Definitions.{proposer_steps, asked_in, promises_at, steps}
 use Rattle.sc_law_groups.proofs.GroupProofs.Lemmas.{h_of, Part, grown_learnt, IsLearnt, Holds as Held, held, Steps, rule, IsFlying, IsReplica, AreSets, next_after, IsOneOf, steps-push, front_is, among_numbers}
 use Rattle.sc_law_groups.specs.whole.Definitions.{BeginsWell, OrdersAreAllowed, MayQueue, IsHeardAt}
 use Rattle.sc_law_groups.proofs.WholeProofs.Lemmas.{holds, Holds, fewer_orders}
 use Rattle.sc_live_steps.specs.following.Definitions.{AreAt}
 use Rattle.sc_live_journals.specs.logs.Definitions.{HasReplica}
-use Rattle.sc_live_journals.proofs.LogsProofs.Along.{IsAlong, are_at}
+use Rattle.sc_live_journals.proofs.LogsProofs.ReplicasAlongLogs.{IsAlong, are_at}
 
 -- ---- the steps of more rows
 
@@ -76,8 +76,8 @@ module _ (sources : Sources) (ahead : Ahead) (words : ℕ → ℕ → ℕ × ℕ
       holds sources ahead words scenario route b.place b.seats b.asks b.apart b.fresh rows (fewer_orders sources ahead scenario rows more (subst (OrdersAreAllowed sources ahead scenario) e orders))
       (lawful-prefix (system_of ahead words scenario) (schedule scenario) rows more (subst (Lawful ahead words scenario) e lawful))
 
-  pub stay : (rows more : Rows) → journal ≡ rows ++ more → StayAsTold ahead scenario.groups rows more
-  stay rows more e = told_rows_stay sources ahead scenario.groups b.place rows more (subst (DecideInTurn sources ahead scenario.groups []) e whole.turn)
+  pub stay : (rows more : Rows) → journal ≡ rows ++ more → StayRecorded ahead scenario.groups rows more
+  stay rows more e = deciding_rows_stay sources ahead scenario.groups b.place rows more (subst (DecideInTurn sources ahead scenario.groups []) e whole.turn)
 
   module _ (base : Base) (stands : Among base (bases journal)) where
     pub part : Part ahead scenario scenario.groups (bases journal) route (MayQueue sources ahead scenario) (IsHeardAt sources ahead scenario) journal base
@@ -88,8 +88,8 @@ module _ (sources : Sources) (ahead : Ahead) (words : ℕ → ℕ → ℕ × ℕ
     roster = (whole.fresh base stands).roster
 
     -- each log of its steps is a prefix of its log
-    pub fronts : (log : List Command) → IsLog (rule ahead base) (h_of journal base) log → (length log ≤ length (decided_log ahead base journal)) × (take (length log) (decided_log ahead base journal) ≡ log)
-    fronts = front_is ahead base journal part.lawful
+    pub prefixes : (log : List Command) → IsLog (rule ahead base) (h_of journal base) log → (length log ≤ length (decided_log ahead base journal)) × (take (length log) (decided_log ahead base journal) ≡ log)
+    prefixes = front_is ahead base journal part.lawful
 
     -- mail of first rows is mail of the journal
     pub sent_in : (rows more : Rows) → journal ≡ rows ++ more → (mail : Mail) → Among mail (mails rows) → Among mail (mails journal)
@@ -147,7 +147,7 @@ module _ (sources : Sources) (ahead : Ahead) (words : ℕ → ℕ → ℕ × ℕ
       later_steps = (let more = more_steps base.core.id rows has.more in (more.0, ap (steps base.core.id) has.front ∙ more.1))
 
       -- it is along the group's log
-      pub along : (open_slots : ahead.slots ≡ slots_ahead) → IsAlong ahead open_slots base roster (h_of journal base) part.lawful (decided_log ahead base journal) fronts r
+      pub along : (open_slots : ahead.slots ≡ slots_ahead) → IsAlong ahead open_slots base roster (h_of journal base) part.lawful (decided_log ahead base journal) prefixes r
       along open_slots =
           let later = later_steps in
           record {
@@ -163,7 +163,7 @@ module _ (sources : Sources) (ahead : Ahead) (words : ℕ → ℕ → ℕ × ℕ
       unfolding along
       opens open_slots =
           let k = along open_slots in
-          are_at ahead open_slots base roster (h_of journal base) part.lawful (decided_log ahead base journal) fronts k.whole k.is_log (next r) r.sets
+          are_at ahead open_slots base roster (h_of journal base) part.lawful (decided_log ahead base journal) prefixes k.whole k.is_log (next r) r.sets
           (subst (λ n. AreSets ahead base replica.whole n r.sets) (sym k.next_is) replica.sets)
 
       -- as many as are open

@@ -20,14 +20,14 @@ use Rattle.sc_law_groups.specs.whole.Definitions.{BeginsWell, section_op, Orders
 use Rattle.sc_law_groups.proofs.WholeProofs.Lemmas.{orders_allowed}
 use Rattle.sc_live_steps.specs.following.Definitions.{IsNext, AreNext, DecidesNext, AreAt}
 use Rattle.sc_live_journals.specs.logs.Definitions.{logged_sets, IsGroupOf, HasReplica, IsLogged, IsLoggedState, SlotsHaveRosters, ReplicasAreLogged, CommandsComeNext, StatesAreLogged, BringsNodes, HasNodes, EntriesBringNodes, MembersAreNodes}
-use Rattle.sc_live_journals.proofs.LogsProofs.Along.{IsAlong, first_sets, rosters, by_log, are_at, after_log, members_are, name_is, entered_along, entered_opens, entered_many, is_next, are_next, are_entries}
-use Rattle.sc_live_journals.proofs.LogsProofs.Bringing.{begins_nodes, brings_nodes}
-use Rattle.sc_live_journals.proofs.LogsProofs.Counting.{counted_learnt, each_with_slot}
-use Rattle.sc_live_journals.proofs.LogsProofs.Journals.{part, roster, fronts, sent_in, along, opens, many, flying}
+use Rattle.sc_live_journals.proofs.LogsProofs.ReplicasAlongLogs.{IsAlong, first_sets, rosters, by_log, are_at, after_log, members_are, name_is, entered_along, entered_opens, entered_many, is_next, are_next, are_entries}
+use Rattle.sc_live_journals.proofs.LogsProofs.EntryNodes.{begins_nodes, brings_nodes}
+use Rattle.sc_live_journals.proofs.LogsProofs.CountedMajorities.{counted_learnt, each_with_slot}
+use Rattle.sc_live_journals.proofs.LogsProofs.Journals.{part, roster, prefixes, sent_in, along, opens, many, flying}
 use Rattle.sc_live_journals.proofs.LogsProofs.Nodes.{slots_have_nodes}
 use Rattle.sc_live_journals.proofs.LogsProofs.Nodes as so
 use Rattle.sc_paxos_words.proofs.Lemmas.{Each-weaker}
-use Rattle.sc_live_journals.proofs.LogsProofs.UpToNodes.{up_to_node, has}
+use Rattle.sc_live_journals.proofs.LogsProofs.NodeNumbers.{up_to_node, has}
 
 -- what the laws under this one say of valid scenarios
 module _ (bounded : ValidScenariosAreBounded) (begin : ValidScenariosBeginWell) (allowed : TakenOrdersAreAllowed) (wishes : TakenWishesAreAllowed) (positions : WishesAreAtPositions) (free : OtherNamesAreFree) where
@@ -56,17 +56,17 @@ module _ (bounded : ValidScenariosAreBounded) (begin : ValidScenariosBeginWell) 
     abbrev first_members : IsRoster base.core.members
     first_members = roster sources ahead words scenario route well journal orders group.lawful base group.stands
 
-    abbrev all_fronts : (log : List Command) → IsLog (rule ahead base) h log → (length log ≤ length all) × (take (length log) all ≡ log)
-    all_fronts = fronts sources ahead words scenario route well journal orders group.lawful base group.stands
+    abbrev all_prefixes : (log : List Command) → IsLog (rule ahead base) h log → (length log ≤ length all) × (take (length log) all ≡ log)
+    all_prefixes = prefixes sources ahead words scenario route well journal orders group.lawful base group.stands
 
     abbrev Along : ReplicaState → Type 0
-    Along r = IsAlong ahead group.open_slots base first_members h lawful_steps all all_fronts r
+    Along r = IsAlong ahead group.open_slots base first_members h lawful_steps all all_prefixes r
 
     first_ones : (slot : ℕ) → slot < 1 + slots_ahead → logged_sets ahead base journal slot ≡ base.core.members
-    first_ones slot low = first_sets ahead group.open_slots base first_members h lawful_steps all all_fronts slot (omega (arith, low))
+    first_ones slot low = first_sets ahead group.open_slots base first_members h lawful_steps all all_prefixes slot (omega (arith, low))
 
     all_rosters : (slot : ℕ) → IsRoster (logged_sets ahead base journal slot)
-    all_rosters slot = rosters ahead group.open_slots base first_members h lawful_steps all all_fronts slot
+    all_rosters slot = rosters ahead group.open_slots base first_members h lawful_steps all all_prefixes slot
 
     -- ---- nodes
 
@@ -94,14 +94,14 @@ module _ (bounded : ValidScenariosAreBounded) (begin : ValidScenariosBeginWell) 
         let t : IsState ahead base (MayQueue sources ahead scenario journal base) h slot state sets = said rows more e number mail (Install base.core.id slot state sets) sent is (same_name base.core.id base.core.id refl) in
         let same = state_same (birth ahead base) t.log in
         let count = t.count in
-        let members_is = after_log ahead group.open_slots base first_members h lawful_steps all all_fronts t.log t.is_log (slot + 4) (omega (arith, count)) ∙ ap (λ (g : Group). g.core.members) (sym t.group_is) in
+        let members_is = after_log ahead group.open_slots base first_members h lawful_steps all all_prefixes t.log t.is_log (slot + 4) (omega (arith, count)) ∙ ap (λ (g : Group). g.core.members) (sym t.group_is) in
         record {
           many = t.many ∙ group.open_slots;
           named = ap (λ (g : Group). g.core.id) t.group_is ∙ same.0;
           first = ap (λ node. record { round = 1; node = node }) (ap (λ (g : Group). g.core.first) t.group_is ∙ same.1);
           roster = subst IsRoster members_is (all_rosters (slot + 4));
           members = ap (logged_sets ahead base journal) (omega arith) ∙ members_is;
-          opens = are_at ahead group.open_slots base first_members h lawful_steps all all_fronts t.log t.is_log (slot + 1) sets t.sets_are;
+          opens = are_at ahead group.open_slots base first_members h lawful_steps all all_prefixes t.log t.is_log (slot + 1) sets t.sets_are;
         }
 
     -- ---- replicas
@@ -112,9 +112,9 @@ module _ (bounded : ValidScenariosAreBounded) (begin : ValidScenariosBeginWell) 
 
       of_along : (q : ReplicaState) → Along q → length q.sets ≡ slots_ahead → AreAt (logged_sets ahead base journal) (next q) q.sets → IsLogged (logged_sets ahead base journal) base q
       of_along q j len are = record {
-        named = name_is ahead group.open_slots base first_members h lawful_steps all all_fronts q j;
-        roster = subst IsRoster (members_are ahead group.open_slots base first_members h lawful_steps all all_fronts q j) (all_rosters (next q + 3));
-        members = members_are ahead group.open_slots base first_members h lawful_steps all all_fronts q j;
+        named = name_is ahead group.open_slots base first_members h lawful_steps all all_prefixes q j;
+        roster = subst IsRoster (members_are ahead group.open_slots base first_members h lawful_steps all all_prefixes q j) (all_rosters (next q + 3));
+        members = members_are ahead group.open_slots base first_members h lawful_steps all all_prefixes q j;
         many = len;
         opens = are;
       }
@@ -132,17 +132,17 @@ module _ (bounded : ValidScenariosAreBounded) (begin : ValidScenariosBeginWell) 
           → IsLogged (logged_sets ahead base journal) base (entered command r)
       learnt_entered number mail slot command sent is at =
           let t = subst (λ n. IsLearnt (rule ahead base) h n command) at (said rows has.more has.front number mail (Learn base.core.id slot command) sent is (same_name base.core.id base.core.id refl)) in
-          of_along (entered command r) (entered_along ahead group.open_slots base first_members h lawful_steps all all_fronts command r k t)
-          (entered_many ahead group.open_slots base first_members h lawful_steps all all_fronts command r four)
-          (entered_opens ahead group.open_slots base first_members h lawful_steps all all_fronts command r k t open_sets four)
+          of_along (entered command r) (entered_along ahead group.open_slots base first_members h lawful_steps all all_prefixes command r k t)
+          (entered_many ahead group.open_slots base first_members h lawful_steps all all_prefixes command r four)
+          (entered_opens ahead group.open_slots base first_members h lawful_steps all all_prefixes command r k t open_sets four)
 
       learnt_next : (number : ℕ) (mail : Mail) (slot : ℕ) (command : Command) → numbered (mails rows) number ≡ Some mail → mail.body ≡ Learn base.core.id slot command → slot ≡ next r → IsNext (logged_sets ahead base journal) command r
       learnt_next number mail slot command sent is at =
-          is_next ahead group.open_slots base first_members h lawful_steps all all_fronts command r k
+          is_next ahead group.open_slots base first_members h lawful_steps all all_prefixes command r k
           (subst (λ n. IsLearnt (rule ahead base) h n command) at (said rows has.more has.front number mail (Learn base.core.id slot command) sent is (same_name base.core.id base.core.id refl)))
 
       ready_next : (sent : List Mail) → AreNext (logged_sets ahead base journal) r.ready (r, sent)
-      ready_next sent = are_next ahead group.open_slots base first_members h lawful_steps all all_fronts r.ready (r, sent) k
+      ready_next sent = are_next ahead group.open_slots base first_members h lawful_steps all all_prefixes r.ready (r, sent) k
 
       decides_next : r.running ≡ true → (number : ℕ) (mail : Mail) (ballot : Ballot) (slot : ℕ) → numbered (mails rows) number ≡ Some mail → mail.body ≡ AcceptedMail base.core.id ballot slot
           → DecidesNext (logged_sets ahead base journal) mail.from ballot slot r
@@ -150,10 +150,10 @@ module _ (bounded : ValidScenariosAreBounded) (begin : ValidScenariosBeginWell) 
           let did = said rows has.more has.front number mail (AcceptedMail base.core.id ballot slot) sent is (same_name base.core.id base.core.id refl) in
           let low : needed (rule ahead base) slot ≤ length k.whole = subst (λ n. needed (rule ahead base) n ≤ length k.whole) (sym (at ∙ k.next_is)) (earlier (rule ahead base) (length k.whole)) in
           let t = counted_learnt ahead base h lawful_steps r.leader (flying sources ahead words scenario route well journal orders group.lawful base group.stands rows seat node r has) k.whole k.is_log slot
-          (logged_sets ahead base journal slot) (by_log ahead group.open_slots base first_members h lawful_steps all all_fronts k.whole k.is_log slot low) low mail.from ballot did.0 did.1 command leader count in
+          (logged_sets ahead base journal slot) (by_log ahead group.open_slots base first_members h lawful_steps all all_prefixes k.whole k.is_log slot low) low mail.from ballot did.0 did.1 command leader count in
           let after : ReplicaState = record r { leader = leader; ready = with_slot r.ready slot command } in
           let there : Along after = record { whole = k.whole; is_log = k.is_log; next_is = k.next_is; group_is = k.group_is; ready = each_with_slot _ r.ready slot command k.ready t } in
-          are_entries ahead group.open_slots base first_members h lawful_steps all all_fronts command (after, []) there runs (subst (λ n. IsLearnt (rule ahead base) h n command) at t)
+          are_entries ahead group.open_slots base first_members h lawful_steps all all_prefixes command (after, []) there runs (subst (λ n. IsLearnt (rule ahead base) h n command) at t)
 
   pub slots_have_rosters : SlotsHaveRosters
   slots_have_rosters = record { first = first_ones; rosters = all_rosters }

@@ -8,7 +8,7 @@ use Rattle.sc_paxos_words.proofs.Lemmas.{Each-weaker}
 use Rattle.sc_node_table.specs.Definitions.{NodeState, node_table, replica_of, born_replicas, born_replica, ReplicaState, name_of, slots_ahead}
 use Rattle.sc_sound.specs.Definitions.{Player, player_table}
 use Rattle.sc_law_walks.specs.Definitions.{IsKept}
-use Rattle.sc_law_walks.proofs.Lemmas.{StateBirths, either_way, StateParts, state_walk, state_births, state_ticks, state_hears, GivenAny, any_step, bears}
+use Rattle.sc_law_walks.proofs.Lemmas.{StateBirths, either_way, StateParts, state_walk, state_births, state_ticks, state_hears, GivenAny, any_step, creation}
 
 -- W is what holds of a replica in any journal, with what the walk says of it
 module _ (me : ℕ) (P : ReplicaState → Type 0) (parts : StateParts me P) (begins : StateBirths me P) (W : ReplicaState → Type 0) (to : (r : ReplicaState) → W r → IsKept me r × P r) (from : (r : ReplicaState) → IsKept me r × P r → W r) where
@@ -56,7 +56,7 @@ module _ (me : ℕ) (P : ReplicaState → Type 0) (parts : StateParts me P) (beg
 
   -- at the birth of groups
   born_one : (base : Base) → W (born_replica slots_ahead me base)
-  born_one base = from (born_replica slots_ahead me base) (bears (state_walk me P parts) (state_births me P parts begins) base)
+  born_one base = from (born_replica slots_ahead me base) (creation (state_walk me P parts) (state_births me P parts begins) base)
 
   pub born : (groups : List Base) → All (born_replicas slots_ahead me groups)
   born [] = tt

@@ -9,7 +9,7 @@ use Rattle.sc_sound.specs.Definitions.{Player}
 use Rattle.sc_live_steps.specs.calm.Definitions.{players, Rows}
 use Rattle.sc_live_steps.specs.following.Definitions.{dated_for, AsksLow, Tells, Course, Sets, Tellers, GoesBy, LeavesLast, IsLeadOf, IsOrderly, CountsOwn, IsIdle, Takes, Elects}
 use Rattle.sc_live_journals.specs.rows.Definitions.{view_at, progress_at, taken_mark, LeavesLead, led_course, elected_course, LedBy, with_event, IsKind, IsReplicasRow}
-use Rattle.sc_live_journals.specs.groups.Led.{Ends, hints_at, IsWellLed}
+use Rattle.sc_live_journals.specs.groups.WellLedGroups.{Ends, hints_at, IsWellLed}
 
 -- The group is well led after these rows, one to nine nodes decide each slot, and one more event comes in time.
 pub record IsStage (at : Sets) (over : Ends) (by : Tellers) (words : ℕ → ℕ → ℕ × ℕ) (births : List (Seat Player)) (rows : Rows) (seat : Seat Player) (event : Event OrderLine) (base : Base) (course : Course) : Type 0 where
@@ -41,7 +41,7 @@ pub record LeadsWell (at : Sets) (over : Ends) (by : Tellers) (births : List (Se
 
 -- A row in which a node elects itself by the last entry, which it learns: it leads after it, in order, and asks to promise from the next slot of the newest state on.
 pub record ElectsWell (at : Sets) (births : List (Seat Player)) (rows : Rows) (seat : Seat Player) (event : Event OrderLine) (base : Base) (course : Course) (ballot : Ballot) (after : Place) : Type 0 where
-  pub elects : IsKind (Elects at) births rows seat event base course (elected_course course ballot)
+  pub self_election : IsKind (Elects at) births rows seat event base course (elected_course course ballot)
   pub runs : after.0.running ≡ true
   pub leads : IsLeadOf at (progress_at births (with_event rows seat event) base (elected_course course ballot)) after.0
   pub told : (slot : ℕ) × (suc slot ≡ course.newest) × (taken_mark base.core.id (mails rows) event ≡ Some (Tells slot))
@@ -63,5 +63,5 @@ pub record RowsKeepLed : Type 0 where
   pub leads : (at : Sets) (over : Ends) (by : Tellers) (words : ℕ → ℕ → ℕ × ℕ) (births : List (Seat Player)) (rows : Rows) (seat : Seat Player) (event : Event OrderLine) (base : Base) (course : Course) (r : ReplicaState) (after : Place) → IsStage at over by words births rows seat event base course
       → IsReplicasRow births rows seat event base.core.id (Some r) after → (l : LeadsWell at over by births rows seat event base course after) → IsWellLed at over by words births (with_event rows seat event) base (led_course l.led.bound course after.0)
   -- a row in which a node elects itself
-  pub elects : (at : Sets) (over : Ends) (by : Tellers) (words : ℕ → ℕ → ℕ × ℕ) (births : List (Seat Player)) (rows : Rows) (seat : Seat Player) (event : Event OrderLine) (base : Base) (course : Course) (ballot : Ballot) (r : ReplicaState) (after : Place) → IsStage at over by words births rows seat event base course
+  pub self_election : (at : Sets) (over : Ends) (by : Tellers) (words : ℕ → ℕ → ℕ × ℕ) (births : List (Seat Player)) (rows : Rows) (seat : Seat Player) (event : Event OrderLine) (base : Base) (course : Course) (ballot : Ballot) (r : ReplicaState) (after : Place) → IsStage at over by words births rows seat event base course
       → IsReplicasRow births rows seat event base.core.id (Some r) after → ElectsWell at births rows seat event base course ballot after → IsWellLed at over by words births (with_event rows seat event) base (elected_course course ballot)

@@ -7,7 +7,7 @@ use Rattle.sc_node_table.specs.Definitions.{is_node}
 use Rattle.sc_sound.specs.Definitions.{decided_log, Ahead}
 use Rattle.sc_law_entries.specs.logs.Definitions.{Rows}
 use Rattle.sc_scenario.specs.declared.scenarios.Scenario.{Scenario}
-use Rattle.sc_live_journals.specs.logs.Logged.{logged_sets, IsGroupOf}
+use Rattle.sc_live_journals.specs.logs.GroupLogs.{logged_sets, IsGroupOf}
 use Rattle.std.specs.Prelude.{Option, Some, None}
 
 -- Each of these numbers is that of a node.

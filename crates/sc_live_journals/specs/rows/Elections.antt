@@ -7,8 +7,8 @@ use Rattle.sc_node_table.specs.Definitions.{entered, NodeState, is_node, Replica
 use Rattle.sc_sound.specs.Definitions.{Player}
 use Rattle.sc_live_steps.specs.calm.Definitions.{Rows}
 use Rattle.sc_live_steps.specs.following.Definitions.{Course, Sets, members_at, AreAt, MayElect, next_ballot}
-use Rattle.sc_live_journals.specs.rows.Mailed.{IsScene, TakesMail, HoldsReplica, FollowsAfter}
-use Rattle.sc_live_journals.specs.rows.Steps.{elected_course}
+use Rattle.sc_live_journals.specs.rows.MailRows.{IsScene, TakesMail, HoldsReplica, FollowsAfter}
+use Rattle.sc_live_journals.specs.rows.ReplicaSteps.{elected_course}
 
 -- The replica has executed this entry, whoever leads now: its state and the members of its open slots are those after the entry, and nothing is ready.
 pub record IsPast (command : Command) (r after : ReplicaState) : Type 0 where
@@ -18,8 +18,8 @@ pub record IsPast (command : Command) (r after : ReplicaState) : Type 0 where
   pub ready_is : after.ready ≡ []
 
 -- A replica with nothing ready that learns the entry of its next slot has executed it (`IsPast`).
-abbrev pub ToldEntriesAreTaken : Type 0
-ToldEntriesAreTaken = (from slot : ℕ) (command : Command) (r : ReplicaState) → slot ≡ next r → slot ≤ last_slot → r.ready ≡ [] → IsPast command r (mailed from (Learn (name_of r) slot command) (r, [])).0.0
+abbrev pub LearntEntriesAreExecuted : Type 0
+LearntEntriesAreExecuted = (from slot : ℕ) (command : Command) (r : ReplicaState) → slot ≡ next r → slot ≤ last_slot → r.ready ≡ [] → IsPast command r (mailed from (Learn (name_of r) slot command) (r, [])).0.0
 
 -- No node leads the group, which stands, and the replica is to lead it next: the entry at this slot is the last one, after it the members and the open slots are the group's,
 -- the replica may elect itself by the entry, and its ballot is later than the group's.

@@ -1,6 +1,6 @@
 use Rattle.sc_actor.specs.Definitions.{system}
-use Rattle.sc_live_orderly.proofs.Ordering.{calm_row}
-use Rattle.sc_live_orderly.proofs.Resting.{tidy-calm}
+use Rattle.sc_live_orderly.proofs.RowsOfSchedules.{calm_row}
+use Rattle.sc_live_orderly.proofs.RemainingMail.{tidy-calm}
 use Rattle.sc_live_orderly.proofs.calm_journals_are_orderly.Goals as goal
 
 pub returns-clause-row : goal.returns-clause-row

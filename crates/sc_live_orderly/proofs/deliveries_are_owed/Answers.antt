@@ -1,7 +1,7 @@
 use Rattle.sc_actor.specs.Definitions.{system}
-use Rattle.sc_live_orderly.proofs.Paying.{deliveries_are_owed}
-use Rattle.sc_live_orderly.proofs.Settling.{never_cut}
-use Rattle.sc_live_orderly.proofs.Counting.{mails_are_owed, goes_are_few, rows_are}
+use Rattle.sc_live_orderly.proofs.PotentialBounds.{deliveries_are_owed}
+use Rattle.sc_live_orderly.proofs.QuietLineEnds.{never_cut}
+use Rattle.sc_live_orderly.proofs.MailAndRowCounts.{mails_are_owed, goes_are_few, rows_are}
 use Rattle.sc_live_orderly.proofs.deliveries_are_owed.Goals as goal
 
 pub returns-clause-deliveries : goal.returns-clause-deliveries

@@ -1,5 +1,5 @@
 use Rattle.sc_actor.specs.Definitions.{system}
-use Rattle.sc_live_orderly.proofs.Resting.{rest-lawful, first-lawful, quiet-lawful, empty-lawful}
+use Rattle.sc_live_orderly.proofs.RemainingMail.{rest-lawful, first-lawful, quiet-lawful, empty-lawful}
 use Rattle.sc_live_orderly.proofs.mail_is_taken_in_order.Goals as goal
 
 pub returns-clause-rest : goal.returns-clause-rest

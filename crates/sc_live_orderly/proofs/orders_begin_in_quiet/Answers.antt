@@ -1,7 +1,7 @@
 use Rattle.sc_actor.specs.Definitions.{system}
-use Rattle.sc_live_orderly.proofs.Counting.{rows_of_all, goes_in_time}
-use Rattle.sc_live_orderly.proofs.Given.{few_told, told_so}
-use Rattle.sc_live_orderly.proofs.Timing.{rows_in_time, ends_quiet, deliveries_and_orders}
+use Rattle.sc_live_orderly.proofs.MailAndRowCounts.{rows_of_all, goes_in_time}
+use Rattle.sc_live_orderly.proofs.GivenOrders.{few_told, told_so}
+use Rattle.sc_live_orderly.proofs.SpacedLines.{rows_in_time, ends_quiet, deliveries_and_orders}
 use Rattle.sc_live_orderly.proofs.orders_begin_in_quiet.Goals as goal
 
 pub returns-clause-timely : goal.returns-clause-timely

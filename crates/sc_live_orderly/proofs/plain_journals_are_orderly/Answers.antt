@@ -1,6 +1,6 @@
 use Rattle.sc_actor.specs.Definitions.{system}
-use Rattle.sc_live_orderly.proofs.Ordering.{orderly}
-use Rattle.sc_live_orderly.proofs.Resting.{tidy}
+use Rattle.sc_live_orderly.proofs.RowsOfSchedules.{orderly}
+use Rattle.sc_live_orderly.proofs.RemainingMail.{tidy}
 use Rattle.sc_live_orderly.proofs.plain_journals_are_orderly.Goals as goal
 
 pub returns-clause-row : goal.returns-clause-row

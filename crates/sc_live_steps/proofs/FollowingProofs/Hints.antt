@@ -5,7 +5,7 @@ use Rattle.sc_base.specs.Definitions.{Each, is_member, least_of}
 use Rattle.sc_node_table.specs.Values.{Ballot}
 use Rattle.sc_node_table.specs.Definitions.{is_among}
 use Rattle.sc_paxos_words.specs.Definitions.{below}
-use Rattle.sc_live_steps.specs.following.Definitions.{Mark, Asks, Votes, Tells, Installs, Prepares, Promises, promise_by, reached, pledged, AreFit, Course, Sets, members_at, Tellers, hint_by, hinted, MayLeave, IsHeeded, AreHeeded, IsCount, IsOffer, told_of, told_from}
+use Rattle.sc_live_steps.specs.following.Definitions.{Mark, Asks, Votes, Tells, Installs, Prepares, Promises, promise_by, reached, pledged, AreFit, Course, Sets, members_at, Tellers, hint_by, hinted, MayLeave, IsHeeded, AreHeeded, IsCount, IsOffer, reported_of, told_from}
 use Rattle.sc_live_steps.proofs.FollowingProofs.Marks.{reached-least, told-cases}
 
 module _ (at : Sets) (by : Tellers) where
@@ -92,7 +92,7 @@ module _ (at : Sets) (by : Tellers) where
     both_no : {b : Bool} → b ≡ true → b ≡ false → ⊥
     both_no t f = cc
 
-    one_heeded : (slot : ℕ) (promise : Ballot) (hint : Option ℕ) → (is_member (members_at at slot) who ≡ true → hint ≡ Some lead) → by slot ≡ lead → IsEnd slot → AreHeeded at by after who promise hint (told_of at now slot who)
+    one_heeded : (slot : ℕ) (promise : Ballot) (hint : Option ℕ) → (is_member (members_at at slot) who ≡ true → hint ≡ Some lead) → by slot ≡ lead → IsEnd slot → AreHeeded at by after who promise hint (reported_of at now slot who)
     one_heeded slot promise hint member counts ends =
         told-cases at now who apart (AreHeeded at by after who promise hint) slot
         (λ m. ((member m ∙ ap Some (sym counts), may), tt))
@@ -106,7 +106,7 @@ module _ (at : Sets) (by : Tellers) where
         welcomed out come = elim ends [ inl m ↦ ap (is_member (members_at at (slot + 1))) counts ∙ m | inr last ↦ absurd (both_no (last.2 come) out) ]
 
     one_hinted : (slot : ℕ) (promise : Ballot) (hint : Option ℕ) → (hint ≡ Some lead) ⊎ (is_member (members_at at (slot + 1)) who ≡ true) → (is_member (members_at at slot) who ≡ true → hint ≡ Some lead) → by slot ≡ lead
-        → is_member (members_at at (slot + 1)) lead ≡ true → hinted at by promise hint (told_of at now slot who) ≡ Some lead
+        → is_member (members_at at (slot + 1)) lead ≡ true → hinted at by promise hint (reported_of at now slot who) ≡ Some lead
     one_hinted slot promise hint some member counts stays =
         told-cases at now who apart (λ l. hinted at by promise hint l ≡ Some lead) slot
         (λ m. cond-true (is_among (members_at at (slot + 1)) hint) hint (Some (least_of (members_at at (slot + 1)))) (ap (is_among (members_at at (slot + 1))) (member m) ∙ stays) ∙ member m)
@@ -118,10 +118,10 @@ module _ (at : Sets) (by : Tellers) where
         → ((s : ℕ) → slot ≤ s → suc s < slot + more → is_member (members_at at (s + 1)) lead ≡ true) → ((s : ℕ) → slot ≤ s → suc s ≡ slot + more → IsEnd s) → AreHeeded at by after who promise hint (told_from at now slot more who)
     told-heeded zero slot promise hint member counts stayed ends = tt
     told-heeded (suc zero) slot promise hint member counts stayed ends =
-        heeded-append after who promise hint (told_of at now slot who) [] (one_heeded slot promise hint member (counts slot (omega arith) (omega arith)) (ends slot (omega arith) (omega arith))) tt
+        heeded-append after who promise hint (reported_of at now slot who) [] (one_heeded slot promise hint member (counts slot (omega arith) (omega arith)) (ends slot (omega arith) (omega arith))) tt
     told-heeded (suc (suc more)) slot promise hint member counts stayed ends =
         let here = stayed slot (omega arith) (omega arith) in
-        let first = told_of at now slot who in
+        let first = reported_of at now slot who in
         heeded-append after who promise hint first (told_from at now (slot + 1) (suc more) who)
         (one_heeded slot promise hint member (counts slot (omega arith) (omega arith)) (inl here))
         (told-heeded (suc more) (slot + 1) (pledged promise first) (hinted at by promise hint first) (λ m. one_hinted slot promise hint (inr m) member (counts slot (omega arith) (omega arith)) here)
@@ -137,13 +137,13 @@ module _ (at : Sets) (by : Tellers) where
         (λ s least most. stayed s (omega (arith, least)) (omega (arith, most)))
       where
         first : List Mark
-        first = told_of at now slot who
+        first = reported_of at now slot who
 
-        here : (hint ≡ Some lead) ⊎ (is_member (members_at at (slot + 1)) who ≡ true) → hinted at by promise hint (told_of at now slot who) ≡ Some lead
+        here : (hint ≡ Some lead) ⊎ (is_member (members_at at (slot + 1)) who ≡ true) → hinted at by promise hint (reported_of at now slot who) ≡ Some lead
         here some = one_hinted slot promise hint some member (counts slot (omega arith) (omega arith)) (stayed slot (omega arith) (omega arith))
 
         later : (hint ≡ Some lead) ⊎ ((j : ℕ) × (j < suc more) × (is_member (members_at at (slot + j + 1)) who ≡ true))
-            → (hinted at by promise hint (told_of at now slot who) ≡ Some lead) ⊎ ((j : ℕ) × (j < more) × (is_member (members_at at (slot + 1 + j + 1)) who ≡ true))
+            → (hinted at by promise hint (reported_of at now slot who) ≡ Some lead) ⊎ ((j : ℕ) × (j < more) × (is_member (members_at at (slot + 1 + j + 1)) who ≡ true))
         later (inl e) = inl (here (inl e))
         later (inr (zero, low, m)) = inl (here (inr (let same : slot + zero + 1 ≡ slot + 1 = omega arith in subst (λ s. is_member (members_at at s) who ≡ true) same m)))
         later (inr (suc j, low, m)) = inr (j, omega (arith, low), (let same : slot + suc j + 1 ≡ slot + 1 + j + 1 = omega arith in subst (λ s. is_member (members_at at s) who ≡ true) same m))

@@ -6,7 +6,7 @@ use Rattle.sc_node_table.specs.Values.{Ballot}
 use Rattle.sc_node_table.specs.Definitions.{listed, slots_ahead}
 use Rattle.sc_paxos_words.specs.Definitions.{IsAtLeast}
 use Rattle.sc_paxos_words.proofs.Lemmas.{at_least_itself, Each-append, Each-weaker}
-use Rattle.sc_live_steps.specs.following.Definitions.{Mark, Asks, Votes, Tells, Installs, Prepares, Promises, next_by, promise_by, reached, pledged, IsFit, AreFit, IsNoAsk, AreAskedFirst, Course, Sets, members_at, IsKnown, IsCount, IsOffer, welcome, told_of, told_from}
+use Rattle.sc_live_steps.specs.following.Definitions.{Mark, Asks, Votes, Tells, Installs, Prepares, Promises, next_by, promise_by, reached, pledged, IsFit, AreFit, IsNoAsk, AreAskedFirst, Course, Sets, members_at, IsKnown, IsCount, IsOffer, welcome, reported_of, told_from}
 
 -- ---- what stands in lists
 
@@ -254,12 +254,12 @@ module _ (at : Sets) (course : Course) (who : ℕ) where
   -- it is an entry to be learnt, a state, or a request to promise the ballot
   pub told-each : (P : Mark → Type 0) → ((slot : ℕ) → P (Tells slot)) → ((slot : ℕ) → P (Installs slot)) → P (Prepares course.ballot) → (more slot : ℕ) → Each P (told_from at course slot more who)
   told-each P tells installs prepares zero slot = tt
-  told-each P tells installs prepares (suc more) slot = Each-append P (told_of at course slot who) (told_from at course (slot + 1) more who) one (told-each P tells installs prepares more (slot + 1))
+  told-each P tells installs prepares (suc more) slot = Each-append P (reported_of at course slot who) (told_from at course (slot + 1) more who) one (told-each P tells installs prepares more (slot + 1))
     where
       welcomed_each : Each P (welcome course slot)
       welcomed_each = (installs slot, cond_both course.is_first [] (Prepares course.ballot ∷ []) (Each P) (λ _. tt) (λ _. (prepares, tt)))
 
-      one : Each P (told_of at course slot who)
+      one : Each P (reported_of at course slot who)
       one =
           cond_both (eqb who course.ballot.node) [] (cond (is_member (members_at at slot) who) (Tells slot ∷ []) (cond (is_member (members_at at (slot + 1)) who) (welcome course slot) [])) (Each P) (λ _. tt)
           (λ _. cond_both (is_member (members_at at slot) who) (Tells slot ∷ []) (cond (is_member (members_at at (slot + 1)) who) (welcome course slot) []) (Each P) (λ _. (tells slot, tt))
@@ -289,7 +289,7 @@ module _ (at : Sets) (course : Course) (who : ℕ) where
     -- a member is sent the entry, one that joins is welcomed, and others are sent nothing
     pub told-cases : (P : List Mark → Type 0) (slot : ℕ) → (is_member (members_at at slot) who ≡ true → P (Tells slot ∷ []))
         → (is_member (members_at at slot) who ≡ false → is_member (members_at at (slot + 1)) who ≡ true → P (welcome course slot))
-        → (is_member (members_at at slot) who ≡ false → is_member (members_at at (slot + 1)) who ≡ false → P []) → P (told_of at course slot who)
+        → (is_member (members_at at slot) who ≡ false → is_member (members_at at (slot + 1)) who ≡ false → P []) → P (reported_of at course slot who)
     told-cases P slot one two three =
         subst P
         (sym (cond-false (eqb who course.ballot.node) [] (cond (is_member (members_at at slot) who) (Tells slot ∷ []) (cond (is_member (members_at at (slot + 1)) who) (welcome course slot) [])) (ne_eqb who course.ballot.node apart)))
@@ -312,7 +312,7 @@ module _ (at : Sets) (course : Course) (who : ℕ) where
         no_both : {b : Bool} → b ≡ true → b ≡ false → ⊥
         no_both t f = cc
 
-    told-one : (from slot next : ℕ) (promise : Ballot) → from ≤ slot → 1 ≤ slot → IsTold from slot next promise → IsToldBy from (slot + 1) next promise (told_of at course slot who)
+    told-one : (from slot next : ℕ) (promise : Ballot) → from ≤ slot → 1 ≤ slot → IsTold from slot next promise → IsToldBy from (slot + 1) next promise (reported_of at course slot who)
     told-one from slot next promise up some t = told-cases (IsToldBy from (slot + 1) next promise) slot member comes none
       where
         low : next ≤ slot
@@ -375,7 +375,7 @@ module _ (at : Sets) (course : Course) (who : ℕ) where
     told-all from zero slot next promise up some t = (let e : slot ≡ slot + zero = omega arith in (tt, subst (λ s. IsTold from s next promise) e t))
     told-all from (suc more) slot next promise up some t =
         let one = told-one from slot next promise up some t in
-        let first = told_of at course slot who in
+        let first = reported_of at course slot who in
         let then = told_from at course (slot + 1) more who in
         let e : slot + 1 + more ≡ slot + suc more = omega arith in
         let rest = told-all from more (slot + 1) (reached next first) (pledged promise first) (omega (arith, up)) (omega (arith, some)) one.1 in (

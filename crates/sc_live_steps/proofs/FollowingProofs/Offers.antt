@@ -11,9 +11,9 @@ use Rattle.sc_paxos_words.specs.Definitions.{must, flight_at}
 use Rattle.sc_paxos_words.proofs.Lemmas.{Each-append, Each-weaker}
 use Rattle.sc_node_table.specs.Definitions.{answered, sent_all, Found, is_act, waits, turned_down, next_call, from_calls, from_acts, from_queues, found_by, found_for, offered, pumped_from, pumped, ReplicaState, Place, name_of, next, settled, may_offer, either, taken_at, under_way, is_idle, last_slot, at_slot}
 use Rattle.sc_live_steps.specs.following.Definitions.{Mark, Asks, Course, Sets, marks_for, AreAt, MayOffer, IsBegun, to_bound, OffersBy, PumpsOffer, IsOffer}
-use Rattle.sc_live_steps.proofs.FollowingProofs.Elected.{append_one, marks_to, sent_marks}
+use Rattle.sc_live_steps.proofs.FollowingProofs.LeastMembers.{append_one, marks_to, sent_marks}
 use Rattle.sc_live_steps.proofs.FollowingProofs.Marks.{among-left, among-right}
-use Rattle.sc_live_steps.proofs.FollowingProofs.Nodes.{marks-push, same_mark}
+use Rattle.sc_live_steps.proofs.FollowingProofs.MailTables.{marks-push, same_mark}
 
 -- ---- what is sent to several
 

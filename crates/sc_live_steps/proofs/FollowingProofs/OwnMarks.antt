@@ -5,9 +5,9 @@ use Rattle.sc_base.specs.Definitions.{Each, is_member}
 use Rattle.sc_node_table.specs.Values.{Ballot}
 use Rattle.sc_node_table.specs.Definitions.{listed}
 use Rattle.sc_paxos_words.proofs.Lemmas.{Each-append, Each-weaker}
-use Rattle.sc_live_steps.specs.following.Definitions.{IsNoPrepare, Mark, Asks, Votes, Tells, Installs, Prepares, Promises, reached, AreFit, Course, Sets, members_at, IsOtherPrepare, IsOwnPrepare, ArePromisedLast, AreToldLast, IsCount, IsOffer, welcome, told_of, told_from}
+use Rattle.sc_live_steps.specs.following.Definitions.{IsNoPrepare, Mark, Asks, Votes, Tells, Installs, Prepares, Promises, reached, AreFit, Course, Sets, members_at, IsOtherPrepare, IsOwnPrepare, ArePromisedLast, AreLearntLast, IsCount, IsOffer, welcome, reported_of, told_from}
 use Rattle.sc_live_steps.proofs.FollowingProofs.Marks.{reached-least, offers-each}
-pub use Rattle.sc_live_steps.proofs.FollowingProofs.Dated.{count_none}
+pub use Rattle.sc_live_steps.proofs.FollowingProofs.PrepareSlots.{count_none}
 
 -- ---- lists
 
@@ -98,7 +98,7 @@ IsNotLast newest (Votes node ballot slot) = Unit {0}
 IsNotLast newest (Installs slot) = Unit {0}
 IsNotLast newest (Prepares ballot) = Unit {0}
 
-pub last_append : (newest : ℕ) (xs ys : List Mark) → Each (IsNotLast newest) xs → AreToldLast newest ys → AreToldLast newest (xs ++ ys)
+pub last_append : (newest : ℕ) (xs ys : List Mark) → Each (IsNotLast newest) xs → AreLearntLast newest ys → AreLearntLast newest (xs ++ ys)
 last_append newest [] ys a g = g
 last_append newest (Tells slot ∷ xs) ys a g = ((λ e. absurd (a.0 e)), last_append newest xs ys a.1 g)
 last_append newest (Promises node ballot ∷ xs) ys a g = last_append newest xs ys a.1 g
@@ -107,7 +107,7 @@ last_append newest (Votes node ballot slot ∷ xs) ys a g = last_append newest x
 last_append newest (Installs slot ∷ xs) ys a g = last_append newest xs ys a.1 g
 last_append newest (Prepares ballot ∷ xs) ys a g = last_append newest xs ys a.1 g
 
-pub last_counts : (newest : ℕ) (xs ys : List Mark) → AreToldLast newest xs → Each IsCount ys → AreToldLast newest (xs ++ ys)
+pub last_counts : (newest : ℕ) (xs ys : List Mark) → AreLearntLast newest xs → Each IsCount ys → AreLearntLast newest (xs ++ ys)
 last_counts newest [] [] f c = tt
 last_counts newest [] (Votes node ballot slot ∷ ys) f c = last_counts newest [] ys tt c.1
 last_counts newest [] (Promises node ballot ∷ ys) f c = last_counts newest [] ys tt c.1
@@ -122,7 +122,7 @@ last_counts newest (Votes node ballot slot ∷ xs) ys f c = last_counts newest x
 last_counts newest (Installs slot ∷ xs) ys f c = last_counts newest xs ys f c
 last_counts newest (Prepares ballot ∷ xs) ys f c = last_counts newest xs ys f c
 
-pub last_tail : (newest : ℕ) (mark : Mark) (marks : List Mark) → AreToldLast newest (mark ∷ marks) → AreToldLast newest marks
+pub last_tail : (newest : ℕ) (mark : Mark) (marks : List Mark) → AreLearntLast newest (mark ∷ marks) → AreLearntLast newest marks
 last_tail newest (Tells slot) marks f = f.1
 last_tail newest _ marks f = f
 
@@ -136,7 +136,7 @@ not_last newest later next promise (Votes node ballot slot ∷ marks) f le lt = 
 not_last newest later next promise (Prepares ballot ∷ marks) f le lt = (tt, not_last newest later next ballot marks f.1 le lt)
 not_last newest later next promise (Promises node ballot ∷ marks) f le lt = (tt, not_last newest later next promise marks f.1 le lt)
 
-pub offers_last : (at : Sets) (course : Course) (from who newest : ℕ) (marks : List Mark) → Each (IsOffer at course from who) marks → AreToldLast newest marks
+pub offers_last : (at : Sets) (course : Course) (from who newest : ℕ) (marks : List Mark) → Each (IsOffer at course from who) marks → AreLearntLast newest marks
 offers_last at course from who newest [] e = tt
 offers_last at course from who newest (Asks ballot slot ∷ marks) e = offers_last at course from who newest marks e.1
 offers_last at course from who newest (Votes node ballot slot ∷ marks) e = absurd e.0
@@ -145,7 +145,7 @@ offers_last at course from who newest (Installs slot ∷ marks) e = absurd e.0
 offers_last at course from who newest (Prepares ballot ∷ marks) e = absurd e.0
 offers_last at course from who newest (Promises node ballot ∷ marks) e = absurd e.0
 
-pub last_told : (at : Sets) (course in_course : Course) (from who newest : ℕ) (offers : List Mark) → Each (IsOffer at in_course from who) offers → (more slot : ℕ) → slot + more ≡ newest → AreToldLast newest (told_from at course slot more who ++ offers)
+pub last_told : (at : Sets) (course in_course : Course) (from who newest : ℕ) (offers : List Mark) → Each (IsOffer at in_course from who) offers → (more slot : ℕ) → slot + more ≡ newest → AreLearntLast newest (told_from at course slot more who ++ offers)
 last_told at course in_course from who newest offers e zero slot is = offers_last at in_course from who newest offers e
 last_told at course in_course from who newest offers e (suc more) slot is = with_later (last_told at course in_course from who newest offers e more (slot + 1) (omega (arith, is)))
   where
@@ -160,9 +160,9 @@ last_told at course in_course from who newest offers e (suc more) slot is = with
     at_end zero sum last = offers-each IsNoPrepare at in_course from who (λ ballot s least most. tt) offers e
     at_end (suc count) sum last = absurd (omega (arith, sum, last))
 
-    with_later : AreToldLast newest (told_from at course (slot + 1) more who ++ offers) → AreToldLast newest (told_from at course slot (suc more) who ++ offers)
+    with_later : AreLearntLast newest (told_from at course (slot + 1) more who ++ offers) → AreLearntLast newest (told_from at course slot (suc more) who ++ offers)
     with_later later =
-        subst (AreToldLast newest) (sym (append_marks (told_of at course slot who) (told_from at course (slot + 1) more who) offers))
-        (cond_both (eqb who course.ballot.node) [] (cond (is_member (members_at at slot) who) (Tells slot ∷ []) (cond (is_member (members_at at (slot + 1)) who) (welcome course slot) [])) (λ l. AreToldLast newest (l ++ rest)) (λ _. later)
-        (λ _. cond_both (is_member (members_at at slot) who) (Tells slot ∷ []) (cond (is_member (members_at at (slot + 1)) who) (welcome course slot) []) (λ l. AreToldLast newest (l ++ rest)) (λ _. (at_end more is, later))
-        (λ _. cond_both (is_member (members_at at (slot + 1)) who) (welcome course slot) [] (λ l. AreToldLast newest (l ++ rest)) (λ _. cond_both course.is_first [] (Prepares course.ballot ∷ []) (λ l. AreToldLast newest (l ++ rest)) (λ _. later) (λ _. later)) (λ _. later))))
+        subst (AreLearntLast newest) (sym (append_marks (reported_of at course slot who) (told_from at course (slot + 1) more who) offers))
+        (cond_both (eqb who course.ballot.node) [] (cond (is_member (members_at at slot) who) (Tells slot ∷ []) (cond (is_member (members_at at (slot + 1)) who) (welcome course slot) [])) (λ l. AreLearntLast newest (l ++ rest)) (λ _. later)
+        (λ _. cond_both (is_member (members_at at slot) who) (Tells slot ∷ []) (cond (is_member (members_at at (slot + 1)) who) (welcome course slot) []) (λ l. AreLearntLast newest (l ++ rest)) (λ _. (at_end more is, later))
+        (λ _. cond_both (is_member (members_at at (slot + 1)) who) (welcome course slot) [] (λ l. AreLearntLast newest (l ++ rest)) (λ _. cond_both course.is_first [] (Prepares course.ballot ∷ []) (λ l. AreLearntLast newest (l ++ rest)) (λ _. later) (λ _. later)) (λ _. later))))

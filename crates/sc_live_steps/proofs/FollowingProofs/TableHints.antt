@@ -12,9 +12,9 @@ use Rattle.sc_node_table.specs.Definitions.{elected, stopped, entered, is_among,
 use Rattle.sc_law_walks.specs.Definitions.{GoesOn}
 use Rattle.sc_law_walks.proofs.Lemmas.{idle_ready, idle_pump}
 use Rattle.sc_live_steps.specs.following.Definitions.{Asks, Installs, members_at, HintsFollow, IsHeir, HeirsElect, LeadersLeaveLast, IsInTime, Stays}
-use Rattle.sc_live_steps.proofs.FollowingProofs.Heeding.{nodes_heed}
-use Rattle.sc_live_steps.proofs.FollowingProofs.Learn.{over, place2, over_off, looks, looked_same, told_is}
-use Rattle.sc_live_steps.proofs.FollowingProofs.Nodes.{saw_either, jumped_keeps, made_is}
+use Rattle.sc_live_steps.proofs.FollowingProofs.HintRows.{nodes_heed}
+use Rattle.sc_live_steps.proofs.FollowingProofs.FollowerTables.{over, place2, over_off, looks, looked_same, told_is}
+use Rattle.sc_live_steps.proofs.FollowingProofs.MailTables.{saw_either, jumped_keeps, made_is}
 
 -- ---- Accept and Prepare
 

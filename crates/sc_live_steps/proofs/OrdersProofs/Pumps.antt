@@ -9,7 +9,7 @@ use Rattle.sc_paxos_words.specs.declared.answers.Must.TheVariants.{Free as Open}
 use Rattle.sc_paxos_words.specs.Definitions.{must}
 use Rattle.sc_node_table.specs.Definitions.{answered, Found, is_act, waits, turned_down, next_call, from_calls, from_acts, from_queues, found_by, found_for, offered, pumped_from, pumped, ReplicaState, Place, name_of, next, settled, may_offer, taken_at, under_way, is_idle, last_slot, listed}
 use Rattle.sc_live_steps.specs.orders.Definitions.{Work, work_by, works_in, works_flying, works_ready, works, errands_for, IsUnbound, PumpsKeepWork}
-use Rattle.sc_live_steps.proofs.OrdersProofs.Lists.{single}
+use Rattle.sc_live_steps.proofs.OrdersProofs.NamedValues.{single}
 use Rattle.sc_live_steps.proofs.OrdersProofs.Errands.{errands-none, errands-all}
 
 -- ---- a lone element may stand anywhere in a list
@@ -18,16 +18,16 @@ nothing_in : {X : Type 0} (xs ys : List X) (x : X) → xs ++ (x ∷ ys) ≡ [] �
 nothing_in [] ys x e = absurd cc
 nothing_in (z ∷ xs) ys x e = absurd cc
 
-pub to-front : (w : Option Work) (xs ys : List Work) (o : Option Work) → xs ++ (listed w ++ ys) ≡ listed o → listed w ++ (xs ++ ys) ≡ listed o
-to-front None xs ys o e = e
-to-front (Some x) xs ys None e = absurd (nothing_in xs ys x e)
-to-front (Some x) xs ys (Some y) e = (let s = single y x xs ys (sym e) in ap (λ l. x ∷ l) s.1 ∙ ap (λ z. z ∷ []) (sym s.0))
+pub to-head : (w : Option Work) (xs ys : List Work) (o : Option Work) → xs ++ (listed w ++ ys) ≡ listed o → listed w ++ (xs ++ ys) ≡ listed o
+to-head None xs ys o e = e
+to-head (Some x) xs ys None e = absurd (nothing_in xs ys x e)
+to-head (Some x) xs ys (Some y) e = (let s = single y x xs ys (sym e) in ap (λ l. x ∷ l) s.1 ∙ ap (λ z. z ∷ []) (sym s.0))
 
-pub from-front : (w : Option Work) (xs ys : List Work) (o : Option Work) → listed w ++ (xs ++ ys) ≡ listed o → xs ++ (listed w ++ ys) ≡ listed o
-from-front None xs ys o e = e
-from-front (Some x) [] ys o e = e
-from-front (Some x) (z ∷ xs) ys None e = absurd cc
-from-front (Some x) (z ∷ xs) ys (Some y) e = (let f : z ∷ (xs ++ ys) ≡ [] = cc in absurd cc)
+pub from-head : (w : Option Work) (xs ys : List Work) (o : Option Work) → listed w ++ (xs ++ ys) ≡ listed o → xs ++ (listed w ++ ys) ≡ listed o
+from-head None xs ys o e = e
+from-head (Some x) [] ys o e = e
+from-head (Some x) (z ∷ xs) ys None e = absurd cc
+from-head (Some x) (z ∷ xs) ys (Some y) e = (let f : z ∷ (xs ++ ys) ≡ [] = cc in absurd cc)
 
 flying_more : (flights : List (Flight Command)) (flight : Flight Command) → works_flying (flights ++ flight ∷ []) ≡ works_flying flights ++ listed (work_by flight.value)
 flying_more [] flight = append-nil (listed (work_by flight.value))
@@ -96,7 +96,7 @@ module _ (r0 : ReplicaState) (mails0 : List Mail) (o : Option Work) where
     where
       by : (f : Option Command) (calls : List Command) → work_found f ++ works_in calls ≡ works_in r.calls → work_found f ++ (works_in r.acts ++ (works_in calls ++ (works_flying r.leader.flights ++ works_ready r.ready))) ≡ listed o
       by None calls e = ap (λ l. works_in r.acts ++ (l ++ (works_flying r.leader.flights ++ works_ready r.ready))) e ∙ p.1
-      by (Some command) calls e = to-front (work_by command) (works_in r.acts) (works_in calls ++ (works_flying r.leader.flights ++ works_ready r.ready)) o
+      by (Some command) calls e = to-head (work_by command) (works_in r.acts) (works_in calls ++ (works_flying r.leader.flights ++ works_ready r.ready)) o
           (ap (λ l. works_in r.acts ++ l) (sym (append_assoc (listed (work_by command)) (works_in calls) (works_flying r.leader.flights ++ works_ready r.ready)))
           ∙ (ap (λ l. works_in r.acts ++ (l ++ (works_flying r.leader.flights ++ works_ready r.ready))) e ∙ p.1))
 
@@ -136,7 +136,7 @@ module _ (r0 : ReplicaState) (mails0 : List Mail) (o : Option Work) where
     },
     ap (λ l. works_in r.acts ++ (works_in r.calls ++ (l ++ works_ready r.ready))) (flying_more r.leader.flights (record { slot = slot; value = command; voters = None }))
         ∙ (ap (λ l. works_in r.acts ++ (works_in r.calls ++ l)) (append_assoc (works_flying r.leader.flights) (listed (work_by command)) (works_ready r.ready))
-        ∙ (sym (assoc (listed (work_by command) ++ works_ready r.ready)) ∙ from-front (work_by command) (works_in r.acts ++ (works_in r.calls ++ works_flying r.leader.flights)) (works_ready r.ready) o
+        ∙ (sym (assoc (listed (work_by command) ++ works_ready r.ready)) ∙ from-head (work_by command) (works_in r.acts ++ (works_in r.calls ++ works_flying r.leader.flights)) (works_ready r.ready) o
         (ap (λ l. listed (work_by command) ++ l) (assoc (works_ready r.ready)) ∙ f.1))),
   )
     where

@@ -5,9 +5,9 @@ use Rattle.sc_node_table.specs.Values.{Draw, OrderLine, Mail, Node, Client, Seat
 use Rattle.sc_actor.specs.Definitions.{value, System, system}
 use Rattle.sc_live_orderly.specs.Definitions.{under_way}
 use Rattle.sc_sound.specs.Definitions.{Player, player_table, receiver_of}
-use Rattle.sc_live_steps.specs.calm.Nodes.{node_owes}
-use Rattle.sc_live_steps.specs.calm.Owed.{Ways, mail_owes}
-use Rattle.sc_live_steps.specs.calm.Reach.{Reach, client_owes}
+use Rattle.sc_live_steps.specs.calm.NodePotential.{node_owes}
+use Rattle.sc_live_steps.specs.calm.Potential.{Ways, mail_owes}
+use Rattle.sc_live_steps.specs.calm.ClientReach.{Reach, client_owes}
 use Rattle.sc_live_steps.specs.calm.Totals.{Rows, is_led, players_owe}
 
 -- The system of the players (nodes and clients) with these births; `words` gives what storms draw from their generator.

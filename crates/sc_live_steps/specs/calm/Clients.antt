@@ -6,8 +6,8 @@ use Rattle.sc_lookup.specs.Definitions.{KnownGroups, way_to, target_in, new_way}
 use Rattle.sc_lookup.specs.declared.ways.Way.{Way}
 use Rattle.sc_mail.specs.declared.bodies.AnswerBody.TheVariants as Says
 use Rattle.sc_client_table.specs.Definitions.{Client as ClientState, ClientStep, started, waits_for, was_asked, got}
-use Rattle.sc_live_steps.specs.calm.Executing.{AreBounded}
-use Rattle.sc_live_steps.specs.calm.Owed.{Ways, answer_owes, mail_owes}
+use Rattle.sc_live_steps.specs.calm.ExecutedEntries.{AreBounded}
+use Rattle.sc_live_steps.specs.calm.Potential.{Ways, answer_owes, mail_owes}
 
 -- 1 where a request waits for its answer, else 0.
 abbrev pub waiting_one : Option ℕ → ℕ
@@ -51,8 +51,8 @@ unknown groups known = sum_by (unknown_one known) groups
 
 -- The step of a client that learns that its key is another group's: it knows one more of these groups,
 -- and what is owed falls by at least one, apart from what is owed for asking a group in vain (2 and twice the bound of ways).
-abbrev pub IsToldOne : Ways → List Draw → Draw → Arc → Link → ClientState → ClientStep → Type 0
-IsToldOne ways groups group arc succ client step =
+abbrev pub LearnsOneGroup : Ways → List Draw → Draw → Arc → Link → ClientState → ClientStep → Type 0
+LearnsOneGroup ways groups group arc succ client step =
     (step_owes ways step + 1 ≤ requests_owe client + answer_owes ways group (Says.NotMine arc succ) + (2 + 2 * ways.most)) × (unknown groups step.0.known + 1 ≤ unknown groups client.known)
 
 -- An answer that the key is another group's is ignored, or the client learns of one group by it.
@@ -60,7 +60,7 @@ abbrev pub NotMineTeaches : Type 0
 NotMineTeaches =
     (ways : Ways) (groups : List Draw) (from seq : ℕ) (group : Draw) (arc : Arc) (succ : Link) (client : ClientState) → AreBounded ways
     → (waits_for client.waiting seq ≡ true → was_asked client.asked from group ≡ true → Among succ.group groups × (way_to succ.group client.known ≡ None))
-    → (got from (Answer group seq (Says.NotMine arc succ)) client ≡ (client, [])) ⊎ IsToldOne ways groups group arc succ client (got from (Answer group seq (Says.NotMine arc succ)) client)
+    → (got from (Answer group seq (Says.NotMine arc succ)) client ≡ (client, [])) ⊎ LearnsOneGroup ways groups group arc succ client (got from (Answer group seq (Says.NotMine arc succ)) client)
 
 -- The step of a client that learns that its group went into another, and knew no other group: it now knows that other group alone,
 -- and what is owed falls by at least one, apart from what is owed for asking a group in vain.

@@ -7,7 +7,7 @@ use Rattle.sc_paxos_words.specs.declared.answers.Must.TheVariants.{Free as Open}
 use Rattle.sc_paxos_words.specs.Definitions.{must, flight_at, without_flight, without_flight_at}
 use Rattle.sc_machine_table.specs.Definitions.{applied}
 use Rattle.sc_law_walks.specs.Definitions.{GoesOn}
-use Rattle.sc_live_steps.specs.calm.Owed.{Ways, offered_owes, asked_owes, body_owes, mail_owes, place_owes}
+use Rattle.sc_live_steps.specs.calm.Potential.{Ways, offered_owes, asked_owes, body_owes, mail_owes, place_owes}
 
 -- No report that the leader has counted says what it must offer at a slot that it has not executed.
 abbrev pub IsUnbound : ReplicaState → Type 0

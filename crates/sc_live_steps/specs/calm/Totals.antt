@@ -5,9 +5,9 @@ use Rattle.sc_node_table.specs.Values.{Draw, OrderLine, Mail, Node, Client, Seat
 use Rattle.sc_actor.specs.Definitions.{value, are_apart, row_of}
 use Rattle.sc_node_table.specs.Definitions.{NodeState, replica_of, ReplicaState}
 use Rattle.sc_sound.specs.Definitions.{Player, player_table}
-use Rattle.sc_live_steps.specs.calm.Nodes.{node_owes}
-use Rattle.sc_live_steps.specs.calm.Owed.{Ways, election}
-use Rattle.sc_live_steps.specs.calm.Parties.{Elsewhere, party_owes}
+use Rattle.sc_live_steps.specs.calm.NodePotential.{node_owes}
+use Rattle.sc_live_steps.specs.calm.Potential.{Ways, election}
+use Rattle.sc_live_steps.specs.calm.PartyPotential.{Elsewhere, party_owes}
 
 -- The rows of a journal of nodes and clients.
 abbrev pub Rows : Type 0

@@ -4,7 +4,7 @@ use Rattle.sc_node_table.specs.Values.{Ballot}
 use Rattle.sc_base.specs.Definitions.{IsRoster, is_member, least_of}
 use Rattle.sc_node_table.specs.Definitions.{is_among}
 use Rattle.sc_paxos_words.specs.Definitions.{below}
-use Rattle.sc_live_steps.specs.following.Following.{Mark, Asks, Votes, Tells, Installs, Prepares, Promises, promise_by, Course, Progress, Sets, members_at, IsOpen, IsFollowing}
+use Rattle.sc_live_steps.specs.following.MailUnderWay.{Mark, Asks, Votes, Tells, Installs, Prepares, Promises, promise_by, Course, Progress, Sets, members_at, IsOpen, IsFollowing}
 use Rattle.sc_live_steps.specs.following.Rows.{IsRow, IsIdle, Takes, Leads, Elects, begun}
 
 -- The node that leads at each slot: it counts the votes for the slot's entry, sends the entry to be learnt, and sends the state after it.
@@ -97,7 +97,7 @@ pub record HintsAreKept : Type 0 where
   pub idle : KeepsHints (λ at. IsIdle) StaysSo
   pub takes : KeepsHints Takes GoesBy
   pub leads : KeepsHints Leads LeadsSo
-  pub elects : KeepsHints Elects ElectsSo
+  pub self_election : KeepsHints Elects ElectsSo
 
 -- What `IsHeeding` says of the next mail of a node that does not lead.
 -- `told`: after an entry it takes a member for the leader, or is not the least member, or the entry is the last one and no node leads.

@@ -4,7 +4,7 @@ use Rattle.sc_base.specs.Definitions.{Among, Each, IsRoster, is_member, least_of
 use Rattle.sc_node_table.specs.Values.{Ballot}
 use Rattle.sc_node_table.specs.Definitions.{listed, slots_ahead}
 use Rattle.sc_paxos_words.specs.Definitions.{below}
-use Rattle.sc_live_steps.specs.following.Following.{Mark, Asks, Votes, Tells, Installs, Prepares, Promises, next_by, promise_by, Course, Progress, Sets, members_at, IsOpen, IsInFlight, IsFollowing}
+use Rattle.sc_live_steps.specs.following.MailUnderWay.{Mark, Asks, Votes, Tells, Installs, Prepares, Promises, next_by, promise_by, Course, Progress, Sets, members_at, IsOpen, IsInFlight, IsFollowing}
 
 -- A row of a node that takes a mail of the group, or none: the other nodes stay where they are, and what the row sends to each node is appended to its mail.
 pub record IsRow (now after : Progress) (node : ℕ) (taken : Option Mark) (sent marks marks_after : ℕ → List Mark) : Type 0 where
@@ -58,8 +58,8 @@ abbrev pub welcome : Course → ℕ → List Mark
 welcome course slot = Installs slot ∷ (if course.is_first then [] else Prepares course.ballot ∷ [])
 
 -- What a leader sends to a node because of the entry at a slot: the entry to a member before it, `welcome` to a node that it adds, nothing to itself and to others.
-abbrev pub told_of : Sets → Course → ℕ → ℕ → List Mark
-told_of at course slot who =
+abbrev pub reported_of : Sets → Course → ℕ → ℕ → List Mark
+reported_of at course slot who =
     if who == course.ballot.node then []
     else if is_member (members_at at slot) who then Tells slot ∷ []
     else if is_member (members_at at (slot + 1)) who then welcome course slot
@@ -68,7 +68,7 @@ told_of at course slot who =
 -- What a leader sends to a node because of `more` entries, from a slot on.
 abbrev pub told_from : Sets → Course → ℕ → ℕ → ℕ → List Mark
 told_from at course slot zero who = []
-told_from at course slot (suc more) who = told_of at course slot who ++ told_from at course (slot + 1) more who
+told_from at course slot (suc more) who = reported_of at course slot who ++ told_from at course (slot + 1) more who
 
 -- The mark is an accept request in the group's ballot, at a slot that the node decides and at which nothing was offered before.
 abbrev pub IsOffer : Sets → Course → ℕ → ℕ → Mark → Type 0

@@ -4,8 +4,8 @@ use Rattle.sc_node_table.specs.Values.{Ballot, Draw, Command, Base, Route, Mail,
 use Rattle.sc_base.specs.Definitions.{IsRoster, is_member, least_of}
 use Rattle.sc_node_table.specs.Definitions.{open_nodes, entered, learnt_to, welcomed, is_among, ReplicaState, Place, name_of, next, members, first_ballot, last_slot, mailed, made_by}
 use Rattle.sc_paxos_words.specs.Definitions.{new_leader}
-use Rattle.sc_live_steps.specs.following.Following.{Mark, Asks, Tells, Installs, Prepares, marks_of, next_by, promise_by, IsFit, Course, Sets, members_at}
-use Rattle.sc_live_steps.specs.following.Rows.{answered, told_of}
+use Rattle.sc_live_steps.specs.following.MailUnderWay.{Mark, Asks, Tells, Installs, Prepares, marks_of, next_by, promise_by, IsFit, Course, Sets, members_at}
+use Rattle.sc_live_steps.specs.following.Rows.{answered, reported_of}
 use Rattle.sc_law_walks.specs.Definitions.{GoesOn}
 
 -- The marks, for a group, of the mails to one node.
@@ -88,8 +88,8 @@ pub record IsLeader (at : Sets) (course : Course) (before : List ℕ) (slot : �
   pub is : members_at at (slot + 1) ≡ members r
   pub rosters : IsRoster before × IsRoster (members r)
 
--- What a leader sends because of an entry that it counted is `told_of`, for each receiver.
-abbrev pub EntriesTell : Type 0
-EntriesTell =
+-- What a leader sends because of an entry that it counted is `reported_of`, for each receiver.
+abbrev pub EntriesReport : Type 0
+EntriesReport =
     (at : Sets) (course : Course) (before : List ℕ) (slot : ℕ) (command : Command) (r : ReplicaState) (mails : List Mail) → IsLeader at course before slot r
-    → (who : ℕ) → marks_for (name_of r) who (welcomed true before (learnt_to true before slot command (r, mails))).1 ≡ marks_for (name_of r) who mails ++ told_of at course slot who
+    → (who : ℕ) → marks_for (name_of r) who (welcomed true before (learnt_to true before slot command (r, mails))).1 ≡ marks_for (name_of r) who mails ++ reported_of at course slot who

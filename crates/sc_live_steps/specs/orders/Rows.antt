@@ -101,7 +101,7 @@ pub record Executes (work : Work) (now after : Scene) (group : Draw) (taken : Op
 pub record Changed (now after : Scene) (group : Draw) (taken : Option Errand) (sent : Draw → List Errand) : Type 0 where
   pub order : Work
   pub is_order : IsOrder order
-  pub executes : Executes order now after group taken
+  pub execution : Executes order now after group taken
   pub bond : (after.at group).bond ≡ (now.at group).bond
   pub sends : IsOnly [] [] sent
 
@@ -112,7 +112,7 @@ pub record Opened (now after : Scene) (group : Draw) (taken : Option Errand) (se
   pub watch : Bool
   pub chief : ℕ
   pub node : ℕ
-  pub executes : Executes (Opens tx) now after group taken
+  pub execution : Executes (Opens tx) now after group taken
   pub bond : (after.at group).bond ≡ Asking tx asked (if watch then Lone else First)
   pub apart : asked ≡ group → ⊥
   pub led : now.lead group ≡ Some chief
@@ -128,7 +128,7 @@ pub record Voted (now after : Scene) (group : Draw) (taken : Option Errand) (sen
   pub by : ℕ
   pub host : ℕ
   pub willing : watch ≡ true → agreed ≡ true
-  pub executes : Executes (Answers tx coord watch by) now after group taken
+  pub execution : Executes (Answers tx coord watch by) now after group taken
   pub was : (now.at group).bond ≡ Unbound
   pub bond : (after.at group).bond ≡ bound_by agreed tx
   pub led : now.lead group ≡ Some host
@@ -139,7 +139,7 @@ pub record Voted (now after : Scene) (group : Draw) (taken : Option Errand) (sen
 pub record Aborted (now after : Scene) (group : Draw) (taken : Option Errand) (sent : Draw → List Errand) : Type 0 where
   pub tx : Draw
   pub by : ℕ
-  pub executes : Executes (Records tx false false by) now after group taken
+  pub execution : Executes (Records tx false false by) now after group taken
   pub bond : (after.at group).bond ≡ Unbound
   pub sends : IsOnly [] [] sent
 
@@ -155,7 +155,7 @@ pub record Decided (now after : Scene) (group : Draw) (taken : Option Errand) (s
   pub by : ℕ
   pub asked : Draw
   pub turn : Turn
-  pub executes : Executes (Records tx (is_watch turn) true by) now after group taken
+  pub execution : Executes (Records tx (is_watch turn) true by) now after group taken
   pub was : (now.at group).bond ≡ Asking tx asked turn
   pub bond : (after.at group).bond ≡ Unbound
   pub sends : IsOnly [] (results tx asked turn by) sent
@@ -168,7 +168,7 @@ pub record Heard (now after : Scene) (group : Draw) (taken : Option Errand) (sen
   pub watcher : Draw
   pub chief : ℕ
   pub node : ℕ
-  pub executes : Executes (Records tx false true by) now after group taken
+  pub execution : Executes (Records tx false true by) now after group taken
   pub was : (now.at group).bond ≡ Asking tx asked First
   pub bond : (after.at group).bond ≡ Asking tx watcher (Next asked by)
   pub third : (watcher ≡ group → ⊥) × (watcher ≡ asked → ⊥)
@@ -179,7 +179,7 @@ pub record Heard (now after : Scene) (group : Draw) (taken : Option Errand) (sen
 -- A party executes the outcome and is free.
 pub record Ended (now after : Scene) (group : Draw) (taken : Option Errand) (sent : Draw → List Errand) : Type 0 where
   pub tx : Draw
-  pub executes : Executes (Ends tx) now after group taken
+  pub execution : Executes (Ends tx) now after group taken
   pub bond : (after.at group).bond ≡ Unbound
   pub sends : IsOnly [] [] sent
 

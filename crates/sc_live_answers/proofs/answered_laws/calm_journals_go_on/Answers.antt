@@ -1,20 +1,20 @@
-use Rattle.sc_live_answers.proofs.Charted.{LineLaws, journals_go_on}
+use Rattle.sc_live_answers.proofs.ChartedScenarios.{LineLaws, journals_go_on}
 use Rattle.sc_live_answers.proofs.SegmentParts.{SegmentLaws}
 use Rattle.sc_live_answers.proofs.SegmentRows.{RowLaws}
-use Rattle.sc_live_answers.proofs.FrontLaws.{journals_begin_resting, orders_leave_resting}
-use Rattle.sc_live_answers.proofs.AskedLaws.{asked_rows_find_calm, asked_rows_go_on, requests_begin_asked, requests_keep_groups, requests_rest_again}
-use Rattle.sc_live_answers.proofs.HomewardLaws.{requests_send_no_errands}
-use Rattle.sc_live_answers.proofs.Homeward.{homeward_actors as homeward_goes_to_actors}
+use Rattle.sc_live_answers.proofs.PrefixLaws.{journals_begin_resting, orders_leave_resting}
+use Rattle.sc_live_answers.proofs.RequestPhaseLaws.{asked_rows_find_calm, asked_rows_go_on, requests_begin_asked, requests_keep_groups, requests_rest_again}
+use Rattle.sc_live_answers.proofs.ErrandReceiverLaws.{requests_send_no_errands}
+use Rattle.sc_live_answers.proofs.ErrandReceivers.{homeward_actors as node_errands_reach_players}
 use Rattle.sc_live_answers.proofs.NameLaws.{clients_are_near, names_stay_few}
-use Rattle.sc_live_answers.proofs.OrderedLaws.{deliveries_keep_ordered, orders_begin_ordered}
-use Rattle.sc_live_answers.proofs.KnownLaws.{fronts_are_found}
-use Rattle.sc_live_answers.proofs.Leading.{well_led_lead_alone}
+use Rattle.sc_live_answers.proofs.OrderInvariantLaws.{deliveries_keep_ordered, orders_begin_ordered}
+use Rattle.sc_live_answers.proofs.QuietPrefixLaws.{prefixes_are_found}
+use Rattle.sc_live_answers.proofs.WellLedLeaders.{well_led_lead_alone}
 use Rattle.sc_live_answers.proofs.RequestLaws.{lawful_replicas_are_named_once}
-use Rattle.sc_live_answers.proofs.Views.{views_agree}
+use Rattle.sc_live_answers.proofs.PlayerViews.{views_agree}
 use Rattle.sc_live_journals.proofs.MailProofs.Lemmas.{desks_are_not_born, mail_is_posted, replicas_last}
 use Rattle.sc_live_journals.proofs.ChartsProofs.Lemmas.{charts_follow, quiet_charts_rest}
 use Rattle.sc_live_answers.proofs.SettingLaws.{quiet_journals_have_frames}
-use Rattle.sc_live_answers.proofs.KeptLaws.{chart_hints_rise, order_charts_follow}
+use Rattle.sc_live_answers.proofs.CalmRowLaws.{chart_hints_rise, order_charts_follow}
 use Rattle.sc_live_answers.proofs.AnswerLaws.{calm_journals_are_short, orders_may_be_given}
 use Rattle.sc_live_plain.proofs.Lemmas.{calm_lines_are_spaced, roomy_scenarios_are_calm}
 use Rattle.sc_live_steps.proofs.CalmProofs.Lemmas.{kept_calm_is_measured, resting_owes_little}
@@ -30,7 +30,7 @@ returns c =
       groups_law = requests_keep_groups;
       again_law = requests_rest_again;
       silent_law = requests_send_no_errands;
-      actors_law = homeward_goes_to_actors;
+      actors_law = node_errands_reach_players;
       near_law = clients_are_near;
       names_law = names_stay_few;
       told_law = orders_begin_ordered;
@@ -39,7 +39,7 @@ returns c =
     } in
     let rows : RowLaws = record {
       all_bounded = c.valid_scenarios_are_bounded.ensures;
-      found_law = fronts_are_found;
+      found_law = prefixes_are_found;
       alone_law = well_led_lead_alone;
       once_law = lawful_replicas_are_named_once;
       agree_law = views_agree;

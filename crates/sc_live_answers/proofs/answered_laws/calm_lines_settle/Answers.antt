@@ -1,4 +1,4 @@
-use Rattle.sc_live_answers.proofs.Charted.{lines_settle}
+use Rattle.sc_live_answers.proofs.ChartedScenarios.{lines_settle}
 use Rattle.sc_live_answers.proofs.AnswerLaws.{calm_lines_end_quiet}
 use Rattle.sc_live_answers.proofs.answered_laws.calm_lines_settle.Goals as goal
 

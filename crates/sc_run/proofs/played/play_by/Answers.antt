@@ -7,7 +7,7 @@ use Rattle.sc_drive.specs.Goings.{SparesGoers}
 use Rattle.sc_drive.specs.Working.{IsDriven, StaysWhole}
 use Rattle.sc_sound.specs.Players.{births, as_nodes}
 use Rattle.sc_run.specs.Played.{mail_weight, IsPlayed}
-use Rattle.sc_run.proofs.Plays.{actors_of, ends, fills, no_want}
+use Rattle.sc_run.proofs.Plays.{actors_of, ends, fills, no_out_of_memory}
 use Rattle.sc_run.proofs.played.play_by.Goals as goal
 
 pub drive-requires-clause-begins : goal.drive-requires-clause-begins
@@ -24,7 +24,7 @@ returns-clause-played g c =
     elim c.drive.result as (λ played. (played ≢ OutOfMemory → StaysWhole old new) → IsDriven two_words (births as_nodes scenario) lines old.net.limit new played → IsPlayed scenario old.net.limit (seen new.net) (map (λ s. s.actor) new.shells.items) played) [
       | Ended cut quiet skips ↦ λ kept e.
           ends law causes budgets scenario c.requires.valid lines lines_are old.net.limit (seen new.net) cut quiet skips (map (λ s. s.actor) new.shells.items)
-          e.lawful e.whole (subst (λ limit. journal_bytes mail_weight (seen new.net) ≤ limit) (kept (no_want cut quiet skips)).stays.exchange.2 e.within) e.cut_is e.quiet_is e.skips_are (actors_of new.shells.items ∙ ap (map (λ seat. seat.actor)) e.left)
+          e.lawful e.whole (subst (λ limit. journal_bytes mail_weight (seen new.net) ≤ limit) (kept (no_out_of_memory cut quiet skips)).stays.exchange.2 e.within) e.cut_is e.quiet_is e.skips_are (actors_of new.shells.items ∙ ap (map (λ seat. seat.actor)) e.left)
       | Full ↦ λ kept full. fills law causes budgets scenario c.requires.valid lines lines_are old.net.limit (seen new.net) full
       | OutOfMemory ↦ λ kept full. tt
     ] c.drive.ensures.kept (c.drive.ensures.driven (births as_nodes scenario) c.requires.opened)

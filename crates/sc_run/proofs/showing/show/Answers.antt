@@ -24,7 +24,7 @@ returns-in_ok-lines-in-Ended g c =
     let ended : HasPlayedToEnd scenario journal_limit c.in-Ended.unsettled c.in-Ended.quiet c.in-Ended.skipped left.journal left.parties =
     subst (IsPlayed scenario journal_limit left.journal left.parties) c.in-Ended.is c.in_ok-left.ensures in
     let shows : ShowsScan scenario sight left.journal text.lines =
-    shows_scan c.scans_tell.ensures c.entries_count_logs.ensures c.valid_entries_are_logs.ensures scenario c.requires.valid left.journal ended.lawful ended.sound sight
+    shows_scan c.scans_show.ensures c.entries_count_logs.ensures c.valid_entries_are_logs.ensures scenario c.requires.valid left.journal ended.lawful ended.sound sight
     c.in_ok-lines-in-Ended.ensures.arc.0 c.in_ok-lines-in-Ended.ensures.arc.1 (take sight.rows left.journal) refl text.lines
     (subst (λ (rows : List (Row Mail OrderLine)). text.lines ≡ scan_lines sight.most (length (take sight.rows rows))
     (scan_of (world_at as_nodes scenario.groups (take sight.rows rows)) (entries_in (entries_at as_nodes scenario.groups (take sight.rows rows))) sight.arc))

@@ -8,7 +8,7 @@ use Rattle.sc_mail.specs.declared.bodies.Mail.{Mail}
 use Rattle.sc_actor.specs.declared.rows.Row.{Row}
 use Rattle.sc_actor.specs.Mail.{mails}
 use Rattle.sc_node_table.specs.Replica.{either}
-use Rattle.sc_world.specs.Summary.{told_of}
+use Rattle.sc_world.specs.Summary.{reported_of}
 use Rattle.sc_law_walks.proofs.Ways.{either_assoc}
 use Rattle.sc_world.proofs.OrderWords.{told-append}
 use Rattle.sc_world.proofs.orders.note_rows.Goals as goal
@@ -28,8 +28,8 @@ loop-row-preserved c = record {
       ∙ flat_map-append sent (take i rows) (c.row-item.result ∷ [])
       ∙ ap (λ (ms : List Mail). mails (take i rows) ++ ms) (append-nil c.row-item.result.sent) in
       c.note_all.ensures.kept k (omega (arith, within, c.loop-row.invariant.len))
-      ∙ ap (λ (o : Option ToldResult). either o (told_of (k + 1) c.as_slice.result.now)) (c.loop-row.invariant.kept k within)
-      ∙ either_assoc before (told_of (k + 1) (mails (take i rows))) (told_of (k + 1) c.as_slice.result.now)
-      ∙ ap (either before) (ap (λ (ms : List Mail). either (told_of (k + 1) (mails (take i rows))) (told_of (k + 1) ms)) c.as_slice.ensures
-      ∙ sym (told-append (k + 1) (mails (take i rows)) c.row-item.result.sent) ∙ sym (ap (told_of (k + 1)) more));
+      ∙ ap (λ (o : Option ToldResult). either o (reported_of (k + 1) c.as_slice.result.now)) (c.loop-row.invariant.kept k within)
+      ∙ either_assoc before (reported_of (k + 1) (mails (take i rows))) (reported_of (k + 1) c.as_slice.result.now)
+      ∙ ap (either before) (ap (λ (ms : List Mail). either (reported_of (k + 1) (mails (take i rows))) (reported_of (k + 1) ms)) c.as_slice.ensures
+      ∙ sym (told-append (k + 1) (mails (take i rows)) c.row-item.result.sent) ∙ sym (ap (reported_of (k + 1)) more));
 }

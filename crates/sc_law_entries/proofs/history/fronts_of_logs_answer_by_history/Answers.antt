@@ -1,5 +1,0 @@
-use Rattle.sc_law_entries.proofs.HistoryProofs.Fronts.{fronts_answer, logs_make_states}
-use Rattle.sc_law_entries.proofs.history.fronts_of_logs_answer_by_history.Goals as goal
-
-pub returns : goal.returns
-returns c = record { states = logs_make_states; fronts = fronts_answer }

@@ -1,5 +1,0 @@
-use Rattle.sc_law_entries.proofs.HistoryProofs.MovesKept.{move_kept, moves_tell}
-use Rattle.sc_law_entries.proofs.history.moves_tell_histories.Goals as goal
-
-pub returns : goal.returns
-returns c = record { one = move_kept; all = moves_tell }

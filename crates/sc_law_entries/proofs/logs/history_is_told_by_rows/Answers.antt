@@ -1,5 +1,0 @@
-use Rattle.sc_law_entries.proofs.LogsProofs.Histories.{history_is_told}
-use Rattle.sc_law_entries.proofs.logs.history_is_told_by_rows.Goals as goal
-
-pub returns : goal.returns
-returns c = history_is_told

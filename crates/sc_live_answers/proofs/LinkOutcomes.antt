@@ -1,0 +1,124 @@
+-- What is said of the link and the route of a group, and of the stories, where they name nodes; and that an outcome leaves it.
+use Rattle.std.proofs.Common.{◌≡◌, ℕ, ◌≤◌, ◌⊎◌, Bool, true, false, cond, ◌&&◌, ◌||◌, ◌++◌, filter, arith, not, eqb, nat_lt, nat_le, length, List, [], ◌∷◌, Option, Some, None, inl, inr, refl, sym, ◌∙◌, ap, subst}
+use Rattle.std.specs.List.{list_any}
+use Rattle.std.proofs.lemmas.Bool.{cond_both, eqb-true, eq-eqb, or_right}
+use Rattle.std.proofs.lemmas.Option.{same_Some}
+use Rattle.sc_base.specs.Definitions.{same_draw, is_member, with_member, united}
+use Rattle.sc_node_table.specs.Values.{Draw, Offer, Finish, Core, Lock, Free, Coordinating, Promised, Watching, Effect, Link, Route, Frozen, Gift, Outcome, Abort, Merged, Moved, Migrated, Divided}
+use Rattle.sc_base.proofs.Lemmas.{grows}
+use Rattle.sc_cmd.specs.declared.effects.Effect.TheVariants as Was
+use Rattle.sc_cmd.specs.declared.votes.Vote.TheVariants as Ballot
+use Rattle.sc_machine_table.specs.Definitions.{Group, has_key_of, can_gain, gained_group, lost_group, welcomed_group, moved, participant_after, settled_in, watcher_after, party_freed, finished, can_cut}
+use Rattle.sc_law_entries.specs.ring.Definitions.{Sources, IsAllowed, Story, Stories}
+use Rattle.sc_log_entries.proofs.Lemmas.{one_of as or_true}
+
+-- some nodes, of each of which something holds with a group's name
+abbrev pub Good : (Draw → ℕ → Type 0) → Draw → List ℕ → Type 0
+Good P name nodes = (1 ≤ length nodes) × ((node : ℕ) → is_member nodes node ≡ true → P name node)
+
+-- ---- a call changes no record
+
+-- ---- sets of nodes
+
+any_append : (p : ℕ → Bool) (xs ys : List ℕ) → list_any p (xs ++ ys) ≡ (list_any p xs || list_any p ys)
+any_append p [] ys = refl
+any_append p (x ∷ xs) ys = ap (λ b. p x || b) (any_append p xs ys) ∙ sym (or_assoc (p x) (list_any p xs) (list_any p ys))
+  where
+    or_assoc : (a b c : Bool) → ((a || b) || c) ≡ (a || (b || c))
+    or_assoc true b c = refl
+    or_assoc false b c = refl
+
+any_filter : (p q : ℕ → Bool) (xs : List ℕ) → list_any p (filter q xs) ≡ true → list_any p xs ≡ true
+any_filter p q [] = λ e. e
+any_filter p q (x ∷ xs) = cond_both (q x) (x ∷ filter q xs) (filter q xs) (λ l. list_any p l ≡ true → (p x || list_any p xs) ≡ true)
+    (λ _ e. elim (or_true (p x) (list_any p (filter q xs)) e) [ inl here ↦ ap (λ b. b || list_any p xs) here | inr more ↦ or_right (p x) (list_any p xs) (any_filter p q xs more) ])
+    (λ _ e. or_right (p x) (list_any p xs) (any_filter p q xs e))
+
+-- who is among some nodes and one more is one of these or that
+with_any_member : (nodes : List ℕ) (node who : ℕ) → is_member (united nodes (node ∷ [])) who ≡ true → (is_member nodes who ≡ true) ⊎ (who ≡ node)
+with_any_member nodes node who = cond_both (is_member nodes node) nodes (with_member nodes node) (λ l. is_member l who ≡ true → (is_member nodes who ≡ true) ⊎ (who ≡ node))
+    (λ _ e. inl e)
+    (λ _ e. (let is = λ (m : ℕ). eqb m who in
+    let parts = sym (any_append is (filter (λ m. nat_lt m node) nodes) (node ∷ filter (λ m. nat_lt node m) nodes)) ∙ e in
+    elim (or_true (list_any is (filter (λ m. nat_lt m node) nodes)) (eqb node who || list_any is (filter (λ m. nat_lt node m) nodes)) parts) [
+      | inl low ↦ inl (any_filter is (λ m. nat_lt m node) nodes low)
+      | inr more ↦ elim (or_true (eqb node who) (list_any is (filter (λ m. nat_lt node m) nodes)) more) [ inl same ↦ inr (sym (eqb-true node who same)) | inr high ↦ inl (any_filter is (λ m. nat_lt node m) nodes high) ]
+    ]))
+
+any_appended : (p : ℕ → Bool) (xs ys : List ℕ) → list_any p ys ≡ true → list_any p (xs ++ ys) ≡ true
+any_appended p xs ys e = any_append p xs ys ∙ or_right (list_any p xs) (list_any p ys) e
+
+-- and that is
+pub united_has : (nodes : List ℕ) (node : ℕ) → is_member (united nodes (node ∷ [])) node ≡ true
+united_has nodes node = cond_both (is_member nodes node) nodes (with_member nodes node) (λ l. is_member l node ≡ true) (λ e. e)
+    (λ _. any_appended (λ m. eqb m node) (filter (λ m. nat_lt m node) nodes) (node ∷ filter (λ m. nat_lt node m) nodes) (ap (λ b. b || list_any (λ m. eqb m node) (filter (λ m. nat_lt node m) nodes)) (eq-eqb node node refl)))
+
+-- ---- what is said of nodes
+
+module _ (Were Come : Draw → ℕ → Type 0) (come : (name : Draw) (node : ℕ) → Were name node → Come name node) where
+  -- the link of a group, and where it went
+  pub record IsLinkedSo (core : Core) : Type 0 where
+    pub succ : Good Come core.succ.group core.succ.members
+    pub gone : (into : Route) → core.gone ≡ Some into → Good Were into.group into.members
+
+  -- what a participant handed over, and where it was to go
+  pub record GivesAllowedOrder (y : Story) : Type 0 where
+    pub voted : (f : Frozen) → y.vote ≡ Some (Ballot.Yes f) → Good Come f.succ.group f.succ.members × ((offer : Offer) → y.offer ≡ Some offer → Good Were offer.part f.members)
+    pub ended : (into : Route) → y.outcome ≡ Some (Merged into) → Good Were into.group into.members
+
+  pub good_come : (name : Draw) (nodes : List ℕ) → Good Were name nodes → Good Come name nodes
+  good_come name nodes g = (g.0, λ node m. come name node (g.1 node m))
+
+  -- one more node
+  pub more_good : (name : Draw) (nodes : List ℕ) (node : ℕ) → Good Come name nodes → Come name node → Good Come name (united nodes (node ∷ []))
+  more_good name nodes node g c = (
+    (let up = grows nodes (node ∷ []) in let low = g.0 in omega (arith, up, low)),
+    λ who m. elim (with_any_member nodes node who m) [ inl was ↦ g.1 who was | inr is ↦ subst (Come name) (sym is) c ],
+  )
+
+  module _ (sources : Sources) (ys : Stories) (g : Draw) (s : Group) (linked : IsLinkedSo s.core) (all_told : (tx : Draw) (y : Story) → ys tx ≡ Some y → GivesAllowedOrder y) where
+    pub kept_links : (c : Core) → c.succ ≡ s.core.succ → c.gone ≡ s.core.gone → IsLinkedSo c
+    kept_links c succ gone = record {
+      succ = subst (λ (l : Link). Good Come l.group l.members) (sym succ) linked.succ;
+      gone = λ into e. linked.gone into (sym gone ∙ e);
+    }
+
+    -- ---- an outcome
+
+    module _ (tx : Draw) (outcome : Outcome) (a : IsAllowed sources ys g (Finish tx outcome)) where
+      abbrev Ends : Group × Effect → Type 0
+      Ends r = IsLinkedSo r.0.core
+
+      abbrev EndsIn : Option Group → Type 0
+      EndsIn None = Unit {0}
+      EndsIn (Some after) = IsLinkedSo after.core
+
+      made : (b : Bool) (after : Group) → after.core.succ ≡ s.core.succ → after.core.gone ≡ s.core.gone → EndsIn (cond b (Some after) None)
+      made true after e f = kept_links after.core e f
+      made false after e f = tt
+
+      by_gift : (gift : Option Gift) (offer : Offer) (at : ℕ) → EndsIn (moved gift s offer at)
+      by_gift (Some gift) offer at = made (can_gain s.core offer at && not (has_key_of s.pairs gift.pairs)) (gained_group s offer at gift) refl refl
+      by_gift None offer at = made (can_cut s.core.arc at) (lost_group s at) refl refl
+
+      ended_in : (o : Outcome) → o ≡ outcome → (offer : Offer) → EndsIn (participant_after o s offer)
+      ended_in Abort e offer = kept_links s.core refl refl
+      ended_in (Merged into) e offer = record {
+        succ = linked.succ;
+        gone = λ r q. subst (λ (x : Route). Good Were x.group x.members) (same_Some into r q) ((all_told tx a.0 a.1).ended into (a.2 ∙ ap Some (sym e)));
+      }
+      ended_in (Moved at gift) e offer = by_gift gift offer at
+      ended_in (Migrated node) e offer = made (nat_le (length (united s.core.members (node ∷ []))) 9) (welcomed_group s node) refl refl
+      ended_in Divided e offer = tt
+
+      settled_ends : (o : Option Group) → EndsIn o → Ends (settled_in o s tx outcome)
+      settled_ends None k = kept_links s.core refl refl
+      settled_ends (Some after) k = record { succ = k.succ; gone = k.gone }
+
+      pub finished_ends : (l : Lock) → Ends (finished l s tx outcome)
+      finished_ends Free = kept_links s.core refl refl
+      finished_ends (Coordinating t body order h) = kept_links s.core refl refl
+      finished_ends (Promised t offer) =
+          cond_both (same_draw t tx) (settled_in (participant_after outcome s offer) s tx outcome) (s, Was.NoEffect tx) Ends (λ _. settled_ends (participant_after outcome s offer) (ended_in outcome refl offer)) (λ _. kept_links s.core refl refl)
+      finished_ends (Watching t watch) =
+          cond_both (same_draw t tx) (party_freed (watcher_after outcome s watch) tx, Was.Decided outcome) (s, Was.NoEffect tx) Ends (λ _. kept_links (party_freed (watcher_after outcome s watch) tx).core refl refl) (λ _. kept_links s.core refl refl)

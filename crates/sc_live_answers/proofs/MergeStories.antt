@@ -1,0 +1,250 @@
+-- What logs record of a transaction: its name was drawn for its coordinator, which is not its participant; and where it merges a group, that goes into its coordinator.
+use Rattle.std.proofs.Common.{◌≡◌, ℕ, ◌&&◌, not, cond, Bool, true, false, true≢false, List, [], ◌∷◌, Option, Some, None, option_map, refl, sym, ◌∙◌, ap, subst}
+use Rattle.std.proofs.lemmas.Bool.{cond_both}
+use Rattle.std.proofs.lemmas.Option.{same_Some}
+use Rattle.sc_base.specs.Definitions.{same_draw, holds}
+use Rattle.sc_node_table.specs.Values.{Draw, Body, Offer, Command, Noop, Call, Join, Leave, Split, Begin, Prepared, RecordVote, GiveUp, Finish, Watched, RecordWatch, Base, Core, Lock, Coordinating, Free, Promised, Watching, Effect, Route, Frozen, Heard, Outcome, Past, Vote}
+use Rattle.sc_base.proofs.Lemmas.{draw_is, same_name}
+use Rattle.sc_cmd.specs.Definitions.{is_alone, decided_in, is_changed}
+use Rattle.sc_cmd.specs.declared.bodies.Body.TheVariants as At
+use Rattle.sc_cmd.specs.declared.effects.Effect.TheVariants as Was
+use Rattle.sc_cmd.specs.declared.votes.Outcome.TheVariants as Is
+use Rattle.sc_cmd.specs.declared.votes.Past.TheVariants as Cast
+use Rattle.sc_cmd.specs.declared.votes.Vote.TheVariants as Vows
+use Rattle.sc_log_entries.specs.Definitions.{named_group}
+use Rattle.sc_log_entries.specs.declared.LogEntry.{LogEntry}
+use Rattle.sc_machine_table.specs.Definitions.{Group, applied, begin_refused, refused_in, locked_in, Plan, can_migrate, can_repart, can_split, closing_group, closing_plan, giving_group, giving_plan, has_key_of, may_merge, merge_plan, merged_group, merged_route, migrate_plan, migrated_group, part_gift, repart_plan, split_plan, taken, taking_group, taking_plan, left_group, asks_watcher, committed, decided_group, granted, heard_group, is_coordinating, participant_answered, released, vote_recorded, watch_answered, watch_recorded}
+use Rattle.sc_law_entries.specs.ring.Definitions.{AreAllowed, IsAllowed, Sources, StoryWorld, first_recorded, recorded_stories, recorded_after, recorded_next, Groups, IsCoordinating, LockOk, BeginInPlace, stories_of, Stories, Story, new_story, put, retold, stories_after, vote_in, watch_vote_in, with_answer, with_asked, with_decision, with_vote, with_watch_vote}
+use Rattle.sc_law_entries.proofs.RingProofs.Lemmas.{arcs_in, at_start, Kept, groups_in, Ring, KeptWorld, kept_on}
+use Rattle.sc_law_groups.proofs.WholeProofs.Lemmas.{comes, dull_same}
+use Rattle.sc_live_answers.proofs.FittingGroups.{none_of}
+
+-- ---- where a decision leads
+
+no_outcome : (outcome : Outcome) (P : Type 0) → None ≡ Some outcome → P
+no_outcome outcome P e = absurd (let bad : None ≡ Some outcome = e in cc)
+
+-- a group that decides a merge takes the other group in, in the transaction that it coordinates
+module _ (s : Group) where
+  abbrev pub Leads : Draw → Group × Effect → Type 0
+  Leads tx r = (into : Route) → decided_in r.1 ≡ Some (Is.Merged into) → (into.group ≡ s.core.id) × (body : Body) × (order : ℕ) × (heard : Option Heard) × (s.core.lock ≡ Coordinating tx body order heard)
+
+  module _ (tx : Draw) (body : Body) (order : ℕ) (heard : Option Heard) (lock : s.core.lock ≡ Coordinating tx body order heard) where
+    idle : Leads tx (s, Was.NoEffect tx)
+    idle into e = no_outcome (Is.Merged into) _ e
+
+    aborts : (after : Group) → Leads tx (after, Was.Decided Is.Abort)
+    aborts after into e = absurd (let bad : Some Is.Abort ≡ Some (Is.Merged into) = e in cc)
+
+    -- a plan leads there
+    abbrev PlanLeads : Plan → Type 0
+    PlanLeads None = Unit {0}
+    PlanLeads (Some plan) = (into : Route) → plan.1 ≡ Is.Merged into → into.group ≡ s.core.id
+
+    plan_if : (b : Bool) (plan : Group × Outcome) → ((into : Route) → plan.1 ≡ Is.Merged into → into.group ≡ s.core.id) → PlanLeads (cond b (Some plan) None)
+    plan_if true plan k = k
+    plan_if false plan k = tt
+
+    by_plan : (plan : Plan) → PlanLeads plan → Leads tx (committed plan s tx)
+    by_plan None k into e = no_outcome (Is.Merged into) _ e
+    by_plan (Some plan) k into e = (k into (same_Some plan.1 (Is.Merged into) e), body, order, heard, lock)
+
+    by_route : (frozen : Frozen) (into : Route) → Is.Merged (merged_route s.core frozen) ≡ Is.Merged into → into.group ≡ s.core.id
+    by_route frozen into e = (let same : merged_route s.core frozen ≡ into = cc in ap (λ (r : Route). r.group) (sym same))
+
+    no_move : (at : ℕ) (gift : _) (into : Route) → Is.Moved at gift ≡ Is.Merged into → into.group ≡ s.core.id
+    no_move at gift into e = absurd cc
+
+    repart_so : (at : ℕ) (frozen : Frozen) → PlanLeads (repart_plan s at frozen)
+    repart_so at frozen = cond_both (holds s.core.arc at) (giving_plan s at frozen) (taking_plan s at frozen) PlanLeads
+        (λ _. plan_if (can_repart s.core at frozen) (giving_group s at frozen, Is.Moved at (Some (part_gift s at))) (no_move at (Some (part_gift s at))))
+        (λ _. plan_if (can_repart s.core at frozen && not (has_key_of s.pairs (taken at frozen).pairs)) (taking_group s at frozen, Is.Moved at None) (no_move at None))
+
+    granted_so : (b : Body) (frozen : Frozen) (by : ℕ) → Leads tx (granted b s tx order frozen by)
+    granted_so At.Merge frozen by =
+        cond_both (same_draw frozen.succ.group s.core.id) (committed (closing_plan s frozen) s tx) (heard_group s tx At.Merge order (record { frozen = frozen; by = by }), Was.Changed) (Leads tx)
+        (λ _. by_plan (closing_plan s frozen) (plan_if (may_merge s frozen) (closing_group s frozen, Is.Merged (merged_route s.core frozen)) (by_route frozen))) (λ _ into e. no_outcome (Is.Merged into) _ e)
+    granted_so (At.Repart at) frozen by = by_plan (repart_plan s at frozen) (repart_so at frozen)
+    granted_so (At.Migrate node) frozen by = by_plan (migrate_plan s node frozen) (plan_if (can_migrate s.core node frozen) (migrated_group s node frozen, Is.Migrated node) (λ into e. absurd cc))
+    granted_so (At.Split at child) frozen by = idle
+
+    answered_so : (vote : Vote) (by : ℕ) → Leads tx (participant_answered vote body s tx order by)
+    answered_so (Vows.Yes frozen) by = granted_so body frozen by
+    answered_so (Vows.No why) by = aborts (decided_group s tx Is.Abort)
+
+    released_so : (b : Body) (h : Option Heard) → Leads tx (released b h s tx)
+    released_so At.Merge (Some h) = by_plan (merge_plan s h.frozen) (plan_if (may_merge s h.frozen) (merged_group s h.frozen, Is.Merged (merged_route s.core h.frozen)) (by_route h.frozen))
+    released_so At.Merge None = idle
+    released_so (At.Repart at) h = idle
+    released_so (At.Migrate node) h = idle
+    released_so (At.Split at child) h = by_plan (split_plan s at child) (plan_if (can_split s.core at) (left_group s at child, Is.Divided) (λ into e. absurd cc))
+
+    watched_so : (past : Past) → Leads tx (watch_answered past body heard s tx)
+    watched_so Cast.Yes = released_so body heard
+    watched_so (Cast.No why) = aborts (decided_group s tx Is.Abort)
+    watched_so Cast.Ended = aborts (decided_group s tx Is.Abort)
+
+  none_so : (tx t : Draw) → Leads tx (s, Was.NoEffect t)
+  none_so tx t into e = no_outcome (Is.Merged into) _ e
+
+  recorded_so : (tx : Draw) (vote : Vote) (by : ℕ) (l : Lock) → s.core.lock ≡ l → Leads tx (vote_recorded l s tx vote by)
+  recorded_so tx vote by Free e = none_so tx tx
+  recorded_so tx vote by (Promised t offer) e = none_so tx tx
+  recorded_so tx vote by (Watching t watch) e = none_so tx tx
+  recorded_so tx vote by (Coordinating t body order heard) e =
+      cond_both (same_draw t tx) _ _ (Leads tx)
+      (λ q. cond_both (asks_watcher body heard) _ _ (Leads tx) (λ _. none_so tx tx) (λ _. answered_so tx body order heard (e ∙ ap (λ x. Coordinating x body order heard) (draw_is t tx q)) vote by)) (λ _. none_so tx tx)
+
+  watch_so : (tx : Draw) (past : Past) (l : Lock) → s.core.lock ≡ l → Leads tx (watch_recorded l s tx past)
+  watch_so tx past Free e = none_so tx tx
+  watch_so tx past (Promised t offer) e = none_so tx tx
+  watch_so tx past (Watching t watch) e = none_so tx tx
+  watch_so tx past (Coordinating t body order heard) e =
+      cond_both (same_draw t tx) _ _ (Leads tx)
+      (λ q. cond_both (asks_watcher body heard) _ _ (Leads tx) (λ _. watched_so tx body order heard (e ∙ ap (λ x. Coordinating x body order heard) (draw_is t tx q)) past) (λ _. none_so tx tx)) (λ _. none_so tx tx)
+
+  given_so : (tx : Draw) → Leads tx (applied s (GiveUp tx))
+  given_so tx = cond_both (is_coordinating s.core.lock tx) _ _ (Leads tx) (λ _ into e. absurd (let bad : Some Is.Abort ≡ Some (Is.Merged into) = e in cc)) (λ _. none_so tx tx)
+
+-- ---- who begins
+
+free_refused : (o : Option Draw) (core : Core) (tx : Draw) (body : Body) (order : ℕ) → refused_in o core (Begin tx body order) ≡ None → begin_refused core body ≡ None
+free_refused None core tx body order e = e
+free_refused (Some t) core tx body order e = absurd cc
+
+begins_apart : (s : Group) (tx : Draw) (body : Body) (order : ℕ) → is_changed (applied s (Begin tx body order)).1 ≡ true → s.core.succ.group ≡ s.core.id → ⊥
+begins_apart s tx body order changed same =
+    comes s (λ d x. d ≡ Begin tx body order → is_changed x.1 ≡ true → ⊥)
+    (record {
+      same = λ d effect dull is e. dull_same effect dull e;
+      served = λ client seq op after effect core is e. cc;
+      joined = λ node order_ is e. cc;
+      left = λ node order_ is e. cc;
+      parted = λ at child order_ free is e. cc;
+      split = λ at child order_ free is e. cc;
+      begun = λ t b o may is e. (let one : b ≡ body = cc in true≢false (sym (same_name s.core.succ.group s.core.id same) ∙ (none_of (is_alone s.core) _ _ (free_refused (locked_in s.core.lock) s.core t b o may)).0));
+      offered = λ t offer new is e. cc;
+      asked = λ t watch new is e. cc;
+      heard = λ t order_ got lock frozen from is e. cc;
+      ended = λ d t ends free after outcome r is e. cc;
+      finished = λ t binds after outcome r is e. cc;
+    }) (Begin tx body order) refl changed
+
+-- ---- stories
+
+-- its name was drawn for the coordinator, which asks another group; and a group that is merged goes into it
+pub record IsHomeStory (owner : Option Draw) (y : Story) : Type 0 where
+  pub drawn : owner ≡ Some y.coordinator
+  pub apart : (offer : Offer) → y.offer ≡ Some offer → offer.part ≡ y.coordinator → ⊥
+  pub home : (into : Route) → y.outcome ≡ Some (Is.Merged into) → into.group ≡ y.coordinator
+
+module _ (owner : Draw → Option Draw) where
+  abbrev AllHome : Stories → Type 0
+  AllHome ys = (tx : Draw) (y : Story) → ys tx ≡ Some y → IsHomeStory (owner tx) y
+
+  home_put : (ys : Stories) (tx : Draw) (o : Option Story) → ((y : Story) → o ≡ Some y → IsHomeStory (owner tx) y) → AllHome ys → AllHome (put ys tx o)
+  home_put ys tx o new old t story = cond_both (same_draw t tx) o (ys t) (λ (x : Option Story). x ≡ Some story → IsHomeStory (owner t) story)
+      (λ q e. subst (λ n. IsHomeStory (owner n) story) (sym (draw_is t tx q)) (new story e)) (λ _ e. old t story e)
+
+  home_retold : (ys : Stories) (tx : Draw) (f : Story → Story) → ((y : Story) → ys tx ≡ Some y → IsHomeStory (owner tx) (f y)) → AllHome ys → AllHome (retold ys tx f)
+  home_retold ys tx f new old = by (ys tx) refl
+    where
+      by : (o : Option Story) → ys tx ≡ o → AllHome (put ys tx (option_map f o))
+      by None e = home_put ys tx None (λ y is. cc) old
+      by (Some story) e = home_put ys tx (Some (f story)) (λ y is. (let same : f story ≡ y = cc in subst (IsHomeStory (owner tx)) same (new story e))) old
+
+  -- a story that goes on keeps whom it asks
+  voted_home : (o : Option Draw) (v : Option Vote) (y : Story) → IsHomeStory o y → IsHomeStory o (with_vote v y)
+  voted_home o None y k = k
+  voted_home o (Some vote) y k = record { drawn = k.drawn; apart = k.apart; home = k.home }
+
+  watch_home : (o : Option Draw) (v : Option Past) (y : Story) → IsHomeStory o y → IsHomeStory o (with_watch_vote v y)
+  watch_home o None y k = k
+  watch_home o (Some past) y k = record { drawn = k.drawn; apart = k.apart; home = k.home }
+
+  decided_home : (o : Option Draw) (d : Option Outcome) (y : Story) → IsHomeStory o y → ((into : Route) → d ≡ Some (Is.Merged into) → into.group ≡ y.coordinator) → IsHomeStory o (with_decision d y)
+  decided_home o None y k leads = k
+  decided_home o (Some outcome) y k leads = record { drawn = k.drawn; apart = k.apart; home = leads }
+
+  asked_home : (o : Option Draw) (core : Core) (vote : Vote) (y : Story) → IsHomeStory o y → IsHomeStory o (with_asked core vote y)
+  asked_home o core (Vows.Yes frozen) y k = record { drawn = k.drawn; apart = k.apart; home = k.home }
+  asked_home o core (Vows.No why) y k = k
+
+  -- one that begins
+  new_home : (o : Option Draw) (s : Group) (body : Body) → o ≡ Some s.core.id → (s.core.succ.group ≡ s.core.id → ⊥) → IsHomeStory o (new_story s body)
+  new_home o s body is apart = record { drawn = is; apart = asked body; home = λ into e. no_outcome (Is.Merged into) _ e }
+    where
+      asked : (b : Body) (offer : Offer) → (new_story s b).offer ≡ Some offer → offer.part ≡ s.core.id → ⊥
+      asked At.Merge offer e same = apart (ap (λ (x : Offer). x.part) (same_Some _ offer e) ∙ same)
+      asked (At.Repart at) offer e same = apart (ap (λ (x : Offer). x.part) (same_Some _ offer e) ∙ same)
+      asked (At.Migrate node) offer e same = apart (ap (λ (x : Offer). x.part) (same_Some _ offer e) ∙ same)
+      asked (At.Split at child) offer e same = absurd (let bad : None ≡ Some offer = e in cc)
+
+  -- a split asks none
+  split_home : (o : Option Draw) (s : Group) (at : ℕ) (child : Draw) → o ≡ Some s.core.id → IsHomeStory o (new_story s (At.Split at child))
+  split_home o s at child is = record { drawn = is; apart = λ offer e same. (let bad : None ≡ Some offer = e in cc); home = λ into e. no_outcome (Is.Merged into) _ e }
+
+-- ---- entries
+
+module _ (sources : Sources) (ring : Ring) (gs : Groups) (ys : Stories) (g : Draw) (s : Group) (k : Kept sources.owner ring gs ys) (is : gs g ≡ Some s) (old : AllHome sources.owner ys) where
+  named : s.core.id ≡ g
+  named = (k.0.group g s is).named
+
+  -- who decides is the coordinator
+  decider : (tx : Draw) (y : Story) → ys tx ≡ Some y → (r : Group × Effect) → Leads s tx r → (into : Route) → decided_in r.1 ≡ Some (Is.Merged into) → into.group ≡ y.coordinator
+  decider tx y e r leads into d =
+      let l = leads into d in
+      let own : IsCoordinating ys g s tx l.1 l.3 = subst (LockOk ys g s) l.4 (k.0.group g s is).lock_ok in
+      l.0 ∙ (named ∙ (sym own.coordinator ∙ ap (λ (z : Story). z.coordinator) (same_Some own.story y (sym own.is ∙ e))))
+
+  answer_home : (tx : Draw) (vote : Vote) (by : ℕ) (y : Story) → ys tx ≡ Some y → IsHomeStory (sources.owner tx) (with_answer s.core vote (applied s (RecordVote tx vote by)).1 y)
+  answer_home tx vote by y e =
+      cond_both (is_changed (applied s (RecordVote tx vote by)).1) (with_asked s.core vote y) (with_decision (decided_in (applied s (RecordVote tx vote by)).1) y) (IsHomeStory (sources.owner tx))
+      (λ _. asked_home sources.owner (sources.owner tx) s.core vote y (old tx y e))
+      (λ _. decided_home sources.owner (sources.owner tx) (decided_in (applied s (RecordVote tx vote by)).1) y (old tx y e) (decider tx y e (applied s (RecordVote tx vote by)) (recorded_so s tx vote by s.core.lock refl)))
+
+  begun_home : (tx : Draw) (body : Body) (order : ℕ) → sources.owner tx ≡ Some g → AllHome sources.owner (stories_after s (Begin tx body order) (applied s (Begin tx body order)).1 ys)
+  begun_home tx body order mine =
+      cond_both (is_changed (applied s (Begin tx body order)).1) (put ys tx (Some (new_story s body))) ys (AllHome sources.owner)
+      (λ t. home_put sources.owner ys tx (Some (new_story s body)) (λ y e. subst (IsHomeStory (sources.owner tx)) (same_Some (new_story s body) y e) (new_home sources.owner (sources.owner tx) s body (mine ∙ ap Some (sym named)) (begins_apart s tx body order t))) old)
+      (λ _. old)
+
+  split_so : (at : ℕ) (child : Draw) (order : ℕ) → sources.owner child ≡ Some g → AllHome sources.owner (stories_after s (Split at child order) (applied s (Split at child order)).1 ys)
+  split_so at child order mine =
+      cond_both (is_changed (applied s (Split at child order)).1 && not (is_alone s.core)) (put ys child (Some (new_story s (At.Split at child)))) ys (AllHome sources.owner)
+      (λ _. home_put sources.owner ys child (Some (new_story s (At.Split at child)))
+      (λ y e. subst (IsHomeStory (sources.owner child)) (same_Some (new_story s (At.Split at child)) y e) (split_home sources.owner (sources.owner child) s at child (mine ∙ ap Some (sym named)))) old)
+      (λ _. old)
+
+  entry_home : (c : Command) → IsAllowed sources ys g c → AllHome sources.owner (stories_after s c (applied s c).1 ys)
+  entry_home Noop a = old
+  entry_home (Call client seq op) a = old
+  entry_home (Join node order) a = old
+  entry_home (Leave node order) a = old
+  entry_home (Finish tx outcome) a = old
+  entry_home (Split at child order) a = split_so at child order a.0
+  entry_home (Begin tx body order) a = begun_home tx body order a.0
+  entry_home (Prepared tx offer) a = home_retold sources.owner ys tx _ (λ y e. voted_home sources.owner (sources.owner tx) (vote_in s (applied s (Prepared tx offer)).1) y (old tx y e)) old
+  entry_home (Watched tx watch) a = home_retold sources.owner ys tx _ (λ y e. watch_home sources.owner (sources.owner tx) (watch_vote_in (applied s (Watched tx watch)).1) y (old tx y e)) old
+  entry_home (RecordVote tx vote by) a = home_retold sources.owner ys tx _ (answer_home tx vote by) old
+  entry_home (RecordWatch tx vote by) a = home_retold sources.owner ys tx _
+      (λ y e. decided_home sources.owner (sources.owner tx) (decided_in (applied s (RecordWatch tx vote by)).1) y (old tx y e) (decider tx y e (applied s (RecordWatch tx vote by)) (watch_so s tx vote s.core.lock refl))) old
+  entry_home (GiveUp tx) a = home_retold sources.owner ys tx _
+      (λ y e. decided_home sources.owner (sources.owner tx) (decided_in (applied s (GiveUp tx)).1) y (old tx y e) (decider tx y e (applied s (GiveUp tx)) (given_so s tx))) old
+
+-- ---- all entries
+
+told_home : (sources : Sources) (w : StoryWorld) (e : LogEntry) → KeptWorld sources.owner w → IsAllowed sources w.stories e.group e.command → AllHome sources.owner w.stories → AllHome sources.owner (recorded_next w e).stories
+told_home sources w e k a old = by (named_group e.group w.store.groups) refl
+  where
+    by : (o : Option Group) → named_group e.group w.store.groups ≡ o → AllHome sources.owner (recorded_stories w.stories o e.command)
+    by None is = old
+    by (Some s) is = entry_home sources (arcs_in w.store.ring) (groups_in w.store.groups) w.stories e.group s k.kept is old e.command a
+
+all_home : (sources : Sources) (w : StoryWorld) (list : List LogEntry) → KeptWorld sources.owner w → AreAllowed sources w list → AllHome sources.owner w.stories → AllHome sources.owner (recorded_after w list).stories
+all_home sources w [] k a old = old
+all_home sources w (e ∷ list) k a old = all_home sources (recorded_next w e) list (kept_on sources w e k a.0) a.1 (told_home sources w e k a.0 old)
+
+pub stories_home : (sources : Sources) (bases : List Base) (list : List LogEntry) → BeginInPlace sources bases → AreAllowed sources (first_recorded bases) list
+    → (tx : Draw) (y : Story) → stories_of bases list tx ≡ Some y → IsHomeStory (sources.owner tx) y
+stories_home sources bases list start allowed = all_home sources (first_recorded bases) list (at_start sources bases start) allowed (λ t z e. cc)

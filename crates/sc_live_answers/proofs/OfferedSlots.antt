@@ -1,0 +1,82 @@
+-- Nothing is asked for beyond the bound of a group's course, row by row.
+use Rattle.std.proofs.Common.{◌≡◌, ℕ, ◌≤◌, eqb, List, [], ◌∷◌, ◌++◌, drop, Option, Some, None, inl, inr, refl, sym, ◌∙◌, ap, subst, append_assoc, append-nil, arith}
+use Rattle.std.proofs.lemmas.Bool.{cond-true, eq-eqb}
+use Rattle.sc_base.specs.Definitions.{Among, same_draw}
+use Rattle.sc_node_table.specs.Values.{Draw, Base, OrderLine, Mail, MailBody, Accept, Seat, Event, Row}
+use Rattle.sc_base.proofs.Lemmas.{same_name}
+use Rattle.sc_actor.specs.Definitions.{mails}
+use Rattle.sc_actor.proofs.Lemmas.{mails-snoc}
+use Rattle.sc_live_orderly.specs.Definitions.{rest, taken, mail_for, AreInTime}
+use Rattle.sc_live_orderly.proofs.Lemmas.{by_time, in_time_before, in_time_tidy, last_in_time, rest-calm}
+use Rattle.sc_paxos_law.proofs.Lemmas.{Among-left, Among-right}
+use Rattle.sc_paxos_words.proofs.Lemmas.{Among-filter, Each-among, Each-append, Each-from, Each-weaker}
+use Rattle.sc_node_table.specs.Definitions.{listed}
+use Rattle.sc_sound.specs.Definitions.{Player}
+use Rattle.sc_live_steps.specs.calm.Definitions.{players, Rows}
+use Rattle.sc_live_steps.specs.following.Definitions.{Mark, Asks, mark_of, marks_of, IsKnown, Course, Sets, Tellers}
+use Rattle.sc_live_journals.specs.groups.Definitions.{IsGroupRow, RowPasses, RowRests, RowTakes, RowMakes, RowLeads, RowElects, Ends, IsWellLed, RowsKeepTaught, AreWellBorn, HasOneLog, IsSentSo, EventsGoOn}
+use Rattle.sc_live_answers.specs.Definitions.{AsksBelow, AreAskedBelow, GroupsAreAskedThrough}
+use Rattle.sc_live_answers.specs.OfferedSlots.{IsAskedOn}
+
+-- a mail's mark is among those of the mails
+mark_among : (name : Draw) (sent : List Mail) (mail : Mail) (mark : Mark) → Among mail sent → mark_of name mail.from mail.body ≡ Some mark → Among mark (marks_of name sent)
+mark_among name [] mail mark a e = absurd a
+mark_among name (x ∷ sent) mail mark (inl same) e =
+    Among-left mark (listed (mark_of name x.from x.body)) (marks_of name sent) (subst (λ (o : Option Mark). Among mark (listed o)) (sym (ap (λ (m : Mail). mark_of name m.from m.body) same ∙ e)) (inl refl))
+mark_among name (x ∷ sent) mail mark (inr a) e = Among-right mark (listed (mark_of name x.from x.body)) (marks_of name sent) (mark_among name sent mail mark a e)
+
+-- what asks below a slot does below a later one
+below_later : (name : Draw) (low high : ℕ) → low ≤ high → (body : MailBody) → AsksBelow name low body → AsksBelow name high body
+below_later name low high up (Accept group ballot slot command) k = λ is. (let lt = k is in omega (arith, lt, up))
+below_later name low high up _ k = tt
+
+-- what is known of a mail's mark says so
+known_below : (name : Draw) (course : Course) (from : ℕ) (body : MailBody) → ((mark : Mark) → mark_of name from body ≡ Some mark → IsKnown course mark) → AsksBelow name course.bound body
+known_below name course from (Accept group ballot slot command) k = λ is. k (Asks ballot slot) (cond-true (same_draw group name) (Some (Asks ballot slot)) None (same_name group name is))
+known_below name course from _ k = tt
+
+module _ (go_on : EventsGoOn) (keep : RowsKeepTaught) (at : Sets) (over : Ends) (by : Tellers) (words : ℕ → ℕ → ℕ × ℕ) (births : List (Seat Player)) (journal : Rows) (base : Base) (wb : AreWellBorn births) (one : HasOneLog at over by births journal base) (so : IsSentSo births journal base) where
+  -- the bound never falls
+  rises : (rows : Rows) (seat : Seat Player) (event : Event OrderLine) (course later : Course) → IsGroupRow at over by births rows seat event base course later → course.bound ≤ later.bound
+  rises rows seat event course later (RowPasses same leaves) = (let e = ap (λ (c : Course). c.bound) same in omega (arith, e))
+  rises rows seat event course later (RowRests same r after row_ off still kind) = (let e = ap (λ (c : Course). c.bound) same in omega (arith, e))
+  rises rows seat event course later (RowTakes same r after mark row_ taken_ steps kind) = (let e = ap (λ (c : Course). c.bound) same in omega (arith, e))
+  rises rows seat event course later (RowMakes same from slot state sets row_ taken_ logs kind) = (let e = ap (λ (c : Course). c.bound) same in omega (arith, e))
+  rises rows seat event course later (RowLeads r after row_ runs counts l same) = (let e = ap (λ (c : Course). c.bound) same in let up = l.led.leads.bound in omega (arith, e, up))
+  rises rows seat event course later (RowElects r after ballot row_ off e same) = (let k = ap (λ (c : Course). c.bound) same in omega (arith, k))
+
+  -- what a row sends is known after it
+  sent_known : (rows : Rows) (row : Row Mail OrderLine) (later : Course) → AreInTime (players words births) (rows ++ row ∷ []) → IsWellLed at over by words births (rows ++ row ∷ []) base later → AreAskedBelow base.core.id later.bound row.sent
+  sent_known rows row later timely led = Each-from (λ (mail : Mail). AsksBelow base.core.id later.bound mail.body) row.sent (λ mail a. known_below base.core.id later mail.from mail.body (λ mark e. (
+      let s = players words births in
+      let left = rest-calm s rows row mail.to (in_time_tidy s rows (in_time_before s rows row timely)) (last_in_time s rows row timely).0 in
+      let there : Among mail (rest s (rows ++ row ∷ []) mail.to) =
+      subst (Among mail) (sym left) (Among-right mail (drop (taken mail.to row) (rest s rows mail.to)) (mail_for s mail.to row.sent) (Among-filter (λ (m : Mail). eqb m.to mail.to) row.sent mail a (eq-eqb mail.to mail.to refl))) in
+      Each-among (IsKnown later) (marks_of base.core.id (rest s (rows ++ row ∷ []) mail.to)) mark (led.followed.follows.known mail.to) (mark_among base.core.id (rest s (rows ++ row ∷ []) mail.to) mail mark there e))))
+
+  -- after these rows, if they begin the journal
+  abbrev Begin : Rows → Type 0
+  Begin rows = (more : Rows) → journal ≡ rows ++ more → IsAskedOn at over by words births rows base
+
+  after_row : (rows : Rows) (row : Row Mail OrderLine) → AreInTime (players words births) (rows ++ row ∷ []) → Begin rows → Begin (rows ++ row ∷ [])
+  after_row rows row timely was more is =
+      let calm = (last_in_time (players words births) rows row timely).0 in
+      let old = was (row ∷ more) (is ∙ append_assoc rows (row ∷ []) more) in
+      let timely_too = subst (λ (r : Row Mail OrderLine). AreInTime (players words births) (rows ++ r ∷ [])) calm.row_is timely in
+      let step = go_on at over by words births journal base wb one so rows calm.seat calm.event old.course (record { more = more; is = is ∙ ap (λ (r : Row Mail OrderLine). (rows ++ r ∷ []) ++ more) calm.row_is }) calm.born calm.calm timely_too old.led in
+      let up = rises rows calm.seat calm.event old.course step.later step.row in
+      subst (λ (r : Row Mail OrderLine). IsAskedOn at over by words births (rows ++ r ∷ []) base) (sym calm.row_is)
+      (record {
+        course = step.later;
+        led = step.led;
+        taught = keep at over by words births rows calm.seat calm.event base old.course step.later (record { rosters = one.log.rosters; timely = timely_too; was = old.led }) step.row old.taught;
+        asked = subst (AreAskedBelow base.core.id step.later.bound) (sym (mails-snoc rows _))
+            (Each-append (λ (mail : Mail). AsksBelow base.core.id step.later.bound mail.body) (mails rows) _
+            (Each-weaker (λ (mail : Mail). AsksBelow base.core.id old.course.bound mail.body) (λ (mail : Mail). AsksBelow base.core.id step.later.bound mail.body) (λ mail k. below_later base.core.id old.course.bound step.later.bound up mail.body k) (mails rows) old.asked)
+            (sent_known rows _ step.later timely_too step.led));
+      })
+
+pub asked_through : EventsGoOn → RowsKeepTaught → GroupsAreAskedThrough
+asked_through go_on keep at over by words births journal base wb one so timely first =
+    by_time (players words births) (Begin go_on keep at over by words births journal base wb one so) (λ all e. record { course = first.course; led = first.led; taught = first.taught; asked = tt })
+    (after_row go_on keep at over by words births journal base wb one so) journal timely [] (sym (append-nil journal))

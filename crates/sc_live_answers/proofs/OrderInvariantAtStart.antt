@@ -1,0 +1,193 @@
+-- An order given in a quiet prefix begins all that holds while it is under way.
+use Rattle.std.proofs.Common.{◌≡◌, ◌≤◌, ℕ, true, false, List, [], ◌∷◌, Some, inl, inr, refl, sym, ◌∙◌, ap, arith}
+use Rattle.std.proofs.lemmas.Bool.{cases_Bool}
+use Rattle.sc_base.specs.Definitions.{Among, Each}
+use Rattle.sc_node_table.specs.Values.{Draw, Base, OrderLine, Mail, Seat, Row}
+use Rattle.sc_actor.specs.declared.rows.Event.TheVariants.{Told}
+use Rattle.sc_actor.specs.Definitions.{System, row_of, mails}
+use Rattle.sc_live_orderly.specs.Definitions.{is_born, is_told, AreInTime}
+use Rattle.sc_live_orderly.proofs.Lemmas.{count_push, in_time_before, in_time_tidy, quiet-empty}
+use Rattle.sc_scenario.specs.Definitions.{ValidScenariosAreBounded}
+use Rattle.sc_scenario.specs.declared.scenarios.Scenario.{Scenario}
+use Rattle.sc_node_table.specs.Definitions.{ReplicaState, next, last_slot}
+use Rattle.sc_sound.specs.Definitions.{groups_at, Player, player_table, births, as_nodes}
+use Rattle.sc_live_steps.specs.following.Definitions.{marks_of}
+use Rattle.sc_live_steps.specs.calm.Definitions.{players, FindsCalm, IsAtRest, Rows}
+use Rattle.sc_live_steps.specs.orders.Definitions.{Stage, Still}
+use Rattle.sc_live_journals.specs.rows.Definitions.{view_at, marks_at, IsSeat, with_event}
+use Rattle.sc_live_journals.specs.mail.Definitions.{SlotsAreLeft}
+use Rattle.sc_live_journals.specs.logs.Definitions.{IsGroupOf, ViewsAreReplicas, SlotsHaveRosters, logged_sets}
+use Rattle.sc_live_answers.specs.Definitions.{ReplicasRunLogs, IsNamedGuide, IsReachedSo, NewestStay, IsOrdersRow, OrdersRowsFind, IsQuietWhileYoung, IsSentStep, NextRowsAreSent, SentReplicas, over_at, slot_leaders_at, NextRowsRise, IsRisingOn, IsRoundSince, OrdersKeepRounds, PrefixesAreFound, IsFoundPrefix, NoMailForStrangers, GoesToNode, OrderErrandsGoToNodes, NodeErrandsReachPlayers, IsCalmJournal, IsPrefixOf, AreSent, IsNamedGroup, RestsAt, IsUnder, IsYoungAt, GivenOrdersFindCalm, ViewsAgree, ChildrenAreCreated, YoungGroupsStay, TrueOrdersBegin, EndingGroupsBegin, NamesStayFew, NoneWaits, IsHinted, HintedOrdersBegin, SettledOrdersBegin, AreSeen, OrdersBeginWork, WorkStandsAlone, IsOrderedSince, OrdersBeginOrdered}
+use Rattle.sc_live_journals.specs.scenes.Definitions.{IsThere, IsNowhere, AreUntouched, IsGivenInQuiet, FreshGroupsStay, FindsOrder, FoundOrdersStep, StageAfter}
+use Rattle.sc_live_journals.specs.charts.Definitions.{chart_at}
+use Rattle.sc_live_answers.proofs.GuidedGroups as at_row
+use Rattle.sc_live_answers.proofs.GuidedGroups.{named_there, reached_even}
+use Rattle.sc_live_answers.proofs.ClientsUnderOrders.{started_still, told_stays}
+use Rattle.sc_live_answers.proofs.SentMailGroups.{known_told}
+
+module _ (all_bounded : ValidScenariosAreBounded) (few_law : SlotsAreLeft) (logs_law : ReplicasRunLogs) (views_law : ViewsAreReplicas) (rosters_law : SlotsHaveRosters) (next_law : NextRowsAreSent) (newest_law : NewestStay) (found_law : PrefixesAreFound) (no_law : NoMailForStrangers)
+    (agree_law : ViewsAgree) (plain_law : SentReplicas) (finds_law : OrdersRowsFind) (fresh_law : FreshGroupsStay) (young_law : YoungGroupsStay) (true_law : TrueOrdersBegin) (settled_law : SettledOrdersBegin) (hinted_law : HintedOrdersBegin) (work_law : OrdersBeginWork) (created_law : ChildrenAreCreated) (rise_law : NextRowsRise) (rounds_law : OrdersKeepRounds) (stands_law : WorkStandsAlone) (calm_law : GivenOrdersFindCalm) (errands_law : OrderErrandsGoToNodes) (actors_law : NodeErrandsReachPlayers) (ending_groups_law : EndingGroupsBegin) (waits_law : NoneWaits) (names_law : NamesStayFew) (step_law : FoundOrdersStep)
+    (words : ℕ → ℕ → ℕ × ℕ) (scenario : Scenario) (first : Base) (journal quiet : Rows) (seat : Seat Player) (line : OrderLine) (calm : IsCalmJournal words scenario journal) (rests : RestsAt words scenario first journal quiet) (home : Each (GoesToNode scenario) (mails quiet))
+    (seated : IsSeat (births as_nodes scenario) seat) (front : IsPrefixOf journal (with_event quiet seat (Told line))) (timely : AreInTime (players words (births as_nodes scenario)) (with_event quiet seat (Told line))) where
+  abbrev all : List (Seat Player)
+  all = births as_nodes scenario
+
+  abbrev s : System Player Mail OrderLine
+  s = players words (births as_nodes scenario)
+
+  abbrev row : Row Mail OrderLine
+  row = row_of player_table seat quiet (Told line)
+
+  abbrev then : Rows
+  then = with_event quiet seat (Told line)
+
+  before : AreInTime s quiet
+  before = in_time_before s quiet row timely
+
+  strangers : (name : Draw) (who : ℕ) → is_born s who ≡ false → marks_at s quiet name who ≡ []
+  strangers = no_law.strangers words scenario journal quiet calm rests.front rests.sent
+
+  -- nothing is under way
+  none : (name : Draw) (who : ℕ) → marks_at s quiet name who ≡ []
+  none name who = elim (cases_Bool (is_born s who)) [
+    | inl t ↦ ap (marks_of name) (quiet-empty s quiet who (in_time_tidy s quiet before) t rests.calm)
+    | inr f ↦ strangers name who f
+  ]
+
+  young : (base : Base) → Among base (groups_at as_nodes scenario.groups journal) → IsQuietWhileYoung words all quiet base
+  young base among who member absent = none base.core.id who
+
+  group : (base : Base) → Among base (groups_at as_nodes scenario.groups journal) → IsGroupOf as_nodes words scenario journal base
+  group base among = record { open_slots = refl; valid = calm.valid; lawful = calm.lawful; stands = among }
+
+  abbrev reached : (base : Base) (among : Among base (groups_at as_nodes scenario.groups journal)) → IsReachedSo all quiet base (rests.sent base among).course
+  reached base among = reached_even rosters_law logs_law views_law words scenario journal quiet rests.front.more base (group base among) rests.front.is (rests.sent base among) (none base.core.id)
+
+  guide_of : (name : Draw) → IsNamedGroup scenario journal name → IsNamedGuide words all quiet seat (Told line) name
+  guide_of = at_row.guide_of few_law logs_law views_law rosters_law next_law newest_law found_law no_law words scenario journal quiet seat (Told line) calm front seated timely rests.sent reached young
+
+  abbrev sent_after : AreSent words scenario journal then
+  sent_after = at_row.sent_after few_law logs_law views_law rosters_law next_law newest_law found_law no_law words scenario journal quiet seat (Told line) calm front seated timely rests.sent reached young
+
+  named : (name : Draw) → IsThere all quiet name → IsNamedGroup scenario journal name
+  named = named_there found_law words scenario journal quiet calm rests.front
+
+  seen : AreSeen scenario quiet
+  seen name node = agree_law.nodes scenario quiet name node (all_bounded scenario calm.valid) (found_law words scenario journal quiet calm rests.front).homes
+
+  -- each replica rests
+  at_rest : (name : Draw) (who : ℕ) (r : ReplicaState) → view_at all quiet name who ≡ Some r → IsAtRest r
+  at_rest name who r e = rests.is.quiet.at_rest name who r (sym (seen name who) ∙ e)
+
+  room : (name : Draw) (who : ℕ) (r : ReplicaState) → view_at all quiet name who ≡ Some r → next r ≤ last_slot
+  room name who r e = (at_row.few few_law logs_law views_law rosters_law next_law newest_law found_law no_law words scenario journal quiet seat (Told line) calm front seated timely rests.sent reached young (named name (who, r, e)).0 quiet rests.front.more who r rests.front.is
+      (ap (λ n. view_at all quiet n who) (named name (who, r, e)).2 ∙ e)).0
+
+  plain : (name : Draw) (who : ℕ) (r : ReplicaState) → view_at all quiet name who ≡ Some r → r.leader.reports ≡ []
+  plain name who r e = (let g = named name (who, r, e) in plain_law.plain _ _ _ words all quiet g.0 (rests.sent g.0 g.1) who r (ap (λ n. view_at all quiet n who) g.2 ∙ e))
+
+  orders_row : IsOrdersRow words scenario quiet seat (Told line)
+  orders_row = record {
+    bounded = all_bounded scenario calm.valid;
+    seated = seated;
+    timely = timely;
+    under = (Still, rests.still);
+    groups = λ name node r e. guide_of name (named name (node, r, e));
+    states = λ n mail group_ slot state sets e at body. cc;
+    unsettled = λ n mail group_ node r e taking here. cc;
+    requests = λ n mail group_ client seq op e at body. cc;
+    votes = λ n mail group_ node r named_ ballot slot e taking here runs body. cc;
+    told = λ other e. record {
+      quiet = rests.calm;
+      errands = actors_law words scenario (mails quiet) home;
+      strangers = strangers;
+      room = λ name node r view runs. (room name node r view, stands_law.rests r (at_rest name node r view));
+    };
+    clients = λ client is. refl;
+  }
+
+  finds : FindsOrder words all quiet seat (Told line)
+  finds = finds_law words scenario quiet seat (Told line) orders_row (λ n mail group_ node r e taking here. cc)
+
+  told_so : IsGivenInQuiet words all quiet seat line
+  told_so = record { seated = seated; timely = timely; still = rests.still; calm = rests.calm; finds = finds }
+
+  begun : (stage : Stage) × AreUntouched words all quiet then stage
+  begun = fresh_law.begins words all quiet seat line told_so
+
+  young_after : (base : Base) → Among base (groups_at as_nodes scenario.groups journal) → IsNowhere all quiet base.core.id → IsYoungAt words all then base
+  young_after base among nowhere = young_law.begins words scenario quiet seat line begun.0 seated timely rests.calm begun.1 base nowhere
+
+  under_after : IsUnder words scenario first journal quiet then
+  under_after = record {
+    rests = rests;
+    front = front;
+    sent = sent_after;
+    reached = λ base among. at_row.reached_after few_law logs_law views_law rosters_law next_law newest_law found_law no_law words scenario journal quiet seat (Told line) calm front seated timely rests.sent reached young base among (young_after base among);
+    stage = begun.0;
+    untouched = begun.1;
+    young = young_after;
+  }
+
+  steps : (base : Base) (among : Among base (groups_at as_nodes scenario.groups journal))
+      → IsSentStep (logged_sets as_nodes base journal) (over_at as_nodes base journal) (slot_leaders_at as_nodes scenario base journal) words (births as_nodes scenario) quiet seat (Told line) base (rests.sent base among).course
+  steps = at_row.steps few_law logs_law views_law rosters_law next_law newest_law found_law no_law words scenario journal quiet seat (Told line) calm front seated timely rests.sent reached young
+
+  rising_after : (base : Base) (among : Among base (groups_at as_nodes scenario.groups journal)) → IsRisingOn (logged_sets as_nodes base journal) (slot_leaders_at as_nodes scenario base journal) words (births as_nodes scenario) then base (sent_after base among).course
+  unfolding steps
+  rising_after base among =
+      rise_law words (logged_sets as_nodes base journal) (over_at as_nodes base journal) (slot_leaders_at as_nodes scenario base journal) scenario quiet seat (Told line) base timely seated (rests.sent base among) (steps base among) (rests.rising base among)
+
+  round_after : (base : Base) (among : Among base (groups_at as_nodes scenario.groups journal)) → IsRoundSince (rests.sent base among).course begun.0 base.core.id (sent_after base among).course
+  unfolding steps
+  round_after base among =
+      rounds_law.told words (logged_sets as_nodes base journal) (over_at as_nodes base journal) (slot_leaders_at as_nodes scenario base journal) scenario quiet seat line base begun.0 timely seated (rests.sent base among) (steps base among) (none base.core.id)
+
+  hinted_after : IsHinted scenario quiet then begun.0
+  hinted_after = hinted_law words scenario quiet seat line begun.0 told_so begun.1.stands
+
+  found : IsFoundPrefix words scenario journal quiet
+  found = found_law words scenario journal quiet calm rests.front
+
+  begins : IsOrderedSince words scenario first journal quiet then
+  unfolding under_after
+  begins =
+      let true_so = true_law words scenario first journal quiet seat line begun.0 calm rests seen told_so begun.1.stands in
+      let work = work_law words scenario quiet seat line calm.valid found.lawful seated timely rests.calm (λ name who r e. (at_rest name who r e, λ runs. plain name who r e, room name who r e)) in
+      record {
+        behind = row ∷ [];
+        rows_are = refl;
+        one_order = (let more = count_push (λ (x : Row Mail OrderLine). is_told x.event) quiet row true refl in omega (arith, more));
+        under = under_after;
+        rising = rising_after;
+        round = round_after;
+        true_since = true_so;
+        goes = ending_groups_law words scenario first journal quiet seat line begun.0 calm rests seen told_so front begun.1.stands;
+        settled = settled_law words scenario first journal quiet seat line begun.0 calm rests seen told_so front sent_after strangers begun.1.stands true_so;
+        hinted = hinted_after;
+        line = line;
+        task = work.0;
+        is_task = work.1;
+        work = work.2;
+        created = created_law.begins words scenario journal quiet seat line work.0 seated timely work.1;
+        clients = λ other client is was. (told_stays all quiet seat other seated is line client was, started_still quiet row other.who refl);
+        known = known_told words scenario journal quiet seat line begun.0 seated timely rests.calm named begun.1;
+        home = errands_law words scenario journal quiet quiet row begun.0 calm rests.front front begun.1.stands hinted_after home;
+        waits = waits_law.begins words scenario first journal quiet seat line calm rests seated front sent_after;
+        names = names_law.goes_on words scenario first journal quiet quiet seat (Told line) work.0 calm rests front (created_law.begins words scenario journal quiet seat line work.0 seated timely work.1) (names_law.begins all quiet work.0);
+      }
+
+  -- the order is at a stage that follows
+  steps_on : StageAfter all quiet seat (Told line) Still
+  steps_on = step_law words all quiet seat (Told line) seated timely finds Still rests.still
+
+  finds_calm : (far sent : ℕ) → FindsCalm (chart_at far sent s quiet) all quiet seat (Told line)
+  finds_calm far sent = calm_law words scenario first journal quiet far sent seat line calm rests (found_law words scenario journal quiet calm rests.front).homes seated
+
+pub orders_begin : ValidScenariosAreBounded → SlotsAreLeft → ReplicasRunLogs → ViewsAreReplicas → SlotsHaveRosters → NextRowsAreSent → NewestStay → PrefixesAreFound → NoMailForStrangers → ViewsAgree → SentReplicas → OrdersRowsFind → FreshGroupsStay → YoungGroupsStay → TrueOrdersBegin → SettledOrdersBegin → HintedOrdersBegin → OrdersBeginWork → ChildrenAreCreated → NextRowsRise → OrdersKeepRounds → WorkStandsAlone
+    → GivenOrdersFindCalm → OrderErrandsGoToNodes → NodeErrandsReachPlayers → EndingGroupsBegin → NoneWaits → NamesStayFew → FoundOrdersStep → OrdersBeginOrdered
+orders_begin all_bounded few_law logs_law views_law rosters_law next_law newest_law found_law no_law agree_law plain_law finds_law fresh_law young_law true_law settled_law hinted_law work_law created_law rise_law rounds_law stands_law calm_law errands_law actors_law ending_groups_law waits_law names_law step_law words scenario first journal quiet seat line calm rests home seated front timely = (
+  begins all_bounded few_law logs_law views_law rosters_law next_law newest_law found_law no_law agree_law plain_law finds_law fresh_law young_law true_law settled_law hinted_law work_law created_law rise_law rounds_law stands_law calm_law errands_law actors_law ending_groups_law waits_law names_law step_law words scenario first journal quiet seat line calm rests home seated front timely,
+  steps_on all_bounded few_law logs_law views_law rosters_law next_law newest_law found_law no_law agree_law plain_law finds_law fresh_law young_law true_law settled_law hinted_law work_law created_law rise_law rounds_law stands_law calm_law errands_law actors_law ending_groups_law waits_law names_law step_law words scenario first journal quiet seat line calm rests home seated front timely,
+  finds_calm all_bounded few_law logs_law views_law rosters_law next_law newest_law found_law no_law agree_law plain_law finds_law fresh_law young_law true_law settled_law hinted_law work_law created_law rise_law rounds_law stands_law calm_law errands_law actors_law ending_groups_law waits_law names_law step_law words scenario first journal quiet seat line calm rests home seated front timely,
+)

@@ -1,0 +1,58 @@
+-- What is known of groups, links and routes in a quiet prefix of a calm journal.
+use Rattle.std.specs.Prelude.{◌≡◌, ℕ, ◌+◌, false, length, Some}
+use Rattle.sc_base.specs.Definitions.{Among}
+use Rattle.sc_node_table.specs.Values.{Base, Route}
+use Rattle.sc_scenario.specs.declared.scenarios.Scenario.{Scenario}
+use Rattle.sc_node_table.specs.Definitions.{ReplicaState}
+use Rattle.sc_sound.specs.Definitions.{groups_at, decided_log, births, as_nodes}
+use Rattle.sc_live_steps.specs.calm.Definitions.{IsLinked, Rows}
+use Rattle.sc_live_steps.specs.following.Definitions.{Course, Tellers}
+use Rattle.sc_live_steps.specs.orders.Definitions.{Still, IsAt}
+use Rattle.sc_live_answers.specs.LogStates.{state_at}
+use Rattle.sc_live_journals.specs.scenes.Definitions.{IsThere, scene_at}
+use Rattle.sc_live_answers.specs.WellLedQuietGroups.{replicas_at, IsQuietGroup, IsTakenIn}
+use Rattle.sc_live_plain.specs.Definitions.{replicas_after}
+use Rattle.sc_live_answers.specs.QuietRanges.{AreKnown}
+use Rattle.sc_live_answers.specs.SettingCharts.{GoneAgree}
+use Rattle.sc_live_answers.specs.Settings.{AreReachable}
+use Rattle.sc_live_answers.specs.QuietPrefixes.{IsQuietPrefix}
+use Rattle.sc_live_answers.specs.Links.{AreAllFree}
+
+-- after these rows each of their groups has a replica
+abbrev pub AreAllThere : Scenario → Rows → Type 0
+AreAllThere scenario rows = (base : Base) → Among base (groups_at as_nodes scenario.groups rows) → IsThere (births as_nodes scenario) rows base.core.id
+
+-- in a quiet prefix all replicas of one group that are gone know the same route
+abbrev pub RoutesInPrefixesAgree : Type 0
+RoutesInPrefixesAgree = (words : ℕ → ℕ → ℕ × ℕ) (scenario : Scenario) (journal front : Rows) → IsQuietPrefix words scenario journal front → GoneAgree (replicas_after scenario front)
+
+-- in each course of a group of a quiet prefix, the newest state is the one after the group's whole decided log
+abbrev pub QuietCoursesEnd : Type 0
+QuietCoursesEnd =
+    (words : ℕ → ℕ → ℕ × ℕ) (scenario : Scenario) (journal front : Rows) (by : Tellers) (base : Base) (course : Course) → IsQuietPrefix words scenario journal front → Among base (groups_at as_nodes scenario.groups front)
+    → IsQuietGroup by words scenario journal front base course → length (decided_log as_nodes base front) + 1 ≡ course.newest
+
+-- where no part of an order is left in a quiet prefix, no group is locked by its log
+abbrev pub StillPrefixesAreFree : Type 0
+StillPrefixesAreFree =
+    (words : ℕ → ℕ → ℕ × ℕ) (scenario : Scenario) (journal front : Rows) → IsQuietPrefix words scenario journal front → IsAt Still (scene_at (births as_nodes scenario) front) → AreAllFree scenario front
+
+-- where no group of a quiet prefix is locked by its log, the groups are known (`AreKnown`)
+abbrev pub PrefixesAreKnown : Type 0
+PrefixesAreKnown = (words : ℕ → ℕ → ℕ × ℕ) (scenario : Scenario) (journal front : Rows) → IsQuietPrefix words scenario journal front → AreAllFree scenario front → AreKnown scenario front
+
+-- where no group of a quiet prefix is locked by its log, links and routes name nodes that have a replica of the group named
+abbrev pub PrefixesAreReachable : Type 0
+PrefixesAreReachable = (words : ℕ → ℕ → ℕ × ℕ) (scenario : Scenario) (journal front : Rows) → IsQuietPrefix words scenario journal front → AreAllFree scenario front → AreReachable (replicas_after scenario front)
+
+-- where no group of a quiet prefix is locked by its log, the route by which a group went names a group of which each node of the route has a replica
+abbrev pub PrefixesAreTakenIn : Type 0
+PrefixesAreTakenIn =
+    (words : ℕ → ℕ → ℕ × ℕ) (scenario : Scenario) (journal front : Rows) (by : Tellers) (base : Base) (course : Course) (into : Route) → IsQuietPrefix words scenario journal front → AreAllFree scenario front
+    → Among base (groups_at as_nodes scenario.groups front) → IsQuietGroup by words scenario journal front base course → (state_at as_nodes base journal course.newest).core.gone ≡ Some into → IsTakenIn (replicas_at scenario front) into
+
+-- where no group of a quiet prefix is locked by its log, the link of a leader whose group stands is as a quiet journal needs it (`IsLinked`)
+abbrev pub PrefixesAreLinked : Type 0
+PrefixesAreLinked =
+    (words : ℕ → ℕ → ℕ × ℕ) (scenario : Scenario) (journal front : Rows) (by : Tellers) (base : Base) (course : Course) (lead : ReplicaState) → IsQuietPrefix words scenario journal front → AreAllFree scenario front
+    → Among base (groups_at as_nodes scenario.groups front) → IsQuietGroup by words scenario journal front base course → course.gone ≡ false → replicas_at scenario front base.core.id course.ballot.node ≡ Some lead → IsLinked (replicas_at scenario front) lead

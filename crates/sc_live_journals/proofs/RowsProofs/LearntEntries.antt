@@ -1,0 +1,170 @@
+-- A replica with nothing ready that learns the next entry has the state after it, and nothing ready.
+use Rattle.std.proofs.Common.{◌≡◌, ℕ, ◌+◌, ◌-◌, ◌^◌, ◌≤◌, ◌&&◌, nat_le, nat_lt, eqb, false, cond, List, [], ◌∷◌, Option, Some, None, refl, sym, ◌∙◌, ap, subst}
+use Rattle.std.specs.Prelude.{is_some}
+use Rattle.std.specs.List.{list_any}
+use Rattle.std.proofs.lemmas.Bool.{cond-true, cond-false, eq-eqb, le-ltb}
+use Rattle.sc_node_table.specs.Values.{Command, Noop, Effect, Route, ToldResult, AnswerBody, Ask, Learn, Must, Gap}
+use Rattle.sc_mail.specs.declared.bodies.AnswerBody.TheVariants as Says
+use Rattle.sc_base.specs.Definitions.{is_member, least_of}
+use Rattle.sc_machine_table.specs.Definitions.{applied}
+use Rattle.sc_paxos_words.specs.declared.answers.Must.TheVariants.{Value, Free as Open}
+use Rattle.sc_paxos_words.specs.Definitions.{must}
+use Rattle.sc_node_table.specs.declared.Before.{Before}
+use Rattle.sc_node_table.specs.Definitions.{elected, ended, stopped, entered, order_result, told_effect, announced, learnt_to, welcomed, landed, left_gone, left, is_among, looked_for, looked, executed_one, has_room, next_ready, executed, sent, Found, is_act, from_calls, from_acts, from_queues, found_by, found_for, offered, pumped_from, pumped, put_back, ReplicaState, Place, Executed, childless, name_of, next, members, settled, may_offer, taken_at, under_way, is_idle, last_slot, forgotten, learn_row, mailed, at_slot, without_slot, before_of, spoken}
+use Rattle.sc_law_walks.proofs.Lemmas.{executed_place, landed_place, either_way}
+use Rattle.sc_live_journals.specs.rows.Definitions.{IsPast, LearntEntriesAreExecuted}
+
+module _ (command : Command) (r : ReplicaState) where
+  abbrev Past : Place → Type 0
+  Past place = IsPast command r place.0
+
+  -- ---- what goes back
+
+  back_past : (other : Command) (q : ReplicaState) → IsPast command r q → IsPast command r (put_back other q)
+  unfolding put_back
+  back_past Noop q k = k
+  back_past _ q k = record { group_is = k.group_is; sets_are = k.sets_are; me_is = k.me_is; ready_is = k.ready_is }
+
+  -- ---- the pump
+
+  abbrev FoundPast : Found → Type 0
+  FoundPast found = Past found.1
+
+  calls_past : (place : Place) → Past place → FoundPast (from_calls place)
+  unfolding from_calls
+  calls_past (q, mails) k = record { group_is = k.group_is; sets_are = k.sets_are; me_is = k.me_is; ready_is = k.ready_is }
+
+  acts_past : (acts : List Command) (place : Place) → Past place → FoundPast (from_acts acts place)
+  acts_past [] place k = calls_past place k
+  acts_past (act ∷ acts) (q, mails) k =
+      either_way FoundPast (is_idle q) (Some act, (record q { acts = acts }, mails)) (None, (q, mails)) (record { group_is = k.group_is; sets_are = k.sets_are; me_is = k.me_is; ready_is = k.ready_is }) k
+
+  queues_past : (place : Place) → Past place → FoundPast (from_queues place)
+  unfolding from_queues
+  queues_past (q, mails) k = either_way FoundPast (list_any is_act (under_way q)) (None, (q, mails)) (from_acts q.acts (q, mails)) k (acts_past q.acts (q, mails) k)
+
+  found_by_past : (what : Must Command) (place : Place) → Past place → FoundPast (found_by what place)
+  found_by_past (Value other) place k = k
+  found_by_past Gap place k = k
+  found_by_past Open place k = queues_past place k
+
+  found_past : (slot : ℕ) (place : Place) → Past place → FoundPast (found_for slot place)
+  unfolding found_for
+  found_past slot (q, mails) k = found_by_past (must slot q.leader) (q, mails) k
+
+  offered_past : (slot : ℕ) (set : List ℕ) (other : Command) (place : Place) → Past place → Past (offered slot set other place)
+  unfolding offered
+  offered_past slot set other (q, mails) k = record { group_is = k.group_is; sets_are = k.sets_are; me_is = k.me_is; ready_is = k.ready_is }
+
+  pump_by : (slot : ℕ) (set : List ℕ) (sets : List (List ℕ)) (found : Found) → FoundPast found → ((place : Place) → Past place → Past (pumped_from (slot + 1) sets place))
+      → Past (elim (found.0) [ None ↦ found.1 | Some other ↦ pumped_from (slot + 1) sets (offered slot set other found.1) ])
+  pump_by slot set sets (None, place) k more = k
+  pump_by slot set sets (Some other, place) k more = more (offered slot set other place) (offered_past slot set other place k)
+
+  from_past : (slot : ℕ) (sets : List (List ℕ)) (place : Place) → Past place → Past (pumped_from slot sets place)
+  unfolding pumped_from
+  from_past slot [] place k = k
+  from_past slot (set ∷ sets) place k =
+      either_way Past (is_some (taken_at place.0 slot)) _ _ (from_past (slot + 1) sets place k)
+      (either_way Past (may_offer place.0 set) _ _ (pump_by slot set sets (found_for slot place) (found_past slot place k) (λ p q. from_past (slot + 1) sets p q)) k)
+
+  pumped_past : (place : Place) → Past place → Past (pumped place)
+  unfolding pumped
+  pumped_past place k = either_way Past (settled place.0 && nat_le (next place.0) last_slot) (pumped_from (next place.0) place.0.sets place) place (from_past (next place.0) place.0.sets place k) k
+
+  -- ---- the parts of an entry
+
+  effect_past : (result : Option ToldResult) (place : Place) → Past place → Past (told_effect result command place)
+  unfolding told_effect
+  effect_past None place k = k
+  effect_past (Some result) (q, mails) k = k
+
+  announced_past : (effect : Effect) (place : Place) → Past place → Past (announced false effect command place)
+  unfolding announced
+  announced_past effect place k = effect_past (order_result command effect) place k
+
+  spoken_past : (before : Before) (effect : Effect) (place : Place) → Past place → Past (spoken false before effect command place)
+  unfolding spoken
+  spoken_past before effect (q, mails) k = k
+
+  learnt_past : (nodes : List ℕ) (slot : ℕ) (place : Place) → Past place → Past (learnt_to false nodes slot command place)
+  unfolding learnt_to
+  learnt_past nodes slot (q, mails) k = k
+
+  welcomed_past : (nodes : List ℕ) (place : Place) → Past place → Past (welcomed false nodes place)
+  unfolding welcomed
+  welcomed_past nodes (q, mails) k = k
+
+  landed_past : (slot : ℕ) (place : Place) → Past place → Past (landed false slot command place)
+  landed_past slot place k =
+      landed_place Past (λ _. Unit {0}) (λ other p o q. back_past other p.0 q) false slot command place tt
+      (record { group_is = k.group_is; sets_are = k.sets_are; me_is = k.me_is; ready_is = ap (λ es. without_slot es slot) k.ready_is })
+
+  ended_past : (hint : Option ℕ) (answer : AnswerBody) (place : Place) → Past place → Past (ended hint answer place)
+  unfolding ended
+  ended_past hint answer (q, mails) k = record { group_is = k.group_is; sets_are = k.sets_are; me_is = k.me_is; ready_is = refl }
+
+  gone_past : (gone : Option Route) (place : Place) → Past place → Past (left_gone gone place)
+  gone_past (Some into) place k = ended_past None (Says.Gone into) place k
+  gone_past None (q, mails) k = either_way Past (is_member (members q) q.me) (q, mails) (stopped (Some (least_of (members q))) (q, mails)) k (ended_past (Some (least_of (members q))) (Says.NotLeader (Some (least_of (members q)))) (q, mails) k)
+
+  left_past : (place : Place) → Past place → Past (left place)
+  unfolding left
+  left_past (q, mails) k = either_way Past q.running (left_gone q.group.core.gone (q, mails)) (q, mails) (gone_past q.group.core.gone (q, mails) k) k
+
+  elected_past : (place : Place) → Past place → Past (elected place)
+  unfolding elected
+  elected_past (q, mails) k = either_way Past (eqb q.top.round (2 ^ 32 - 1)) _ _ k (record { group_is = k.group_is; sets_are = k.sets_are; me_is = k.me_is; ready_is = refl })
+
+  looked_by : (gone : Option Route) (place : Place) → Past place → Past (looked_for gone place)
+  looked_by (Some into) place k = k
+  looked_by None (q, mails) k =
+      either_way Past (is_among (members q) q.hint) (q, mails) _ k
+      (either_way Past (eqb (least_of (members q)) q.me) (elected (record q { hint = Some q.me }, mails)) (record q { hint = Some (least_of (members q)) }, mails)
+      (elected_past (record q { hint = Some q.me }, mails) (record { group_is = k.group_is; sets_are = k.sets_are; me_is = k.me_is; ready_is = k.ready_is }))
+      (record { group_is = k.group_is; sets_are = k.sets_are; me_is = k.me_is; ready_is = k.ready_is }))
+
+  looked_past : (place : Place) → Past place → Past (looked place)
+  unfolding looked
+  looked_past (q, mails) k = either_way Past q.running (q, mails) (looked_for q.group.core.gone (q, mails)) k (looked_by q.group.core.gone (q, mails) k)
+
+  entered_past : r.ready ≡ [] → IsPast command r (entered command r)
+  unfolding entered forgotten
+  entered_past none = record { group_is = refl; sets_are = refl; me_is = refl; ready_is = none }
+
+  one_past : r.ready ≡ [] → Past (executed_one false command (r, []))
+  unfolding executed_one
+  one_past none =
+      let effect : Effect = (applied r.group command).1 in
+      let place0 : Place = (entered command r, []) in
+      let place1 : Place = announced false effect command place0 in
+      let k1 : Past place1 = announced_past effect place0 (entered_past none) in
+      let place2 : Place = spoken false (before_of r.group.core) effect command place1 in
+      let k2 : Past place2 = spoken_past (before_of r.group.core) effect place1 k1 in
+      let place3 : Place = learnt_to false (members r) (next r) command place2 in
+      let k3 : Past place3 = learnt_past (members r) (next r) place2 k2 in
+      let place4 : Place = welcomed false (members r) place3 in
+      let k4 : Past place4 = welcomed_past (members r) place3 k3 in
+      let place5 : Place = landed false (next r) command place4 in
+      looked_past (left place5) (left_past place5 (landed_past (next r) place4 k4))
+
+  none_ready : (place : Place) → Past place → next_ready place.0 ≡ None
+  none_ready place k = either_way (λ (o : Option Command). o ≡ None) (place.0.running && has_room place.0) (at_slot place.0.ready (next place.0)) None (ap (λ es. at_slot es (next place.0)) k.ready_is) refl
+
+  never : (other : Command) → Some other ≡ None → ⊥
+  never other e = cc
+
+  executed_past : r.ready ≡ [] → Past (executed false command (r, [])).0
+  executed_past none = executed_place Past (λ o. o ≡ None) none_ready (λ other p e q. absurd (never other e)) pumped_past false command (r, []) (one_past none)
+
+  learn_past : (from slot : ℕ) → slot ≡ next r → slot ≤ last_slot → r.ready ≡ [] → IsPast command r (mailed from (Learn (name_of r) slot command) (r, [])).0.0
+  unfolding mailed learn_row
+  learn_past from slot at low none =
+      subst (λ (p : Executed). IsPast command r p.0.0)
+      (sym (cond-false (nat_lt last_slot slot) (childless (r, [])) (cond {A = Executed} (eqb slot (next r)) (executed false command (r, [])) (cond {A = Executed} (nat_lt (next r) slot) (childless (r, sent r.me from (Ask (name_of r) (next r)) [])) (childless (r, [])))) (le-ltb last_slot slot low)
+      ∙ cond-true (eqb slot (next r)) (executed false command (r, [])) (cond {A = Executed} (nat_lt (next r) slot) (childless (r, sent r.me from (Ask (name_of r) (next r)) [])) (childless (r, []))) (eq-eqb slot (next r) at)))
+      (executed_past none)
+
+-- A replica with nothing ready that learns the next entry has the state after it.
+pub learnt_entries_executed : LearntEntriesAreExecuted
+learnt_entries_executed from slot command r at low none = learn_past command r from slot at low none

@@ -1,0 +1,285 @@
+-- A row in which a node takes a mail, or none, keeps what stands between the leader of its group and the nodes.
+use Rattle.std.proofs.Common.{◌≡◌, ℕ, ◌<◌, ◌≤◌, ◌&&◌, true, false, eqb, List, [], ◌∷◌, ◌++◌, Option, Some, ◌⊎◌, inl, inr, refl, sym, ◌∙◌, ap, subst, append-nil}
+use Rattle.std.proofs.lemmas.Bool.{cases_eq, cond_both, cond-true, eq-eqb, and_from}
+use Rattle.sc_base.specs.Definitions.{Among, Each, least_of}
+use Rattle.sc_node_table.specs.Values.{Ballot}
+use Rattle.sc_node_table.specs.Definitions.{listed}
+use Rattle.sc_paxos_words.specs.Definitions.{below, IsAtLeast}
+use Rattle.sc_paxos_words.proofs.Lemmas.{same_from_at_least, cases_below, Each-append, Each-split, Each-weaker}
+use Rattle.sc_live_steps.specs.following.Definitions.{Mark, Asks, Votes, Prepares, Promises, next_by, promise_by, reached, pledged, IsFit, AreFit, AreAskedFirst, Course, Progress, Sets, members_at, IsKnown, IsVoting, HasPromised, IsPromising, IsFollowing, IsRow, IsIdle, answered, IsCount, Takes}
+use Rattle.sc_live_steps.proofs.FollowingProofs.Marks.{among-left, among-right, among-either, among-listed, reached-append, pledged-append, fit-append, no_step, promise-most, count-reached, count-pledged, count-fit, count-asks, IsLater, asked-append, asked-counts, asked-left}
+
+-- ---- what is under way before and after a row
+
+module _ (now after : Progress) (node : ℕ) (taken : Option Mark) (sent marks marks_after : ℕ → List Mark) (row : IsRow now after node taken sent marks marks_after) where
+  -- what is under way to one was so before, or is sent
+  pub came : (who : ℕ) (mark : Mark) → Among mark (marks_after who) → Among mark (marks who) ⊎ Among mark (sent who)
+  came who mark a = elim (cases_eq who node) [
+    | inl is ↦ (let b = among-either mark row.left (sent node) (subst (Among mark) (ap marks_after is ∙ row.own) a) in
+        elim b [
+          | inl c ↦ inl (subst (λ n. Among mark (marks n)) (sym is) (subst (Among mark) (sym row.takes) (among-right mark (listed taken) row.left c)))
+          | inr c ↦ inr (subst (λ n. Among mark (sent n)) (sym is) c)
+        ])
+    | inr ne ↦ among-either mark (marks who) (sent who) (subst (Among mark) (row.others who ne) a)
+  ]
+
+  -- what is sent is under way after it
+  pub goes : (who : ℕ) (mark : Mark) → Among mark (sent who) → Among mark (marks_after who)
+  goes who mark a = elim (cases_eq who node) [
+    | inl is ↦ subst (Among mark) (sym (ap marks_after is ∙ row.own)) (among-right mark row.left (sent node) (subst (λ n. Among mark (sent n)) is a))
+    | inr ne ↦ subst (Among mark) (sym (row.others who ne)) (among-right mark (marks who) (sent who) a)
+  ]
+
+  -- what was under way is so still, unless it was taken
+  pub stays : (who : ℕ) (mark : Mark) → Among mark (marks who) → ((who ≡ node) × (taken ≡ Some mark)) ⊎ Among mark (marks_after who)
+  stays who mark a = elim (cases_eq who node) [
+    | inl is ↦ elim (among-either mark (listed taken) row.left (subst (Among mark) row.takes (subst (λ n. Among mark (marks n)) is a))) [
+      | inl b ↦ inl (is, among-listed mark taken b)
+      | inr b ↦ inr (subst (Among mark) (sym (ap marks_after is ∙ row.own)) (among-left mark row.left (sent node) b))
+    ]
+    | inr ne ↦ inr (subst (Among mark) (sym (row.others who ne)) (among-left mark (marks who) (sent who) a))
+  ]
+
+  -- what held of all that was under way to one, and holds of what is sent, holds of all
+  pub each-row : (P : Mark → Type 0) (who : ℕ) → Each P (marks who) → Each P (sent who) → Each P (marks_after who)
+  each-row P who old new = elim (cases_eq who node) [
+    | inl is ↦ (let left = (Each-split P (listed taken) row.left (subst (Each P) row.takes (subst (λ n. Each P (marks n)) is old))).1 in
+        subst (Each P) (sym (ap marks_after is ∙ row.own)) (Each-append P row.left (sent node) left (subst (λ n. Each P (sent n)) is new)))
+    | inr ne ↦ subst (Each P) (sym (row.others who ne)) (Each-append P (marks who) (sent who) old new)
+  ]
+
+  -- what is asked for comes before votes still, where it is new
+  pub asked-row : (who : ℕ) → AreAskedFirst (marks who) → Each (IsKnown now.course) (marks who) → Each (IsLater now.course.bound) (sent who) → AreAskedFirst (sent who) → AreAskedFirst (marks_after who)
+  asked-row who old known new sent_first = elim (cases_eq who node) [
+    | inl is ↦ (let left = (Each-split (IsKnown now.course) (listed taken) row.left (subst (Each (IsKnown now.course)) row.takes (subst (λ n. Each (IsKnown now.course) (marks n)) is known))).1 in
+        let behind = asked-left taken row.left (subst AreAskedFirst row.takes (subst (λ n. AreAskedFirst (marks n)) is old)) in
+        subst AreAskedFirst (sym (ap marks_after is ∙ row.own))
+        (asked-append now.course row.left (sent node) behind left (subst (λ n. Each (IsLater now.course.bound) (sent n)) is new) (subst (λ n. AreAskedFirst (sent n)) is sent_first)))
+    | inr ne ↦ subst AreAskedFirst (sym (row.others who ne)) (asked-append now.course (marks who) (sent who) old known new sent_first)
+  ]
+
+-- ---- a row that does nothing in the group
+
+pub idle-keeps : (at : Sets) (now after : Progress) (node : ℕ) (taken : Option Mark) (sent marks marks_after : ℕ → List Mark)
+    → IsRow now after node taken sent marks marks_after → IsIdle now after node taken sent → IsFollowing at now marks → IsFollowing at after marks_after
+idle-keeps at now after node taken sent marks marks_after row i was =
+    subst (λ c. IsFollowing at (record { next = after.next; promise = after.promise; course = c }) marks_after) (sym i.course) (record {
+      fits = λ who. subst (λ l. AreFit (after.next who) (after.promise who) l) (same who) (subst (λ n. AreFit n (after.promise who) (marks who)) (sym (next who)) (subst (λ p. AreFit (now.next who) p (marks who)) (sym (promise who)) (was.fits who)));
+      within = λ who. subst (λ n. n ≤ now.course.newest) (sym (ends who)) (was.within who);
+      members = λ who is. ends who ∙ was.members who is;
+      ready = λ who o. record { replica = subst (λ n. 1 ≤ n) (sym (ends who)) (was.ready who o).replica; promised = pledges who ∙ (was.ready who o).promised };
+      some = was.some;
+      low = was.low;
+      high = was.high;
+      known = λ who. subst (Each (IsKnown now.course)) (same who) (was.known who);
+      promised = λ who. subst (IsAtLeast now.course.ballot) (sym (promise who)) (was.promised who);
+      first = λ f who. pledges who ∙ was.first f who;
+      asked = λ who. subst AreAskedFirst (same who) (was.asked who);
+      undone = λ r ballot slot a. was.undone r ballot slot (subst (Among (Asks ballot slot)) (sym (same now.course.ballot.node)) a);
+      flying = was.flying;
+      votes = λ slot voters e who is.
+          subst (λ l. IsVoting now.course.ballot who slot voters l (marks_after now.course.ballot.node)) (same who) (subst (λ l. IsVoting now.course.ballot who slot voters (marks who) l) (same now.course.ballot.node) (was.votes slot voters e who is));
+      promises = λ r f who o. subst (λ l. IsPromising now.course who l (marks_after now.course.ballot.node)) (same who) (subst (λ l. IsPromising now.course who (marks who) l) (same now.course.ballot.node) (was.promises r f who o));
+      pledges = λ r f who e. subst (HasPromised now.course who) (same now.course.ballot.node) (was.pledges r f who (sym (promise who) ∙ e));
+      leads = λ r. (let l = was.leads r in record { executed = next now.course.ballot.node ∙ l.executed; member = l.member; stands = l.stands });
+      offered = was.offered;
+      self_election = λ r g. subst (λ n. n < now.course.newest) (sym (next (least_of (members_at at now.course.newest)))) (was.self_election r g);
+    })
+  where
+    next : (who : ℕ) → after.next who ≡ now.next who
+    next who = elim (cases_eq who node) [ inl is ↦ ap after.next is ∙ (i.next ∙ ap now.next (sym is)) | inr ne ↦ row.next who ne ]
+
+    promise : (who : ℕ) → after.promise who ≡ now.promise who
+    promise who = elim (cases_eq who node) [ inl is ↦ ap after.promise is ∙ (i.promise ∙ ap now.promise (sym is)) | inr ne ↦ row.promise who ne ]
+
+    same : (who : ℕ) → marks who ≡ marks_after who
+    same who = elim (cases_eq who node) [
+      | inl is ↦ ap marks is ∙ (row.takes ∙ (ap (λ t. listed t ++ row.left) i.takes ∙ (sym (append-nil row.left) ∙ (ap (λ l. row.left ++ l) (sym (i.sends node)) ∙ (sym row.own ∙ ap marks_after (sym is))))))
+      | inr ne ↦ sym (append-nil (marks who)) ∙ (ap (λ l. marks who ++ l) (sym (i.sends who)) ∙ sym (row.others who ne))
+    ]
+
+    ends : (who : ℕ) → reached (after.next who) (marks_after who) ≡ reached (now.next who) (marks who)
+    ends who = ap (λ n. reached n (marks_after who)) (next who) ∙ ap (reached (now.next who)) (sym (same who))
+
+    pledges : (who : ℕ) → pledged (after.promise who) (marks_after who) ≡ pledged (now.promise who) (marks who)
+    pledges who = ap (λ p. pledged p (marks_after who)) (promise who) ∙ ap (pledged (now.promise who)) (sym (same who))
+
+-- ---- a row in which a node takes a mail of the group
+
+-- what a node sends for a mail is a vote or a promise
+pub counts_of : (node : ℕ) (promise : Ballot) (mark : Mark) (who : ℕ) → Each IsCount (answered node promise mark who)
+counts_of node promise (Asks ballot slot) who = cond_both (eqb who ballot.node) (Votes node ballot slot ∷ []) [] (Each IsCount) (λ _. (tt, tt)) (λ _. tt)
+counts_of node promise (Prepares ballot) who = cond_both (eqb who ballot.node && below promise ballot) (Promises node ballot ∷ []) [] (Each IsCount) (λ _. (tt, tt)) (λ _. tt)
+counts_of node promise _ who = tt
+
+-- what a node sends for a mail is at a slot that is known
+known_of : (course : Course) (node : ℕ) (promise : Ballot) (mark : Mark) (who : ℕ) → IsKnown course mark → Each (IsKnown course) (answered node promise mark who)
+known_of course node promise (Asks ballot slot) who k = cond_both (eqb who ballot.node) (Votes node ballot slot ∷ []) [] (Each (IsKnown course)) (λ _. (k, tt)) (λ _. tt)
+known_of course node promise (Prepares ballot) who k = cond_both (eqb who ballot.node && below promise ballot) (Promises node ballot ∷ []) [] (Each (IsKnown course)) (λ _. (tt, tt)) (λ _. tt)
+known_of course node promise _ who k = tt
+
+later_counts : (bound : ℕ) (mark : Mark) → IsCount mark → IsLater bound mark
+later_counts bound (Asks ballot slot) c = absurd c
+later_counts bound _ c = tt
+
+-- a node promises a ballot by being asked to, or has promised it before
+promise_from : (promise ballot : Ballot) (mark : Mark) → promise_by promise mark ≡ ballot → (promise ≡ ballot) ⊎ (mark ≡ Prepares ballot)
+promise_from promise ballot (Prepares other) e = inr (ap (λ b. Prepares b) e)
+promise_from promise ballot _ e = inl e
+
+some_same : {a b : Mark} → Some a ≡ Some b → a ≡ b
+some_same e = cc
+
+module _ (at : Sets) (now after : Progress) (node : ℕ) (taken : Option Mark) (sent marks marks_after : ℕ → List Mark) (row : IsRow now after node taken sent marks marks_after) (t : Takes at now after node taken sent)
+    (was : IsFollowing at now marks) where
+  abbrev lead : ℕ
+  lead = now.course.ballot.node
+
+  here : marks node ≡ t.mark ∷ row.left
+  here = row.takes ∙ ap (λ o. listed o ++ row.left) t.takes
+
+  is_taken : (mark : Mark) → taken ≡ Some mark → t.mark ≡ mark
+  is_taken mark e = some_same (sym t.takes ∙ e)
+
+  fit : AreFit (now.next node) (now.promise node) (t.mark ∷ row.left)
+  fit = subst (AreFit (now.next node) (now.promise node)) here (was.fits node)
+
+  known : IsKnown now.course t.mark
+  known = (subst (Each (IsKnown now.course)) here (was.known node)).0
+
+  counts : (who : ℕ) → Each IsCount (sent who)
+  counts who = subst (Each IsCount) (sym (t.sends who)) (counts_of node (now.promise node) t.mark who)
+
+  pub reached_left : (who : ℕ) → reached (after.next who) (marks_after who) ≡ reached (now.next who) (marks who)
+  reached_left who = elim (cases_eq who node) [
+    | inl is ↦ ap (λ n. reached (after.next n) (marks_after n)) is
+        ∙ (ap (reached (after.next node)) row.own
+        ∙ (reached-append (after.next node) row.left (sent node)
+        ∙ (count-reached (reached (after.next node) row.left) (sent node) (counts node)
+        ∙ (ap (λ n. reached n row.left) t.next ∙ (sym (ap (reached (now.next node)) here) ∙ ap (λ n. reached (now.next n) (marks n)) (sym is))))))
+    | inr ne ↦ ap (reached (after.next who)) (row.others who ne)
+        ∙ (reached-append (after.next who) (marks who) (sent who) ∙ (count-reached (reached (after.next who) (marks who)) (sent who) (counts who) ∙ ap (λ n. reached n (marks who)) (row.next who ne)))
+  ]
+
+  pledged_left : (who : ℕ) → pledged (after.promise who) (marks_after who) ≡ pledged (now.promise who) (marks who)
+  pledged_left who = elim (cases_eq who node) [
+    | inl is ↦ ap (λ n. pledged (after.promise n) (marks_after n)) is
+        ∙ (ap (pledged (after.promise node)) row.own
+        ∙ (pledged-append (after.promise node) row.left (sent node)
+        ∙ (count-pledged (pledged (after.promise node) row.left) (sent node) (counts node)
+        ∙ (ap (λ p. pledged p row.left) t.promise ∙ (sym (ap (pledged (now.promise node)) here) ∙ ap (λ n. pledged (now.promise n) (marks n)) (sym is))))))
+    | inr ne ↦ ap (pledged (after.promise who)) (row.others who ne)
+        ∙ (pledged-append (after.promise who) (marks who) (sent who) ∙ (count-pledged (pledged (after.promise who) (marks who)) (sent who) (counts who) ∙ ap (λ p. pledged p (marks who)) (row.promise who ne)))
+  ]
+
+  fits_own : AreFit (after.next node) (after.promise node) (marks_after node)
+  fits_own =
+      subst (AreFit (after.next node) (after.promise node)) (sym row.own)
+      (fit-append (after.next node) (after.promise node) row.left (sent node) (subst (λ n. AreFit n (after.promise node) row.left) (sym t.next) (subst (λ p. AreFit (next_by (now.next node) t.mark) p row.left) (sym t.promise) fit.1))
+      (count-fit (reached (after.next node) row.left) (pledged (after.promise node) row.left) (sent node) (counts node)))
+
+  fits_after : (who : ℕ) → AreFit (after.next who) (after.promise who) (marks_after who)
+  fits_after who = elim (cases_eq who node) [
+    | inl is ↦ subst (λ n. AreFit (after.next n) (after.promise n) (marks_after n)) (sym is) fits_own
+    | inr ne ↦ subst (AreFit (after.next who) (after.promise who)) (sym (row.others who ne))
+        (fit-append (after.next who) (after.promise who) (marks who) (sent who) (subst (λ n. AreFit n (after.promise who) (marks who)) (sym (row.next who ne)) (subst (λ p. AreFit (now.next who) p (marks who)) (sym (row.promise who ne)) (was.fits who)))
+        (count-fit (reached (after.next who) (marks who)) (pledged (after.promise who) (marks who)) (sent who) (counts who)))
+  ]
+
+  -- the one that leads is taken no further
+  leads_after : now.course.runs ≡ true → after.next lead ≡ now.course.newest
+  leads_after r =
+      let executed = (was.leads r).executed in
+      elim (cases_eq lead node) [
+        | inl is ↦ (let own : now.next node ≡ now.course.newest = ap now.next (sym is) ∙ executed in
+            let most : reached (now.next node) (t.mark ∷ row.left) ≤ now.next node =
+            subst (λ l. reached (now.next node) l ≤ now.next node) here (subst (λ n. reached (now.next node) (marks node) ≤ n) (sym own) (was.within node)) in
+            ap after.next is ∙ (t.next ∙ (no_step (now.next node) (now.promise node) t.mark row.left fit most ∙ own)))
+        | inr ne ↦ row.next lead ne ∙ executed
+      ]
+
+  -- it takes no vote and no promise in such a row
+  no_count : now.course.runs ≡ true → (mark : Mark) → IsCount mark → (lead ≡ node) × (taken ≡ Some mark) → ⊥
+  no_count r mark c both = t.counts r (sym both.0) (subst IsCount (sym (is_taken mark both.1)) c)
+
+  voting : now.course.runs ≡ true → (slot : ℕ) (voters : List ℕ) (who : ℕ) → IsVoting now.course.ballot who slot voters (marks who) (marks lead) → IsVoting now.course.ballot who slot voters (marks_after who) (marks_after lead)
+  voting r slot voters who (inl v) = inl v
+  voting r slot voters who (inr (inl a)) = elim (stays now after node taken sent marks marks_after row who (Asks now.course.ballot slot) a) [
+    | inl both ↦ (let said : sent lead ≡ answered node (now.promise node) (Asks now.course.ballot slot) lead = t.sends lead ∙ ap (λ m. answered node (now.promise node) m lead) (is_taken (Asks now.course.ballot slot) both.1) in
+        let vote : sent lead ≡ Votes node now.course.ballot slot ∷ [] = said ∙ cond-true (eqb lead lead) (Votes node now.course.ballot slot ∷ []) [] (eq-eqb lead lead refl) in
+        inr (inr (goes now after node taken sent marks marks_after row lead (Votes who now.course.ballot slot) (subst (Among (Votes who now.course.ballot slot)) (sym vote) (inl (ap (λ n. Votes n now.course.ballot slot) (sym both.0)))))))
+    | inr b ↦ inr (inl b)
+  ]
+  voting r slot voters who (inr (inr a)) = elim (stays now after node taken sent marks marks_after row lead (Votes who now.course.ballot slot) a) [
+    | inl both ↦ absurd (no_count r (Votes who now.course.ballot slot) tt both)
+    | inr b ↦ inr (inr b)
+  ]
+
+  promised_still : now.course.runs ≡ true → (who : ℕ) → HasPromised now.course who (marks lead) → HasPromised now.course who (marks_after lead)
+  promised_still r who (inl c) = inl c
+  promised_still r who (inr a) = elim (stays now after node taken sent marks marks_after row lead (Promises who now.course.ballot) a) [
+    | inl both ↦ absurd (no_count r (Promises who now.course.ballot) tt both)
+    | inr b ↦ inr b
+  ]
+
+  -- one that is asked to promise does so, unless it has
+  promises_now : now.course.runs ≡ true → now.course.is_first ≡ false → t.mark ≡ Prepares now.course.ballot → HasPromised now.course node (marks_after lead)
+  promises_now r later is = elim (cases_below (now.promise node) now.course.ballot) [
+    | inl up ↦ (let said : sent lead ≡ answered node (now.promise node) (Prepares now.course.ballot) lead = t.sends lead ∙ ap (λ m. answered node (now.promise node) m lead) is in
+        let promise : sent lead ≡ Promises node now.course.ballot ∷ [] =
+        said ∙ cond-true (eqb lead lead && below (now.promise node) now.course.ballot) (Promises node now.course.ballot ∷ []) [] (and_from (eqb lead lead) (below (now.promise node) now.course.ballot) (eq-eqb lead lead refl) up) in
+        inr (goes now after node taken sent marks marks_after row lead (Promises node now.course.ballot) (subst (Among (Promises node now.course.ballot)) (sym promise) (inl refl))))
+    | inr least ↦ (let asked : IsFit (now.next node) (now.promise node) (Prepares now.course.ballot) = subst (IsFit (now.next node) (now.promise node)) is fit.0 in
+        promised_still r node (was.pledges r later node (same_from_at_least (now.promise node) now.course.ballot least asked.1)))
+  ]
+
+  promising : now.course.runs ≡ true → now.course.is_first ≡ false → (who : ℕ) → IsPromising now.course who (marks who) (marks lead) → IsPromising now.course who (marks_after who) (marks_after lead)
+  promising r later who (inl a) = elim (stays now after node taken sent marks marks_after row who (Prepares now.course.ballot) a) [
+    | inl both ↦ inr (subst (λ n. HasPromised now.course n (marks_after lead)) (sym both.0) (promises_now r later (is_taken (Prepares now.course.ballot) both.1)))
+    | inr b ↦ inl b
+  ]
+  promising r later who (inr h) = inr (promised_still r who h)
+
+  pledging : now.course.runs ≡ true → now.course.is_first ≡ false → (who : ℕ) → after.promise who ≡ now.course.ballot → HasPromised now.course who (marks_after lead)
+  pledging r later who e = elim (cases_eq who node) [
+    | inl is ↦ subst (λ n. HasPromised now.course n (marks_after lead)) (sym is) (elim (promise_from (now.promise node) now.course.ballot t.mark (sym t.promise ∙ (ap after.promise (sym is) ∙ e))) [
+      | inl old ↦ promised_still r node (was.pledges r later node old)
+      | inr new ↦ promises_now r later new
+    ])
+    | inr ne ↦ promised_still r who (was.pledges r later who (sym (row.promise who ne) ∙ e))
+  ]
+
+  pub takes-keeps : IsFollowing at after marks_after
+  takes-keeps =
+      subst (λ c. IsFollowing at (record { next = after.next; promise = after.promise; course = c }) marks_after) (sym t.course) (record {
+        fits = fits_after;
+        within = λ who. subst (λ n. n ≤ now.course.newest) (sym (reached_left who)) (was.within who);
+        members = λ who is. reached_left who ∙ was.members who is;
+        ready = λ who o. record { replica = subst (λ n. 1 ≤ n) (sym (reached_left who)) (was.ready who o).replica; promised = pledged_left who ∙ (was.ready who o).promised };
+        some = was.some;
+        low = was.low;
+        high = was.high;
+        known = λ who. each-row now after node taken sent marks marks_after row (IsKnown now.course) who (was.known who) (subst (Each (IsKnown now.course)) (sym (t.sends who)) (known_of now.course node (now.promise node) t.mark who known));
+        promised = λ who. elim (cases_eq who node) [
+          | inl is ↦ subst (IsAtLeast now.course.ballot) (sym (ap after.promise is ∙ t.promise)) (promise-most now.course (now.promise node) t.mark (was.promised node) known)
+          | inr ne ↦ subst (IsAtLeast now.course.ballot) (sym (row.promise who ne)) (was.promised who)
+        ];
+        first = λ f who. pledged_left who ∙ was.first f who;
+        asked = λ who. asked-row now after node taken sent marks marks_after row who (was.asked who) (was.known who)
+            (Each-weaker IsCount (IsLater now.course.bound) (later_counts now.course.bound) (sent who) (counts who)) (asked-counts (sent who) (counts who));
+        undone = λ r ballot slot a. elim (came now after node taken sent marks marks_after row lead (Asks ballot slot) a) [
+          | inl b ↦ was.undone r ballot slot b
+          | inr b ↦ absurd (count-asks (sent lead) (counts lead) ballot slot b)
+        ];
+        flying = was.flying;
+        votes = λ slot voters e who is. voting (was.flying slot voters e).runs slot voters who (was.votes slot voters e who is);
+        promises = λ r later who o. promising r later who (was.promises r later who o);
+        pledges = pledging;
+        leads = λ r. (let l = was.leads r in record { executed = leads_after r; member = l.member; stands = l.stands });
+        offered = was.offered;
+        self_election = λ r g. (let heir = least_of (members_at at now.course.newest) in
+            elim (cases_eq heir node) [
+              | inl is ↦ subst (λ n. after.next n < now.course.newest) (sym is) (t.waits r g (sym is))
+              | inr ne ↦ subst (λ n. n < now.course.newest) (sym (row.next heir ne)) (was.self_election r g)
+            ]);
+      })

@@ -1,0 +1,128 @@
+-- A leader stops by what is offered alone, and so has executed all that it offered.
+use Rattle.std.proofs.Common.{◌≡◌, ℕ, ◌+◌, ◌≤◌, eqb, ltb, true, false, true≢false, List, [], ◌∷◌, Option, Some, None, inl, inr, refl, sym, ◌∙◌, ap, subst, arith}
+use Rattle.std.specs.FinMap.{get}
+use Rattle.std.proofs.lemmas.Bool.{cond_both}
+use Rattle.sc_node_table.specs.Values.{Noted, Op, Command, Noop, Call, Core, Lock, Free, Coordinating, Promised, Watching, Effect, Route}
+use Rattle.sc_ideal.specs.Definitions.{key_of, holds_key}
+use Rattle.sc_machine_table.specs.Definitions.{Group, served_by_note, served, called, applied}
+use Rattle.sc_base.specs.Definitions.{is_member}
+use Rattle.sc_node_table.specs.Definitions.{entered, executed_one, next_child, next_ready, ending, executed_ready, executed, is_act, pumped, ReplicaState, Place, Executed, childless, next, forgotten, mailed, at_slot}
+use Rattle.sc_law_walks.specs.Definitions.{IfThere}
+use Rattle.sc_law_walks.proofs.Lemmas.{entered_next, idle_ready, idle_pump}
+use Rattle.sc_live_steps.specs.following.Definitions.{Course, Sets, IsLed, IsNext, IsOn, IsOff, LeadsPast, AreNext, LeadsBy, StopsAlone, ActsStopAlone}
+use Rattle.sc_live_steps.proofs.FollowingProofs.CountedEntries.{entries_lead}
+use Rattle.sc_live_steps.proofs.FollowingProofs.ExecutedEntries.{stays_led, ready_of, ready_leads}
+use Rattle.sc_live_steps.proofs.FollowingProofs.FlightSlots.{slot_out}
+use Rattle.sc_live_steps.proofs.FollowingProofs.LeaderTables.{none_taken}
+use Rattle.sc_live_steps.proofs.FollowingProofs.Offers.{pumps_offer}
+use Rattle.sc_live_steps.proofs.FollowingProofs.LeaderVotes.{vote_row}
+
+-- ---- calls and fillers leave a group's core as it is
+
+pub note_core : (o : Option Noted) (group : Group) (client seq : ℕ) (op : Op) → (served_by_note o group client seq op).0.core ≡ group.core
+note_core None group client seq op = refl
+note_core (Some noted) group client seq op = cond_both (ltb noted.seq seq) _ _ (λ (s : Group × Effect). s.0.core ≡ group.core) (λ _. refl) (λ _. cond_both (eqb noted.seq seq) _ _ (λ (s : Group × Effect). s.0.core ≡ group.core) (λ _. refl) (λ _. refl))
+
+pub served_core : (group : Group) (client seq : ℕ) (op : Op) → (served group client seq op).0.core ≡ group.core
+served_core group client seq op = cond_both (holds_key group.core.arc (key_of op)) _ _ (λ (s : Group × Effect). s.0.core ≡ group.core) (λ _. note_core (get group.clients client) group client seq op) (λ _. refl)
+
+pub called_core : (gone : Option Route) (lock : Lock) (group : Group) (client seq : ℕ) (op : Op) → (called gone lock group client seq op).0.core ≡ group.core
+called_core (Some into) lock group client seq op = refl
+called_core None Free group client seq op = served_core group client seq op
+called_core None (Watching tx watch) group client seq op = served_core group client seq op
+called_core None (Coordinating tx body order heard) group client seq op = refl
+called_core None (Promised tx offer) group client seq op = refl
+
+pub entered_core : (command : Command) (r : ReplicaState) → (entered command r).group.core ≡ (applied r.group command).0.core
+unfolding entered forgotten
+entered_core command r = refl
+
+-- so one that stops after an entry stops by an act
+module _ (at : Sets) (course : Course) (r after : ReplicaState) (led : IsLed at course r) where
+  same_goes_on : (command : Command) → (applied r.group command).0.core ≡ r.group.core → IsOff command r after → ⊥
+  same_goes_on command same off = elim (off.over) [
+    | inl went ↦ (let bad : None ≡ Some went.0 = sym led.stands ∙ (ap (λ (c : Core). c.gone) (sym core) ∙ went.1) in cc)
+    | inr left ↦ true≢false (sym led.member ∙ (ap (λ (c : Core). is_member c.members r.me) (sym core) ∙ left.1))
+  ]
+    where
+      core : (entered command r).group.core ≡ r.group.core
+      core = entered_core command r ∙ same
+
+  off_acts : (command : Command) → IsOff command r after → is_act command ≡ true
+  off_acts Noop off = absurd (same_goes_on Noop refl off)
+  off_acts (Call client seq op) off = absurd (same_goes_on (Call client seq op) (called_core r.group.core.gone r.group.core.lock r.group client seq op) off)
+  off_acts _ off = refl
+
+-- ---- what is executed at once
+
+-- an act that is ready is all that is in flight or ready
+abbrev ReadyAlone : Course → ReplicaState → Type 0
+ReadyAlone course r = (slot : ℕ) (command : Command) → next r ≤ slot → at_slot r.ready slot ≡ Some command → is_act command ≡ true → course.bound ≡ next r + 1
+
+module _ (at : Sets) (course : Course) (command : Command) (place : Place) (led : IsLed at course place.0) (ready : at_slot place.0.ready (next place.0) ≡ Some command) (is_next : IsNext at command place.0) (alone : ReadyAlone course place.0) where
+  abbrev mid : Place
+  mid = executed_one true command place
+
+  past : LeadsPast at course command place mid
+  past = entries_lead at course command place led is_next
+
+  on_led : IsOn command place.0 mid.0 → IsLed at course mid.0
+  on_led on = subst (IsLed at course) (sym on.is) (stays_led at course command place.0 led ready is_next on.acts on.calls on.stands on.stays)
+
+  on_alone : IsOn command place.0 mid.0 → ReadyAlone course mid.0
+  on_alone on slot other least e act =
+      let up : next mid.0 ≡ next place.0 + 1 = ap next on.is ∙ entered_next command place.0 in
+      let old : at_slot place.0.ready slot ≡ Some other = sym (ap (λ (q : ReplicaState). at_slot q.ready slot) on.is ∙ slot_out (next place.0) slot place.0.ready (λ is. omega (arith, least, up, is))) ∙ e in
+      let bound = alone slot other (omega (arith, least, up)) old act in
+      absurd (free_there slot other old (none_taken place.0 slot (led.may.free slot (omega (arith, bound, least, up)))).1)
+    where
+      free_there : (slot : ℕ) (other : Command) → at_slot place.0.ready slot ≡ Some other → at_slot place.0.ready slot ≡ None → ⊥
+      free_there slot other i j = cc
+
+  off_bound : IsOff command place.0 mid.0 → next mid.0 ≡ course.bound
+  off_bound off = (let bound = alone (next place.0) command (omega arith) ready (off_acts at course place.0 mid.0 led command off) in
+      let up : next mid.0 ≡ next place.0 + 1 = ap next off.is ∙ entered_next command place.0 in
+      omega (arith, bound, up))
+
+  -- an entry, those that are ready behind it, and a pump
+  step_alone : (es : List (ℕ × Command)) → AreNext at es mid → (IsLed at course mid.0 → ReadyAlone course mid.0 → StopsAlone course (executed_ready es mid).0.0) → StopsAlone course (pumped (executed_ready es mid).0).0
+  step_alone es are rest = elim (past.state) [
+    | inl on ↦ (let b : LeadsBy at course mid (executed_ready es mid).0 = ready_leads at course es mid (on_led on) are in
+        elim (b.state) [
+          | inl still ↦ λ off. absurd (true≢false (sym (ap (λ (q : ReplicaState). q.running) (pumps_offer at _ (executed_ready es mid).0 still.led.may).is ∙ still.led.running) ∙ off))
+          | inr stopped ↦ subst (λ (p : Place). StopsAlone course p.0) (sym (idle_pump (executed_ready es mid).0 stopped.0.running)) (rest (on_led on) (on_alone on))
+        ])
+    | inr off ↦ (let still : mid.0.running ≡ false = ap (λ (q : ReplicaState). q.running) off.is in
+        subst (λ (s : Executed). StopsAlone course (pumped s.0).0) (sym (idle_ready es mid still)) (subst (λ (p : Place). StopsAlone course p.0) (sym (idle_pump mid still)) (λ _. off_bound off)))
+  ]
+
+ready_alone : (at : Sets) (course : Course) (es : List (ℕ × Command)) (place : Place) → IsLed at course place.0 → AreNext at es place → ReadyAlone course place.0 → StopsAlone course (executed_ready es place).0.0
+unfolding executed_ready
+ready_alone at course [] place led are alone = λ off. absurd (true≢false (sym led.running ∙ off))
+ready_alone at course (e ∷ es) place led are alone = by (next_ready place.0) refl are (λ q l a o. ready_alone at course es q l a o)
+  where
+    Goes : Executed → Type 0
+    Goes s = StopsAlone course s.0.0
+
+    by : (o : Option Command) → next_ready place.0 ≡ o → IfThere (λ command. IsNext at command place.0 × AreNext at es (executed_one true command place)) (Unit {0}) o
+        → ((q : Place) → IsLed at course q.0 → AreNext at es q → ReadyAlone course q.0 → StopsAlone course (executed_ready es q).0.0)
+        → Goes (elim o [ None ↦ childless place | Some command ↦ ending (next_child command place.0) (executed_ready es (executed_one true command place)) ])
+    by None i one more = λ off. absurd (true≢false (sym led.running ∙ off))
+    by (Some command) i one more = step_alone at course command place led (ready_of command place.0 i) one.0 alone es one.1 (λ l o. more (executed_one true command place) l one.1 o)
+
+executed_alone : (at : Sets) (course : Course) (command : Command) (place : Place) → IsLed at course place.0 → at_slot place.0.ready (next place.0) ≡ Some command → IsNext at command place.0
+    → AreNext at (executed_one true command place).0.ready (executed_one true command place) → ReadyAlone course place.0 → StopsAlone course (executed true command place).0.0
+unfolding executed
+executed_alone at course command place led ready is_next are alone =
+    let then : Place = executed_one true command place in
+    step_alone at course command place led ready is_next alone then.0.ready are (λ l o. ready_alone at course then.0.ready then l are o)
+
+-- ---- the whole
+
+-- Where anything but a call or a filler is in flight or ready only alone, a leader that stops by a vote has executed all that it offered.
+pub acts_stop_alone : ActsStopAlone
+unfolding mailed
+acts_stop_alone at now from ballot slot r rosters was decides alone =
+    vote_row at now from ballot slot r rosters was decides (λ e. StopsAlone now.course e.0.0) (λ mid c keeps off. absurd (true≢false (sym c.led.running ∙ off)))
+    (λ command mid c ready entries before keeps. executed_alone at now.course command (mid, []) c.led ready entries.0 entries.1
+    (λ s other least e act. (let same = c.same_next in let bound = alone s other (omega (arith, least, same)) (before s other e) act in omega (arith, bound, same))))

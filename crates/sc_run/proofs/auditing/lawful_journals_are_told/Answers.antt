@@ -1,8 +1,0 @@
-use Rattle.sc_run.proofs.Told.{told, printed_told}
-use Rattle.sc_run.proofs.auditing.lawful_journals_are_told.Goals as goal
-
-pub returns-clause-files : goal.returns-clause-files
-returns-clause-files c = told c.files_have_one_verdict.ensures
-
-pub returns-clause-printed : goal.returns-clause-printed
-returns-clause-printed c = printed_told c.files_have_one_verdict.ensures c.printed_files_are_files.ensures
