@@ -181,7 +181,8 @@ module _ {A M O : Type 0} (s : System A M O) where
 
   -- ---- quiet
 
-  empty_by : {M' : Type 0} (test : M' → Bool) (first : ℕ) (sent : List M') (counts : List ℕ) → is_none (slice_get (numbers test first sent counts) 0) ≡ true → mail_with test sent counts ≡ []
+  -- where no number passes the test, no mail does
+  pub empty_by : {M' : Type 0} (test : M' → Bool) (first : ℕ) (sent : List M') (counts : List ℕ) → is_none (slice_get (numbers test first sent counts) 0) ≡ true → mail_with test sent counts ≡ []
   empty_by test first [] counts none = refl
   empty_by test first (m ∷ sent) [] none = refl
   empty_by test first (m ∷ sent) (c ∷ counts) none = by (test m) c none (empty_by test (suc first) sent counts)

@@ -1,0 +1,2 @@
+pub mod PendingMail
+pub mod TakenTurns
