@@ -55,6 +55,23 @@ module _ (sound_law : ValidJournalsAreSound) (words : ℕ → ℕ → ℕ × ℕ
     | inr few ↦ few
   ]
 
+  -- where the client had started in a prefix that is as a quiet journal, all its requests are answered
+  pub answered_since : (before after : Rows) → journal ≡ before ++ after → IsQuietJournal words scenario s.first before → has_gone before (client_actor asks.client) ≡ true
+      → (first : Base) (others : List Base) → scenario.groups ≡ first ∷ others → length (kept_replies (route_of first) asks journal) ≡ length asks.ops
+  answered_since before after rows_are quiet gone first others groups =
+      let seat : Seat Player = client_seat (route_of s.first) asks in
+      let player = quiet.players asks a in
+      let answer = Each-among (λ (client : Bool × ClientState). IsAnswered client.0 (route_of s.first) client.1) quiet.clients (has_gone before (client_actor asks.client), player.0) quiet.quiet.answered player.4 in
+      let all = (subst (λ b. IsAnswered b (route_of s.first) player.0) gone answer).1 in
+      let requests = ap length player.3 in
+      let then_ = ap (λ p. length (replies_of p)) player.1 in
+      let more = replies_more seat before after in
+      let same_rows = ap (λ l. length (replies_of (value player_table seat l))) rows_are in
+      let low = replies_low in
+      let same : s.first ≡ first = (let e : s.first ∷ s.others ≡ first ∷ others = sym s.groups_are ∙ groups in cc) in
+      ap (λ (b : Base). length (replies_of (value player_table (client_seat (route_of b) asks) journal))) (sym same)
+      ∙ (let equal : length (replies_of (value player_table seat journal)) ≡ length asks.ops = omega (arith, then_, all, requests, more, same_rows, low) in equal)
+
 -- each request of a client that has started before a line of deliveries is answered in a whole journal in which no line was cut off, where its quiet prefixes rest
 pub answered_calmly : ValidScenariosAreBounded → ValidJournalsAreSound → (words : ℕ → ℕ → ℕ × ℕ) (scenario : Scenario) (journal : Rows) → IsValid scenario
     → Lawful as_nodes words scenario journal → Whole as_nodes words scenario journal → unsettled (system_of as_nodes words scenario) (schedule scenario) journal ≡ false
@@ -78,14 +95,4 @@ answered_calmly all_bounded sound_law words scenario journal valid lawful whole 
     (Among-right (line.Go (client_actor asks.client)) (map line_of served.before) (line.Go (client_actor asks.client) ∷ []) (inl refl)) (map line_of d.0) (line_of d.1) (map line_of d.2) rest_is (many_line d.1 d.4) journal lawful uncut whole in
     let begins : IsLawful sys (schedule scenario) was.before = lawful-prefix sys (schedule scenario) was.before was.after (subst (λ l. IsLawful sys (schedule scenario) l) was.rows_are lawful) in
     let quiet = rest_law s.first s.others was.before was.after was.rows_are begins s.groups_are was.quiet in
-    let player = quiet.players asks a in
-    let answer = Each-among (λ (client : Bool × ClientState). IsAnswered client.0 (route_of s.first) client.1) quiet.clients (has_gone was.before (client_actor asks.client), player.0) quiet.quiet.answered player.4 in
-    let all = (subst (λ b. IsAnswered b (route_of s.first) player.0) was.gone answer).1 in
-    let requests = ap length player.3 in
-    let then_ = ap (λ p. length (replies_of p)) player.1 in
-    let more = replies_more seat was.before was.after in
-    let same_rows = ap (λ l. length (replies_of (value player_table seat l))) was.rows_are in
-    let low = replies_low sound_law words scenario s journal valid lawful asks a in
-    let same : s.first ≡ first = (let e : s.first ∷ s.others ≡ first ∷ others = sym s.groups_are ∙ groups in cc) in
-    ap (λ (b : Base). length (replies_of (value player_table (client_seat (route_of b) asks) journal))) (sym same)
-    ∙ (let equal : length (replies_of (value player_table seat journal)) ≡ length asks.ops = omega (arith, then_, all, requests, more, same_rows, low) in equal)
+    answered_since sound_law words scenario s journal valid lawful asks a was.before was.after was.rows_are quiet was.gone first others groups

@@ -3,6 +3,7 @@ pub mod AcceptedReports
 pub mod ActsUnderOrders
 pub mod Affairs
 mod AnsweredRequests
+pub mod LastLineAnswers
 pub mod Arcs
 pub mod PrepareSlotRows
 pub mod KnownRestingPrefixes

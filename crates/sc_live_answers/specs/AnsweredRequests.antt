@@ -5,6 +5,7 @@ use Rattle.sc_actor.specs.Definitions.{is_quiet, unsettled}
 use Rattle.sc_scenario.specs.Definitions.{IsValid}
 use Rattle.sc_scenario.specs.declared.scenarios.Scenario.{Scenario}
 use Rattle.sc_sound.specs.Definitions.{births, system_of, schedule, as_nodes, Lawful, Whole}
+use Rattle.sc_live_orderly.specs.Definitions.{AreInTime}
 use Rattle.sc_live_steps.specs.calm.Definitions.{Chart, players, Rows}
 use Rattle.sc_live_journals.specs.charts.Definitions.{chart_at}
 use Rattle.sc_live_plain.specs.Definitions.{IsQuietJournal, AreAnswered, orders_of, IsCalm, IsCalmAtBudget}
@@ -34,6 +35,13 @@ SettledJournalsRest =
     → Lawful as_nodes words scenario rows → unsettled (system_of as_nodes words scenario) (schedule scenario) rows ≡ false → length rows ≤ 2 ^ 28
     → is_quiet (system_of as_nodes words scenario) rows ≡ true → IsQuietJournal words scenario first rows
 
+-- A lawful journal of a valid calm scenario whose rows come in time, with no more rows than slots and rounds are for, is as a quiet journal asks it where no mail is pending.
+abbrev pub TimelyJournalsRest : Type 0
+TimelyJournalsRest =
+    (words : ℕ → ℕ → ℕ × ℕ) (scenario : Scenario) (first : Base) (others : List Base) (rows : List (Row Mail OrderLine)) → IsValid scenario → IsCalm scenario → scenario.groups ≡ first ∷ others
+    → Lawful as_nodes words scenario rows → AreInTime (system_of as_nodes words scenario) rows → length rows ≤ 2 ^ 28
+    → is_quiet (system_of as_nodes words scenario) rows ≡ true → IsQuietJournal words scenario first rows
+
 -- In a whole journal of a valid calm scenario in which no line was cut off, with no more rows than slots and rounds are for, every request of a client whose `go` line is followed by a line of deliveries is answered.
 abbrev pub SettledRequestsAreAnswered : Type 0
 SettledRequestsAreAnswered =
@@ -53,3 +61,4 @@ pub record CalmJournalsGoOn : Type 0 where
   pub charted : CalmJournalsAreCharted
   pub rests : CalmJournalsRest
   pub settled : SettledJournalsRest
+  pub timely : TimelyJournalsRest

@@ -1,7 +1,7 @@
 -- The definitions of this crate that other crates cite, under one name.
 pub use Rattle.sc_live_answers.specs.PrepareSlots.{IsAbove, top_by, AreAbove, HasBelow, IsAskedOn}
 pub use Rattle.sc_live_answers.specs.GuidedRows.{RowsAreGuided}
-pub use Rattle.sc_live_answers.specs.AnsweredRequests.{CalmLinesSettle, CalmJournalsRest, SettledJournalsRest, SettledRequestsAreAnswered, charts_of, CalmJournalsAreCharted, CalmJournalsGoOn, CalmRequestsAreAnswered}
+pub use Rattle.sc_live_answers.specs.AnsweredRequests.{CalmLinesSettle, CalmJournalsRest, SettledJournalsRest, TimelyJournalsRest, SettledRequestsAreAnswered, charts_of, CalmJournalsAreCharted, CalmJournalsGoOn, CalmRequestsAreAnswered}
 pub use Rattle.sc_live_answers.specs.Arcs.{FreeGroupsHaveArcs}
 pub use Rattle.sc_live_answers.specs.RequestPhases.{RestingPrefixesAreKnown, SentNodesMayPump, RequestsBeginAsked, RequestsStayAsked, AskedRowsGoOn, AskedRowsFindCalm, RequestsKeepGroups, RequestsRestAgain, IsAskedSince}
 pub use Rattle.sc_live_answers.specs.LogChildren.{IsBirth, EntriesCreateChildren}

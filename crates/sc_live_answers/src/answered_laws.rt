@@ -1,9 +1,10 @@
 //! Calm scenarios are answered, at their budget or where no line was cut off. Definitions and laws, no logic.
 ghost use Rattle.sc_live_answers.specs.AnsweredRequests.{CalmJournalsGoOn, CalmLinesSettle, CalmRequestsAreAnswered, SettledRequestsAreAnswered};
+ghost use Rattle.sc_live_plain.specs.LastLine.{LastLinesAnswer};
 ghost use Rattle.sc_live_plain.specs.Laws.{PlainRequestsAreAnswered};
 
 use sc_law_groups::valid_journals_are_sound;
-use sc_live_plain::{plain_journals_are_light, plain_lines_end_quiet};
+use sc_live_plain::{last_lines_end_quiet, plain_journals_are_light, plain_lines_end_quiet};
 use sc_scenario::valid_scenarios_are_bounded;
 
 /// Proves that a valid calm scenario at its budget that gives an order has charts as `AreCharted`
@@ -60,4 +61,16 @@ pub fn plain_journals_are_answered()
     plain_lines_end_quiet();
     plain_journals_are_light();
     settled_requests_are_answered();
+}
+
+/// Proves that in each whole lawful journal, of at most 2^28 rows, of a valid plain scenario whose
+/// last line alone is at the budget every request is answered of a client that has a `go` line:
+/// the client kept a reply to each. Lines before the last may have been cut off.
+pub fn last_lines_answer()
+    ensures { LastLinesAnswer }
+{
+    valid_scenarios_are_bounded();
+    valid_journals_are_sound();
+    last_lines_end_quiet();
+    calm_journals_go_on();
 }

@@ -11,3 +11,6 @@ pub use Rattle.sc_live_orderly.proofs.QuietLineEnds.{never_cut_by}
 pub use Rattle.sc_live_orderly.proofs.SpacedLines.{rows_in_time, deliveries_and_orders, ends_quiet}
 pub use Rattle.sc_live_orderly.proofs.SettledInTime.{settled_in_time}
 pub use Rattle.sc_live_orderly.proofs.UncutPrefixes.{uncut_before}
+pub use Rattle.sc_live_orderly.proofs.LastLineQuiet.{ends_quiet_at_last}
+pub use Rattle.sc_live_orderly.proofs.StartedActors.{has_started}
+pub use Rattle.sc_live_orderly.proofs.PlainRowsInTime.{plain_in_time}

@@ -13,3 +13,7 @@ pub mod SpacedTasks
 pub mod SpacedLines
 pub mod UncutPrefixes
 pub mod Lemmas
+pub mod PassedTasks
+pub mod LastLineQuiet
+pub mod StartedActors
+pub mod PlainRowsInTime

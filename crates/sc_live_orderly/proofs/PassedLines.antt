@@ -59,7 +59,7 @@ module _ {A M O : Type 0} (s : System A M O) where
       pub gone : has_gone before who ≡ true
 
     -- a line that tells it to go is over only where it has gone
-    gone_over : (rows : List (Row M O)) → is_over s rows (Once (GoLine who)) ≡ true → has_gone rows who ≡ true
+    pub gone_over : (rows : List (Row M O)) → is_over s rows (Once (GoLine who)) ≡ true → has_gone rows who ≡ true
     gone_over rows over = by (has_gone rows who) refl over
       where
         by : (b : Bool) → has_gone rows who ≡ b → is_none (cond b None (acts s rows who Go)) ≡ true → has_gone rows who ≡ true
@@ -112,7 +112,7 @@ module _ {A M O : Type 0} (s : System A M O) where
 
     -- ---- one more row
 
-    gone_stays : (rows : List (Row M O)) (row : Row M O) → has_gone rows who ≡ true → has_gone (rows ++ row ∷ []) who ≡ true
+    pub gone_stays : (rows : List (Row M O)) (row : Row M O) → has_gone rows who ≡ true → has_gone (rows ++ row ∷ []) who ≡ true
     gone_stays rows row gone = list_any-append (λ (r : Row M O). eqb r.who who && is_go r.event) rows (row ∷ []) ∙ or_left (has_gone rows who) ((eqb row.who who && is_go row.event) || false) gone
 
     unless-some : (b : Bool) (o : Option (Row M O)) (y : Row M O) → cond b None o ≡ Some y → o ≡ Some y
@@ -120,7 +120,7 @@ module _ {A M O : Type 0} (s : System A M O) where
     unless-some false o y e = e
 
     -- the row of a line that tells it to go
-    gone_by : (rows : List (Row M O)) (row : Row M O) → line_row s rows (GoLine who) ≡ Some row → has_gone (rows ++ row ∷ []) who ≡ true
+    pub gone_by : (rows : List (Row M O)) (row : Row M O) → line_row s rows (GoLine who) ≡ Some row → has_gone (rows ++ row ∷ []) who ≡ true
     gone_by rows row e =
         let m = map-some (λ (x : Seat A). row_of s.table x rows Go) (find (λ other. eqb other.who who) s.births) row (unless-some (has_gone rows who) (acts s rows who Go) row e) in
         let number = find-who s.births who m.0 m.1 in

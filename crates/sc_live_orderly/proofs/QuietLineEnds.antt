@@ -119,7 +119,7 @@ module _ {A M O : Type 0} (s : System A M O) where
   module _ (owing : Owing A M) (lines : List (Line O)) (plain : Each IsPlainLine lines) (bounded : (rows : List (Row M O)) → IsLawful s lines rows → deliveries rows + owed s owing rows ≤ owed_at_birth s owing)
       (owes : (rows : List (Row M O)) → IsLawful s lines rows → Each (λ mail. 1 ≤ owing.mail mail) (mails rows)) where
     -- where something is pending, something is owed
-    pending_owes : (rows : List (Row M O)) → IsLawful s lines rows → is_quiet s rows ≡ false → deliveries rows < owed_at_birth s owing
+    pub pending_owes : (rows : List (Row M O)) → IsLawful s lines rows → is_quiet s rows ≡ false → deliveries rows < owed_at_birth s owing
     pending_owes rows lawful q = by (kth (waiting s rows None) 1) refl
       where
         by : (o : Option ℕ) → kth (waiting s rows None) 1 ≡ o → deliveries rows < owed_at_birth s owing

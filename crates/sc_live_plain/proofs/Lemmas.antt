@@ -1,7 +1,7 @@
 -- The lemmas of this crate that others cite, under one name.
 pub use Rattle.sc_live_plain.proofs.Lists.{map_among, some_is}
 pub use Rattle.sc_live_plain.proofs.Sums.{shares, sum_mapped, none_together}
-pub use Rattle.sc_live_plain.proofs.SpacedOrders.{calm_spaced as calm_lines_are_spaced, roomy_calm as roomy_scenarios_are_calm}
+pub use Rattle.sc_live_plain.proofs.SpacedOrders.{calm_spaced as calm_lines_are_spaced, roomy_calm as roomy_scenarios_are_calm, plain_lines_calm}
 pub use Rattle.sc_live_plain.proofs.PlainJournals.{of_player}
 pub use Rattle.sc_live_plain.proofs.PlainSteps.{node_born, node_number, in_numbers, to_numbers, client_number, value_others, gone_others, started_still, each_numbered, one_of_sum}
 pub use Rattle.sc_live_plain.proofs.MailMarks.{taken_once}
@@ -38,3 +38,5 @@ pub use Rattle.sc_live_plain.proofs.RequestsAfterQuiet.{quiet_ask}
 pub use Rattle.sc_live_plain.proofs.CalmWaitingRequests.{AreSought, IsSought, sought_row}
 pub use Rattle.sc_live_plain.proofs.RequestLines.{lines_answered}
 pub use Rattle.sc_live_plain.proofs.Laws.{plain_lines_end_quiet, requests_go_on, quiet_journals_ask}
+pub use Rattle.sc_live_plain.proofs.LastLineEnds.{all_plain, last_lines_quiet}
+pub use Rattle.sc_live_plain.proofs.QuietLineEnds.{lines_plain}

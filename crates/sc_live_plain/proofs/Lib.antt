@@ -41,6 +41,7 @@ pub mod PlainClients
 pub mod GroupCircle
 pub mod InductionBase
 pub mod QuietLineEnds
+pub mod LastLineEnds
 pub mod JournalBytes
 pub mod LightJournals
 pub mod ExampleBudget

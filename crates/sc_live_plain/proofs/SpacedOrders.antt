@@ -3,11 +3,12 @@ use Rattle.std.proofs.Common.{◌≡◌, ℕ, List, [], ◌∷◌, ◌++◌, ◌
 use Rattle.std.specs.List.{list_any}
 use Rattle.sc_base.specs.Definitions.{Each}
 use Rattle.sc_node_table.specs.Values.{OrderLine}
+use Rattle.sc_scenario.specs.declared.scenarios.Scenario.{Scenario}
 use Rattle.sc_scenario.specs.declared.scenarios.SchedLine.{SchedLine}
 use Rattle.sc_scenario.specs.declared.scenarios.SchedLine.TheVariants.{Go, Deliver, Drop, Again, Tick, Crash, Told, Settle, Free, Storm}
 use Rattle.sc_sound.specs.Definitions.{line_of}
 use Rattle.sc_live_orderly.specs.Definitions.{HasRoom, Said, Nothing, Goes, AnOrder, MayGo, MayOrder, AreSpaced}
-use Rattle.sc_live_plain.specs.Definitions.{delivers, budget_of, gives_order, starts, are_parted, AllowsDeliveries, AllowsCalmly, CalmLinesAreSpaced, RoomyScenariosAreCalm}
+use Rattle.sc_live_plain.specs.Definitions.{delivers, budget_of, gives_order, starts, are_parted, AllowsDeliveries, AllowsCalmly, IsCalm, CalmLinesAreSpaced, RoomyScenariosAreCalm}
 
 -- whether what was said keeps a line from coming without deliveries between
 abbrev bars : Said → SchedLine → Bool
@@ -136,17 +137,21 @@ parted_gives one other parted = by (gives_order one) (gives_order other) (starts
     by false false true d e = absurd (true≢false (sym e))
     by false false false d e = absurd (true≢false (sym e))
 
+-- a scenario of plain lines is calm
+pub plain_lines_calm : (budget : ℕ) (scenario : Scenario) → Each (AllowsDeliveries budget) scenario.lines → IsCalm scenario
+plain_lines_calm budget scenario plain = record {
+  lines = plain_calm budget scenario.lines plain;
+  followed = λ before after one e gives. absurd (none_given budget before after one (subst (Each (AllowsDeliveries budget)) e plain) gives);
+  parted = λ before between after one other e parted. (
+      let all = subst (Each (AllowsDeliveries budget)) e plain in
+      elim (parted_gives one other parted) [
+        | inl gives ↦ absurd (none_first budget before between (other ∷ after) one all gives)
+        | inr gives ↦ absurd (none_second budget before between after one other all gives)
+      ]);
+}
+
 pub roomy_calm : RoomyScenariosAreCalm
 roomy_calm = record {
   calm = λ room scenario calm. record { lines = lines_calm room scenario.lines calm.lines; followed = calm.followed; parted = calm.parted };
-  plain = λ scenario plain. record {
-    lines = plain_calm (budget_of scenario) scenario.lines plain;
-    followed = λ before after one e gives. absurd (none_given (budget_of scenario) before after one (subst (Each (AllowsDeliveries (budget_of scenario))) e plain) gives);
-    parted = λ before between after one other e parted. (
-        let all = subst (Each (AllowsDeliveries (budget_of scenario))) e plain in
-        elim (parted_gives one other parted) [
-          | inl gives ↦ absurd (none_first (budget_of scenario) before between (other ∷ after) one all gives)
-          | inr gives ↦ absurd (none_second (budget_of scenario) before between after one other all gives)
-        ]);
-  };
+  plain = λ scenario plain. plain_lines_calm (budget_of scenario) scenario plain;
 }

@@ -18,3 +18,4 @@ pub use Rattle.sc_live_plain.specs.Potential.{replica_owes, begun_ones, waiting_
 pub use Rattle.sc_live_plain.specs.PlainClients.{IsBegun, begun_of, IsWaiting, way_of, IsPlainClient, IsResting}
 pub use Rattle.sc_live_plain.specs.PlainMail.{Requests, IsPlainCall, IsPlainCommand, IsPlainBody, IsPlainMail, IsWrittenValue, IsPlainAnswer, written_by}
 pub use Rattle.sc_live_plain.specs.PlainNodes.{AreTaken, IsPlainLeader, IsPlainFollower, IsPlainVoter, IsPlainReplica, HasOffered, IsPlainAt, IsSettled, IsPlainNode, IsPlainGroup, IsPlainFlight, IsDue, takers, IsLeading}
+pub use Rattle.sc_live_plain.specs.LastLine.{EndsAtBudget, LastLinesEndQuiet, LastLinesAnswer}

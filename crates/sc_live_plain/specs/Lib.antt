@@ -6,6 +6,7 @@ pub mod LeaderMail
 pub mod LeaderMailInJournals
 pub mod LeaderMailRows
 pub mod Budget
+pub mod LastLine
 pub mod CalmBudget
 pub mod CalmClients
 pub mod KnownGroups

@@ -8,6 +8,7 @@
 //! no mail pending, from which on clients may ask.
 #![tactic(auto)]
 
+ghost use Rattle.sc_live_plain.specs.LastLine.{LastLinesEndQuiet};
 ghost use Rattle.sc_live_plain.specs.Laws.{MadeScenariosAreAtBudget, PlainJournalsAreLight, PlainLinesEndQuiet};
 
 use sc_scenario::valid_scenarios_are_bounded;
@@ -18,6 +19,14 @@ use sc_scenario::valid_scenarios_are_bounded;
 pub fn plain_lines_end_quiet()
     ensures { PlainLinesEndQuiet }
 {}
+
+/// Proves that each whole lawful journal of a valid plain scenario whose last line alone is at the
+/// budget ends with no mail pending, whatever lines before it were cut off.
+pub fn last_lines_end_quiet()
+    ensures { LastLinesEndQuiet }
+{
+    valid_scenarios_are_bounded();
+}
 
 /// Proves that no lawful journal of a valid plain scenario at its budget counts more than 2^30
 /// bytes, the limit of journals. A line has room for at most 1,000,000 deliveries, so the journal

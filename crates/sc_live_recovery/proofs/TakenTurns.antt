@@ -9,64 +9,10 @@ use Rattle.sc_actor.specs.Definitions.{System, Task, Once, Settles, Allows, IsLa
 use Rattle.sc_actor.proofs.Lemmas.{lawful-prefix, lawful-last, Stands, Stands-row, Stands-over, Stands-at, Stands-allows, Stands-begin, Stands-ended}
 use Rattle.sc_live_orderly.proofs.Lemmas.{uncut_before}
 use Rattle.sc_live_orderly.proofs.UncutPrefixes.{onward_cut}
+use Rattle.sc_live_orderly.proofs.PassedTasks.{flat_append, more_rows, next_row, reach}
 use Rattle.sc_live_recovery.specs.Turns.{Kick, Ticks, Starts, Turn, kick_line, turn_lines, AreDelivered, IsTurn, HasTurns, as_list, TurnsAreTaken}
 
-flat_append : {X Y : Type 0} (f : X → List Y) (xs ys : List X) → flat_map f (xs ++ ys) ≡ flat_map f xs ++ flat_map f ys
-flat_append f [] ys = refl
-flat_append f (x ∷ xs) ys = ap (λ t. f x ++ t) (flat_append f xs ys) ∙ sym (append_assoc (f x) (flat_map f xs) (flat_map f ys))
-
 module _ {A M O : Type 0} (s : System A M O) (all : List (Line O)) (journal : List (Row M O)) (lawful : IsLawful s all journal) (whole : IsWhole s all journal) (uncut : unsettled s all journal ≡ false) where
-  -- where the walk stands before a task that is not over, a row follows
-  more_rows : (rows : List (Row M O)) (task : Task O) (tasks : List (Task O)) (k : ℕ) (c : Bool) → journal ≡ rows ++ [] → Stands s all rows (task ∷ tasks) k c → is_over s rows task ≡ false → ⊥
-  more_rows rows task tasks k c e stands open_ =
-      let same : rows ≡ journal = sym (append-nil rows) ∙ sym e in
-      let here = ap (λ place. place.tasks) (Stands-at s all rows task tasks k c stands open_) in
-      let over : (place_after s all rows).tasks ≡ [] = ap (λ xs. (place_after s all xs).tasks) same ∙ whole in
-      let bad : task ∷ tasks ≡ [] = sym here ∙ over in cc
-
-  -- the row that follows is allowed by the first task
-  next_row : (rows : List (Row M O)) (row : Row M O) (more : List (Row M O)) (task : Task O) (tasks : List (Task O)) (k : ℕ) (c : Bool) → journal ≡ rows ++ row ∷ more → Stands s all rows (task ∷ tasks) k c → is_over s rows task ≡ false → Allows s rows task row
-  next_row rows row more task tasks k c e stands open_ =
-      let whole_is : journal ≡ (rows ++ row ∷ []) ++ more = e ∙ sym (append_assoc rows (row ∷ []) more) in
-      let first = lawful-prefix s all (rows ++ row ∷ []) more (subst (λ xs. IsLawful s all xs) whole_is lawful) in
-      Stands-allows s all rows task tasks k c row stands open_ (lawful-last s all rows row first)
-
-  -- a place of the walk at which these tasks are left
-  record Reaches (back : List (Task O)) : Type 0 where
-    rows : List (Row M O)
-    more : List (Row M O)
-    k : ℕ
-    c : Bool
-    journal_is : journal ≡ rows ++ more
-    stands : Stands s all rows back k c
-
-  module _ (back : List (Task O)) where
-    abbrev Later : List (Row M O) → Type 0
-    Later more = (rows : List (Row M O)) (front : List (Task O)) (k : ℕ) (c : Bool) → journal ≡ rows ++ more → Stands s all rows (front ++ back) k c → Reaches back
-
-    at_end : Later []
-    at_end rows [] k c e stands = record { rows = rows; more = []; k = k; c = c; journal_is = e; stands = stands }
-    at_end rows (task ∷ front) k c e stands = by (is_over s rows task) refl (at_end rows front (k + skips task) (c || cuts s rows task) e)
-      where
-        by : (b : Bool) → is_over s rows task ≡ b → (Stands s all rows (front ++ back) (k + skips task) (c || cuts s rows task) → Reaches back) → Reaches back
-        by true over go = go (Stands-over s all rows task (front ++ back) k c stands over)
-        by false open_ go = absurd (more_rows rows task (front ++ back) k c e stands open_)
-
-    at_row : (row : Row M O) (more : List (Row M O)) → Later more → Later (row ∷ more)
-    at_row row more again rows [] k c e stands = record { rows = rows; more = row ∷ more; k = k; c = c; journal_is = e; stands = stands }
-    at_row row more again rows (task ∷ front) k c e stands = by (is_over s rows task) refl (at_row row more again rows front (k + skips task) (c || cuts s rows task) e)
-      where
-        by : (b : Bool) → is_over s rows task ≡ b → (Stands s all rows (front ++ back) (k + skips task) (c || cuts s rows task) → Reaches back) → Reaches back
-        by true over go = go (Stands-over s all rows task (front ++ back) k c stands over)
-        by false open_ go =
-            let next = Stands-row s all rows task (front ++ back) k c row stands open_ (next_row rows row more task (front ++ back) k c e stands open_) in
-            again (rows ++ row ∷ []) (rest_of_task task ++ front) k c (e ∙ sym (append_assoc rows (row ∷ []) more))
-            (subst (λ tasks. Stands s all (rows ++ row ∷ []) tasks k c) (sym (append_assoc (rest_of_task task) front back)) next)
-
-    reach : (more : List (Row M O)) → Later more
-    reach [] = at_end
-    reach (row ∷ more) = at_row row more (reach more)
-
   -- where no line was cut off, a task of deliveries is over only where no mail is pending
   quiet_over : (rows more : List (Row M O)) (left : ℕ) (back : List (Task O)) (k : ℕ) (c : Bool) → journal ≡ rows ++ more → Stands s all rows back k (c || not (is_quiet s rows)) → is_quiet s rows ≡ true
   quiet_over rows more left back k c e stands =
@@ -108,13 +54,13 @@ module _ {A M O : Type 0} (s : System A M O) (all : List (Line O)) (journal : Li
     where
       by : (b : Bool) → is_over s rows (Settles left) ≡ b → Settled rows back
       by true over = settled_here rows [] left back k c e stands over
-      by false open_ = absurd (more_rows rows (Settles left) back k c e stands open_)
+      by false open_ = absurd (more_rows s all journal lawful whole rows (Settles left) back k c e stands open_)
   settle (row ∷ more) rows left back k c e stands = by (is_over s rows (Settles left)) refl (settle more (rows ++ row ∷ []) (left - 1) back k c (e ∙ sym (append_assoc rows (row ∷ []) more)))
     where
       by : (b : Bool) → is_over s rows (Settles left) ≡ b → (Stands s all (rows ++ row ∷ []) (Settles (left - 1) ∷ back) k c → Settled (rows ++ row ∷ []) back) → Settled rows back
       by true over again = settled_here rows (row ∷ more) left back k c e stands over
       by false open_ again =
-          let allowed : lowest s rows ≡ Some row = next_row rows row more (Settles left) back k c e stands open_ in
+          let allowed : lowest s rows ≡ Some row = next_row s all journal lawful whole rows row more (Settles left) back k c e stands open_ in
           let rest = again (Stands-row s all rows (Settles left) back k c row stands open_ allowed) in
           let one = append_assoc rows (row ∷ []) rest.deliveries in
           record {
@@ -167,9 +113,9 @@ module _ {A M O : Type 0} (s : System A M O) (all : List (Line O)) (journal : Li
         by true over more e =
             let none : line_row s rows (kick_line turn.kick turn.who) ≡ None = ap (λ l. line_row s rows l) same ∙ is_none_over (line_row s rows line) over in
             skipped_first rows more (k + 1) (c || false) quiet none e (Stands-over s all rows (Once line) (Settles turn.most ∷ turn_tasks turns) k c stands over)
-        by false open_ [] e = absurd (more_rows rows (Once line) (Settles turn.most ∷ turn_tasks turns) k c e stands open_)
+        by false open_ [] e = absurd (more_rows s all journal lawful whole rows (Once line) (Settles turn.most ∷ turn_tasks turns) k c e stands open_)
         by false open_ (row ∷ more) e =
-            let allowed : line_row s rows line ≡ Some row = next_row rows row more (Once line) (Settles turn.most ∷ turn_tasks turns) k c e stands open_ in
+            let allowed : line_row s rows line ≡ Some row = next_row s all journal lawful whole rows row more (Once line) (Settles turn.most ∷ turn_tasks turns) k c e stands open_ in
             after_first rows more (Some row) k c quiet (ap (λ l. line_row s rows l) same ∙ allowed) (e ∙ sym (append_assoc rows (row ∷ []) more))
             (Stands-row s all rows (Once line) (Settles turn.most ∷ turn_tasks turns) k c row stands open_ allowed)
 
@@ -193,7 +139,7 @@ taken s lines most turns journal lawful whole uncut =
     let all = lines ++ Settle most ∷ flat_map turn_lines turns in
     let back = turn_tasks s all journal lawful whole uncut turns in
     let begins = subst (λ tasks. Stands s all [] tasks 0 false) (flat_append (tasks_of s.words) lines (Settle most ∷ flat_map turn_lines turns)) (Stands-begin s all) in
-    let at = reach s all journal lawful whole uncut (Settles most ∷ back) journal [] (flat_map (tasks_of s.words) lines) 0 false refl begins in
+    let at = reach s all journal lawful whole (Settles most ∷ back) journal [] (flat_map (tasks_of s.words) lines) 0 false refl begins in
     let end = settle s all journal lawful whole uncut at.more at.rows most back at.k at.c at.journal_is at.stands in
     (at.rows ++ end.deliveries, turns_from s all journal lawful whole uncut turns (at.rows ++ end.deliveries) end.more end.k end.c (quiet_after s all journal lawful whole uncut at.rows end.deliveries end.delivered) end.journal_is end.stands)
 

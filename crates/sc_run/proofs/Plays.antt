@@ -68,6 +68,7 @@ module _ (law : ValidJournalsAreSound) (causes : ValidJournalsRefuseWithCause) (
         settled = λ within. same_cut ∙ budgets.settled two_words scenario journal valid within allowed;
         answered = λ within. budgets.answered two_words scenario journal valid within allowed through;
         uncut = λ calm settled short. budgets.uncut two_words scenario journal valid calm allowed through (sym same_cut ∙ settled) short;
+        last = λ ends short. budgets.last two_words scenario journal valid ends allowed through short;
       }
 
   -- a journal that a driver has filled is a play's
@@ -99,6 +100,7 @@ comes_ended Shows scenario cut quiet skips journal parties text e lines journal_
   said_is = ap said_of e.cut_is;
   settled = λ within. ap said_of (e.settled within);
   answered = λ calm ended. e.uncut calm (ended_uncut cut ended) (let counts = journal_counts mail_weight journal in let within = e.within in omega (arith, counts, within));
+  last = λ ends. e.last ends (let counts = journal_counts mail_weight journal in let within = e.within in omega (arith, counts, within));
 })
 
 -- the text of a run whose journal is full

@@ -19,6 +19,7 @@ use Rattle.sc_command_line.specs.Faults.{IsBadText}
 use Rattle.sc_live_plain.specs.Budget.{IsAtBudget, AreAnswered}
 use Rattle.sc_live_plain.specs.CalmBudget.{calm_budget_of, IsCalm, IsCalmAtBudget}
 use Rattle.sc_live_plain.proofs.Lemmas.{roomy_scenarios_are_calm}
+use Rattle.sc_live_plain.specs.LastLine.{LastLinesAnswer}
 use Rattle.sc_live_plain.specs.Laws.{PlainLinesEndQuiet, PlainRequestsAreAnswered, PlainJournalsAreLight}
 use Rattle.sc_live_answers.specs.AnsweredRequests.{CalmLinesSettle, CalmRequestsAreAnswered, SettledRequestsAreAnswered}
 use Rattle.sc_command_line.specs.Subcommands.{subcommand_by}
@@ -32,8 +33,8 @@ use Rattle.sc_run.specs.Run.{Comes, Ends, PlaysUntilFull, Refuses, SaysFor, Show
 use Rattle.sc_run.specs.Shown.{ShowsScan}
 
 -- the laws of plain and of calm journals, together
-pub suffice : PlainLinesEndQuiet → PlainRequestsAreAnswered → PlainJournalsAreLight → CalmLinesSettle → CalmRequestsAreAnswered → SettledRequestsAreAnswered → BudgetsSuffice
-suffice plain_quiet plain_answered light calm_quiet calm_answered settled_answered = record {
+pub suffice : PlainLinesEndQuiet → PlainRequestsAreAnswered → PlainJournalsAreLight → CalmLinesSettle → CalmRequestsAreAnswered → SettledRequestsAreAnswered → LastLinesAnswer → BudgetsSuffice
+suffice plain_quiet plain_answered light calm_quiet calm_answered settled_answered last_answered = record {
   settled = λ words scenario journal valid within lawful. elim within [
     | inl plain ↦ plain_quiet words scenario journal valid plain lawful
     | inr calm ↦ calm_quiet words scenario journal valid calm lawful
@@ -44,6 +45,7 @@ suffice plain_quiet plain_answered light calm_quiet calm_answered settled_answer
   ];
   light = light;
   uncut = settled_answered;
+  last = last_answered;
 }
 
 -- what was said, and the journal of the text

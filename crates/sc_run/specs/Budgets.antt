@@ -9,6 +9,7 @@ use Rattle.sc_scenario.specs.declared.scenarios.Scenario.{Scenario}
 use Rattle.sc_sound.specs.Players.{system_of, schedule, Lawful, Whole, as_nodes}
 use Rattle.sc_live_plain.specs.Budget.{IsAtBudget, AreAnswered}
 use Rattle.sc_live_plain.specs.CalmBudget.{IsCalmAtBudget}
+use Rattle.sc_live_plain.specs.LastLine.{LastLinesAnswer}
 use Rattle.sc_live_plain.specs.Laws.{PlainJournalsAreLight}
 use Rattle.sc_live_answers.specs.AnsweredRequests.{SettledRequestsAreAnswered}
 
@@ -16,7 +17,7 @@ use Rattle.sc_live_answers.specs.AnsweredRequests.{SettledRequestsAreAnswered}
 abbrev pub IsWithinBudget : Scenario → Type 0
 IsWithinBudget scenario = IsAtBudget scenario ⊎ IsCalmAtBudget scenario
 
--- In each lawful journal of a valid scenario within its budget no line is cut off with mail pending, in each whole one every request of a client whose `go` line is followed by a line of deliveries is answered, and no journal of a plain one passes the limit. In each whole journal of a calm one in which no line was cut off such requests are answered too, whatever its lines allow.
+-- In each lawful journal of a valid scenario within its budget no line is cut off with mail pending, in each whole one every request of a client whose `go` line is followed by a line of deliveries is answered, and no journal of a plain one passes the limit. In each whole journal of a calm one in which no line was cut off such requests are answered too, whatever its lines allow; and in each whole journal of a plain one whose last line is at the budget, whatever lines before it were cut off.
 pub record BudgetsSuffice : Type 0 where
   pub settled : (words : ℕ → ℕ → ℕ × ℕ) (scenario : Scenario) (journal : List (Row Mail OrderLine)) → IsValid scenario → IsWithinBudget scenario → Lawful as_nodes words scenario journal
       → unsettled (system_of as_nodes words scenario) (schedule scenario) journal ≡ false
@@ -24,3 +25,4 @@ pub record BudgetsSuffice : Type 0 where
       → AreAnswered scenario journal
   pub light : PlainJournalsAreLight
   pub uncut : SettledRequestsAreAnswered
+  pub last : LastLinesAnswer

@@ -2,8 +2,8 @@
 ghost use Rattle.sc_run.specs.Budgets.{BudgetsSuffice};
 
 use sc_live_answers::{
-    calm_lines_settle, calm_requests_are_answered, plain_journals_are_answered,
-    settled_requests_are_answered,
+    calm_lines_settle, calm_requests_are_answered, last_lines_answer,
+    plain_journals_are_answered, settled_requests_are_answered,
 };
 use sc_live_plain::{plain_journals_are_light, plain_lines_end_quiet};
 
@@ -11,7 +11,8 @@ use sc_live_plain::{plain_journals_are_light, plain_lines_end_quiet};
 /// is cut off with mail pending; in each whole one every request of a client whose `go` line is
 /// followed by a line of deliveries is answered; and no journal of a plain one counts more than
 /// 2^30 bytes. In each whole journal of a calm one in which no line was cut off such requests are
-/// answered too.
+/// answered too, and in each whole journal of a plain one whose last line alone is at the budget,
+/// whatever lines before it were cut off.
 pub(crate) fn budgets_suffice()
     ensures { BudgetsSuffice }
 {
@@ -21,4 +22,5 @@ pub(crate) fn budgets_suffice()
     calm_lines_settle();
     calm_requests_are_answered();
     settled_requests_are_answered();
+    last_lines_answer();
 }
