@@ -13,7 +13,7 @@ use Rattle.sc_scenario.specs.declared.scenarios.SchedLine.{SchedLine}
 use Rattle.sc_scenario.specs.declared.scenarios.SchedLine.TheVariants.{Go, Told, Settle}
 use Rattle.sc_sound.specs.Definitions.{kept_replies, alone, put_it, get_it, ballot, mail, row, example_rows, put_get_scenario, player_table, node_seat, client_seat, as_nodes, route_of, schedule}
 use Rattle.sc_live_orderly.specs.Definitions.{AreSpaced, Nothing}
-use Rattle.sc_live_plain.specs.Definitions.{calm_budget_of, gives_order, are_parted, IsCalmAtBudget, requests_of, budget_of, delivers, IsAtBudget, IsServed, AreAnswered, mail_owes, player_owes, begun_of}
+use Rattle.sc_live_plain.specs.Definitions.{calm_budget_of, gives_order, are_parted, IsCalmAtBudget, requests_of, budget_of, delivers, IsAtBudget, IsServed, AreAnswered, mail_owes, player_owes, begun_of, EndsAtBudget}
 
 -- two requests and one group
 requests : requests_of put_get_scenario ≡ 2
@@ -25,6 +25,14 @@ budget = refl
 -- its line of 100 deliveries has room for them
 at_budget : IsAtBudget put_get_scenario
 at_budget = (tt, (lit≤ tt, tt))
+
+-- with a line before it that is cut off after three deliveries, the last line alone has room for them
+late : Scenario
+late = record put_get_scenario { lines = Go 1 ∷ Settle 3 ∷ Settle 72 ∷ [] }
+
+ends_at_budget : EndsAtBudget late
+unfolding late
+ends_at_budget = record { before = Go 1 ∷ Settle 3 ∷ []; last = Settle 72; lines_are = refl; plain = (tt, (lit≤ tt, tt)); is_delivery = refl; room = lit≤ tt }
 
 -- with an order before them, three times 48 and 512
 unfoldable pub lines_of : OrderLine → List SchedLine
