@@ -2,8 +2,8 @@
 ghost use Rattle.sc_run.specs.Budgets.{BudgetsSuffice};
 
 use sc_live_answers::{
-    calm_lines_settle, calm_requests_are_answered, last_lines_answer,
-    plain_journals_are_answered, settled_requests_are_answered,
+    calm_lines_settle, calm_requests_are_answered, last_lines_answer, plain_journals_are_answered,
+    settled_requests_are_answered,
 };
 use sc_live_plain::{plain_journals_are_light, plain_lines_end_quiet};
 
