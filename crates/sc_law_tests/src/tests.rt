@@ -23,11 +23,12 @@ use sc_law_refusal::{
     steps_keep_one_call, valid_journals_refuse_with_cause,
 };
 use sc_live_answers::{
-    calm_lines_settle, calm_requests_are_answered, plain_journals_are_answered,
+    calm_lines_settle, calm_requests_are_answered, last_lines_answer, plain_journals_are_answered,
     settled_requests_are_answered,
 };
 use sc_live_plain::{
-    made_scenarios_are_at_budget, plain_journals_are_light, plain_lines_end_quiet,
+    last_lines_end_quiet, made_scenarios_are_at_budget, plain_journals_are_light,
+    plain_lines_end_quiet,
 };
 use sc_paxos_law::{
     a_lawful_history, acceptors_are_lawful, leaders_are_lawful, one_log, one_value_per_slot,
@@ -142,6 +143,8 @@ fn the_laws_of_plain_scenarios_are_called() {
     plain_lines_end_quiet();
     plain_journals_are_answered();
     settled_requests_are_answered();
+    last_lines_end_quiet();
+    last_lines_answer();
     plain_journals_are_light();
     made_scenarios_are_at_budget();
 }

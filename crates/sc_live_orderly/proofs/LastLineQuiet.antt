@@ -1,12 +1,12 @@
 -- A journal of plain lines ends quiet where the last line alone has room for what is owed, whatever lines before it were cut off.
-use Rattle.std.proofs.Common.{◌≡◌, ℕ, zero, suc, ◌+◌, ◌-◌, ◌<◌, ◌≤◌, List, [], ◌∷◌, ◌++◌, Bool, true, false, true≢false, cond, eqb, ◌||◌, not, refl, sym, ◌∙◌, ap, subst, arith, append_assoc, append-nil}
+use Rattle.std.proofs.Common.{◌≡◌, ℕ, zero, suc, ◌+◌, ◌-◌, ◌≤◌, List, [], ◌∷◌, ◌++◌, Bool, true, false, true≢false, eqb, ◌||◌, refl, sym, ◌∙◌, ap, subst, arith, append_assoc, append-nil}
 use Rattle.std.specs.List.{flat_map}
 use Rattle.std.proofs.lemmas.Bool.{ne_eqb}
 use Rattle.sc_base.specs.Definitions.{Each}
 use Rattle.sc_actor.specs.declared.rows.Row.{Row}
 use Rattle.sc_actor.specs.declared.schedules.Line.{Line}
 use Rattle.sc_actor.specs.declared.schedules.Line.TheVariants.{Settle, Free}
-use Rattle.sc_actor.specs.Definitions.{mails, is_delivery, System, Task, Once, Settles, Frees, Storms, Allows, IsLawful, IsWhole, is_over, is_quiet, cuts, skips, rest_of_task, tasks_of}
+use Rattle.sc_actor.specs.Definitions.{mails, is_delivery, System, Task, Settles, Frees, Allows, IsLawful, IsWhole, is_over, is_quiet, cuts, skips, rest_of_task, tasks_of}
 use Rattle.sc_actor.proofs.Lemmas.{lawful-prefix, lawful-last, Stands, Stands-row, Stands-over, Stands-begin, Stands-ended}
 use Rattle.sc_live_orderly.specs.Definitions.{IsPlainLine, deliveries, Owing, owed, owed_at_birth, HasRoom}
 use Rattle.sc_live_orderly.proofs.PassedLines.{IsManyLine}

@@ -17,3 +17,5 @@ pub mod PassedTasks
 pub mod LastLineQuiet
 pub mod StartedActors
 pub mod PlainRowsInTime
+pub mod PendingMail
+pub mod TakenTurns

@@ -1,5 +1,5 @@
 -- Rows of a plain schedule come in time, since none gives an order.
-use Rattle.std.proofs.Common.{◌≡◌, ℕ, List, [], ◌∷◌, ◌++◌, false, refl, sym, ap, subst}
+use Rattle.std.proofs.Common.{◌≡◌, ℕ, List, [], false, refl, sym, ap, subst}
 use Rattle.sc_base.specs.Definitions.{Each}
 use Rattle.sc_actor.specs.declared.rows.Row.{Row}
 use Rattle.sc_actor.specs.declared.rows.Event.{Event}

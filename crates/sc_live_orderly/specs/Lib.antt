@@ -1,4 +1,5 @@
 pub mod OrderedRows
 pub mod Potential
 pub mod OrdersInQuiet
+pub mod Turns
 pub mod Definitions

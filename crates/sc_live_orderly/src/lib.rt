@@ -10,17 +10,20 @@
 //! room for what is owed in quiet journals and what one order raises.
 #![tactic(auto)]
 
+ghost use Rattle.std.specs.List.{flat_map};
 ghost use Rattle.std.specs.Prelude.{◌≡◌, ℕ, ◌+◌, ◌*◌, ◌≤◌, List, [], ◌∷◌, ◌++◌, length, drop, Bool, true, false, Some, slice_get};
 ghost use Rattle.sc_base.specs.Among.{Each};
 ghost use Rattle.sc_actor.specs.declared.actors.Seat.{Seat};
 ghost use Rattle.sc_actor.specs.declared.rows.Row.{Row};
 ghost use Rattle.sc_actor.specs.declared.rows.Event.TheVariants.{Deliver};
 ghost use Rattle.sc_actor.specs.declared.schedules.Line.{Line};
+ghost use Rattle.sc_actor.specs.declared.schedules.Line.TheVariants.{Settle};
 ghost use Rattle.sc_actor.specs.Mail.{mails, numbered};
 ghost use Rattle.sc_actor.specs.System.{system, are_apart};
-ghost use Rattle.sc_actor.specs.Walk.{IsLawful, is_quiet, unsettled};
+ghost use Rattle.sc_actor.specs.Walk.{IsLawful, IsWhole, is_quiet, lowest, unsettled};
 ghost use Rattle.sc_live_orderly.specs.OrderedRows.{IsPlainLine, IsCalmLine, IsOrderly, IsCalmRow, IsTidy, rest, mail_for, is_born, taken, deliveries, goes, orders};
 ghost use Rattle.sc_live_orderly.specs.Potential.{Owing, Lowers, SendsToActors, HasRoom, owed, owed_at_birth};
+ghost use Rattle.sc_live_orderly.specs.Turns.{Turn, HasTurns, TakesLowest, pending_mail, turn_lines};
 ghost use Rattle.sc_live_orderly.specs.OrdersInQuiet.{AreSpaced, Nothing, AreInTime, GiveAllowedOrders, LinesGiveAllowedOrders, orders_given, IsMeasure};
 
 use sc_actor::Actor;
@@ -169,4 +172,27 @@ pub fn orders_begin_in_quiet<A: Actor>()
         let s = system A.table A.Mail.receiver words births in
         Each IsCalmLine lines → LinesGiveAllowedOrders allowed lines → IsLawful s lines journal →
         GiveAllowedOrders allowed journal }
+{}
+
+/// Proves that where a schedule ends with a `settle` line and then turns, each a tick or a start of
+/// an actor with a `settle` line behind it, and no line of a whole lawful journal was cut off, the
+/// journal is made by these turns from a prefix with no mail pending on. In a turn each delivery
+/// takes the first of the pending mail, the lowest number first, and what it sends to actors that
+/// may get mail is pending behind the others. This holds whatever the lines before did.
+pub fn turns_are_taken<A: Actor>()
+    ensures taken { (words : ℕ → ℕ → ℕ × ℕ) (births : List (Seat A)) (lines : List (Line A.Order))
+        (most : ℕ) (turns : List Turn) (journal : List (Row A.Mail A.Order)) →
+        let s = system A.table A.Mail.receiver words births in
+        let schedule = lines ++ Settle most ∷ flat_map turn_lines turns in
+        IsLawful s schedule journal → IsWhole s schedule journal →
+        unsettled s schedule journal ≡ false →
+        (before : List (Row A.Mail A.Order)) × HasTurns s before turns journal }
+    ensures lowest { (words : ℕ → ℕ → ℕ × ℕ) (births : List (Seat A))
+        (rows : List (Row A.Mail A.Order)) (row : Row A.Mail A.Order) →
+        let s = system A.table A.Mail.receiver words births in
+        lowest s rows ≡ Some row → TakesLowest s rows row }
+    ensures quiet { (words : ℕ → ℕ → ℕ × ℕ) (births : List (Seat A))
+        (rows : List (Row A.Mail A.Order)) →
+        let s = system A.table A.Mail.receiver words births in
+        is_quiet s rows ≡ true → pending_mail s rows ≡ [] }
 {}

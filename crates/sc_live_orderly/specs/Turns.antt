@@ -1,13 +1,12 @@
 -- Turns: an actor ticks or starts where no mail is pending, and then all pending mail is delivered, the lowest number first, until none is left.
-use Rattle.std.specs.Prelude.{◌≡◌, ℕ, ◌==◌, List, [], ◌∷◌, ◌++◌, find, filter, true, false, Option, Some, None}
-use Rattle.std.specs.List.{flat_map}
+use Rattle.std.specs.Prelude.{◌≡◌, ℕ, ◌==◌, List, [], ◌∷◌, ◌++◌, find, filter, true, Option, Some, None}
 use Rattle.sc_actor.specs.declared.actors.Seat.{Seat}
 use Rattle.sc_actor.specs.declared.rows.Event.TheVariants.{Deliver}
 use Rattle.sc_actor.specs.declared.rows.Row.{Row}
 use Rattle.sc_actor.specs.declared.schedules.Line.{Line}
 use Rattle.sc_actor.specs.declared.schedules.Line.TheVariants.{Tick as TickLine, Go as GoLine, Settle}
-use Rattle.sc_actor.specs.Definitions.{mails, copies, numbered, may_get, System, numbers_of, row_of, IsLawful, IsWhole, unsettled, is_quiet, line_row, lowest}
-use Rattle.sc_live_orderly.specs.Definitions.{mail_with}
+use Rattle.sc_actor.specs.Definitions.{mails, copies, numbered, may_get, System, numbers_of, row_of, is_quiet, line_row, lowest}
+use Rattle.sc_live_orderly.specs.OrderedRows.{mail_with}
 
 -- What begins a turn: the actor ticks, or it starts.
 pub data Kick : Type 0 where
@@ -57,14 +56,6 @@ abbrev pub HasTurns : {A M O : Type 0} → System A M O → List (Row M O) → L
 HasTurns s before [] after = (is_quiet s before ≡ true) × (before ≡ after)
 HasTurns {A} {M} {O} s before (turn ∷ turns) after = (middle : List (Row M O)) × IsTurn s before turn middle × HasTurns s middle turns after
 
--- Where a schedule ends with a `settle` line and turns, and no line was cut off, its whole journal is made by these turns, from a prefix with no mail pending on.
-pub record TurnsAreTaken : Type 1 where
-  pub taken : {A M O : Type 0} (s : System A M O) (lines : List (Line O)) (most : ℕ) (turns : List Turn) (journal : List (Row M O)) →
-      IsLawful s (lines ++ Settle most ∷ flat_map turn_lines turns) journal
-      → IsWhole s (lines ++ Settle most ∷ flat_map turn_lines turns) journal
-      → unsettled s (lines ++ Settle most ∷ flat_map turn_lines turns) journal ≡ false
-      → (before : List (Row M O)) × HasTurns s before turns journal
-
 -- What a delivery of the pending mail with the lowest number does: its receiver takes the first of the pending mail, and what it sends to actors that may get mail is pending behind the others.
 pub record TakesLowest {A M O : Type 0} (s : System A M O) (rows : List (Row M O)) (row : Row M O) : Type 0 where
   pub mail : M
@@ -76,8 +67,3 @@ pub record TakesLowest {A M O : Type 0} (s : System A M O) (rows : List (Row M O
   pub row_is : row ≡ row_of s.table seat rows (Deliver number)
   pub first : pending_mail s rows ≡ mail ∷ others
   pub then_ : pending_mail s (rows ++ row ∷ []) ≡ others ++ filter (λ m. may_get (numbers_of s.births) rows (s.receiver m)) row.sent
-
--- A delivery of the pending mail with the lowest number takes the first of the pending mail; and no mail is pending exactly where that list is empty.
-pub record LowestIsTaken : Type 1 where
-  pub takes : {A M O : Type 0} (s : System A M O) (rows : List (Row M O)) (row : Row M O) → lowest s rows ≡ Some row → TakesLowest s rows row
-  pub quiet : {A M O : Type 0} (s : System A M O) (rows : List (Row M O)) → is_quiet s rows ≡ true → pending_mail s rows ≡ []

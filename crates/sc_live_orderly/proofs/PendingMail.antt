@@ -7,12 +7,11 @@ use Rattle.sc_base.proofs.Lemmas.{and_then-some, map-some}
 use Rattle.sc_actor.specs.declared.rows.Row.{Row}
 use Rattle.sc_actor.specs.declared.rows.Event.{Event}
 use Rattle.sc_actor.specs.declared.rows.Event.TheVariants.{Deliver}
-use Rattle.sc_actor.specs.Definitions.{mails, copies, counts_at, numbered, may_get, has_crashed, is_crash, System, numbers_of, acts, row_of, waiting, kth, delivery, lowest}
+use Rattle.sc_actor.specs.Definitions.{mails, copies, counts_at, numbered, may_get, has_crashed, is_crash, System, numbers_of, acts, row_of, waiting, kth, is_quiet, delivery, lowest}
 use Rattle.sc_live_orderly.specs.Definitions.{mail_with}
-use Rattle.sc_live_orderly.proofs.Lemmas.{after-row, less_at}
-use Rattle.sc_live_orderly.proofs.RemainingMail.{empty_by}
-use Rattle.sc_live_orderly.proofs.MailCopies.{foremost}
-use Rattle.sc_live_recovery.specs.Turns.{pending_mail, TakesLowest, LowestIsTaken}
+use Rattle.sc_live_orderly.proofs.RemainingMail.{after-row, empty_by}
+use Rattle.sc_live_orderly.proofs.MailCopies.{foremost, less_at}
+use Rattle.sc_live_orderly.specs.Turns.{pending_mail, TakesLowest}
 
 -- tests that agree pass the same mail
 mail_with-agree : {M : Type 0} (p q : M → Bool) → ((m : M) → p m ≡ q m) → (sent : List M) (counts : List ℕ) → mail_with p sent counts ≡ mail_with q sent counts
@@ -57,8 +56,9 @@ module _ {A M O : Type 0} (s : System A M O) (rows : List (Row M O)) where
   one_more : (place : ℕ) → 1 + place ≡ suc place
   one_more place = omega arith
 
-  takes : (row : Row M O) → lowest s rows ≡ Some row → TakesLowest s rows row
-  takes row e =
+  -- what a delivery of the pending mail with the lowest number does
+  pub takes_lowest : (row : Row M O) → lowest s rows ≡ Some row → TakesLowest s rows row
+  takes_lowest row e =
       let q = and_then-some (delivery s rows) (kth (waiting s rows None) 1) row e in
       let f = foremost may 1 (mails rows) (copies rows) q.0 q.1 in
       let r = and_then-some (λ m. acts s rows (s.receiver m) (Deliver q.0)) (numbered (mails rows) q.0) row q.2 in
@@ -80,8 +80,6 @@ module _ {A M O : Type 0} (s : System A M O) (rows : List (Row M O)) where
         then_ = pending_then row q.0 event ∙ ap (λ counts. mail_with may (mails rows) counts ++ filter may row.sent) less;
       }
 
-pub lowest_is_taken : LowestIsTaken
-lowest_is_taken = record {
-  takes = λ s rows row e. takes s rows row e;
-  quiet = λ s rows quiet. empty_by s (may s rows) 1 (mails rows) (copies rows) quiet;
-}
+-- in a journal with no mail pending the list of pending mail is empty
+pub none_pending : {A M O : Type 0} (s : System A M O) (rows : List (Row M O)) → is_quiet s rows ≡ true → pending_mail s rows ≡ []
+none_pending s rows quiet = empty_by s (may s rows) 1 (mails rows) (copies rows) quiet

@@ -5,12 +5,11 @@ use Rattle.std.specs.List.{flat_map}
 use Rattle.sc_actor.specs.declared.rows.Row.{Row}
 use Rattle.sc_actor.specs.declared.schedules.Line.{Line}
 use Rattle.sc_actor.specs.declared.schedules.Line.TheVariants.{Settle}
-use Rattle.sc_actor.specs.Definitions.{System, Task, Once, Settles, Allows, IsLawful, IsWhole, is_over, is_quiet, cuts, skips, place_after, rest_of_task, tasks_of, line_row, lowest, unsettled}
-use Rattle.sc_actor.proofs.Lemmas.{lawful-prefix, lawful-last, Stands, Stands-row, Stands-over, Stands-at, Stands-allows, Stands-begin, Stands-ended}
-use Rattle.sc_live_orderly.proofs.Lemmas.{uncut_before}
-use Rattle.sc_live_orderly.proofs.UncutPrefixes.{onward_cut}
+use Rattle.sc_actor.specs.Definitions.{System, Task, Once, Settles, IsLawful, IsWhole, is_over, is_quiet, place_after, tasks_of, line_row, lowest, unsettled}
+use Rattle.sc_actor.proofs.Lemmas.{lawful-prefix, lawful-last, Stands, Stands-row, Stands-over, Stands-begin, Stands-ended}
+use Rattle.sc_live_orderly.proofs.UncutPrefixes.{onward_cut, uncut_before}
 use Rattle.sc_live_orderly.proofs.PassedTasks.{flat_append, more_rows, next_row, reach}
-use Rattle.sc_live_recovery.specs.Turns.{Kick, Ticks, Starts, Turn, kick_line, turn_lines, AreDelivered, IsTurn, HasTurns, as_list, TurnsAreTaken}
+use Rattle.sc_live_orderly.specs.Turns.{Kick, Ticks, Starts, Turn, kick_line, turn_lines, AreDelivered, IsTurn, HasTurns, as_list}
 
 module _ {A M O : Type 0} (s : System A M O) (all : List (Line O)) (journal : List (Row M O)) (lawful : IsLawful s all journal) (whole : IsWhole s all journal) (uncut : unsettled s all journal ≡ false) where
   -- where no line was cut off, a task of deliveries is over only where no mail is pending
@@ -130,18 +129,16 @@ module _ {A M O : Type 0} (s : System A M O) (all : List (Line O)) (journal : Li
       by Ticks same again = from_line turn turns again rows more k c (kick_line Ticks turn.who) quiet (ap (λ x. kick_line x turn.who) same) e (subst (λ x. Stands s all rows (tasks_of s.words (kick_line {O = O} x turn.who) ++ Settles turn.most ∷ turn_tasks turns) k c) same stands)
       by Starts same again = from_line turn turns again rows more k c (kick_line Starts turn.who) quiet (ap (λ x. kick_line x turn.who) same) e (subst (λ x. Stands s all rows (tasks_of s.words (kick_line {O = O} x turn.who) ++ Settles turn.most ∷ turn_tasks turns) k c) same stands)
 
-taken : {A M O : Type 0} (s : System A M O) (lines : List (Line O)) (most : ℕ) (turns : List Turn) (journal : List (Row M O)) →
+-- the turns of the schedule, from a prefix with no mail pending on
+pub turns_taken : {A M O : Type 0} (s : System A M O) (lines : List (Line O)) (most : ℕ) (turns : List Turn) (journal : List (Row M O)) →
     IsLawful s (lines ++ Settle most ∷ flat_map turn_lines turns) journal
     → IsWhole s (lines ++ Settle most ∷ flat_map turn_lines turns) journal
     → unsettled s (lines ++ Settle most ∷ flat_map turn_lines turns) journal ≡ false
     → (before : List (Row M O)) × HasTurns s before turns journal
-taken s lines most turns journal lawful whole uncut =
+turns_taken s lines most turns journal lawful whole uncut =
     let all = lines ++ Settle most ∷ flat_map turn_lines turns in
     let back = turn_tasks s all journal lawful whole uncut turns in
     let begins = subst (λ tasks. Stands s all [] tasks 0 false) (flat_append (tasks_of s.words) lines (Settle most ∷ flat_map turn_lines turns)) (Stands-begin s all) in
     let at = reach s all journal lawful whole (Settles most ∷ back) journal [] (flat_map (tasks_of s.words) lines) 0 false refl begins in
     let end = settle s all journal lawful whole uncut at.more at.rows most back at.k at.c at.journal_is at.stands in
     (at.rows ++ end.deliveries, turns_from s all journal lawful whole uncut turns (at.rows ++ end.deliveries) end.more end.k end.c (quiet_after s all journal lawful whole uncut at.rows end.deliveries end.delivered) end.journal_is end.stands)
-
-pub turns_are_taken : TurnsAreTaken
-turns_are_taken = record { taken = λ s lines most turns journal lawful whole uncut. taken s lines most turns journal lawful whole uncut }

@@ -1,2 +1,0 @@
-pub mod PendingMail
-pub mod TakenTurns
