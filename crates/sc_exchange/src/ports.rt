@@ -1,5 +1,5 @@
 //! The ports to an exchange.
-ghost use Rattle.std.specs.Prelude.{◌≡◌, ◌≢◌, ℕ, ◌++◌, ◌∷◌, [], ◌<◌, ◌≤◌, ◌^◌, true, false, length, map, IfOk, OnErr, IfErr, OnOk, Contains, is_some};
+ghost use Rattle.std.specs.Prelude.{◌≡◌, ◌≢◌, ℕ, ◌++◌, ◌∷◌, [], ◌<◌, ◌≤◌, ◌^◌, true, false, length, map, IfOk, OnErr, IfErr, OnOk, IsOk, Contains, is_some, None};
 ghost use Rattle.std.specs.List.{list_any};
 ghost use Rattle.sc_turn.specs.Seats.{known, AllJoined};
 ghost use Rattle.sc_turn.specs.Turn.{rows_by, StartsWith, StartsWith as Begins, IsTrueOf};
@@ -96,12 +96,14 @@ impl<M: Parcel + Drop, O: Drop> Port<M, O> {
 
     /// Returns the k-th pending mail of this port's actor, counted from 1, which stays pending. At
     /// the network's port it is the k-th pending mail of all actors. `Err(OutOfMemory)`: no fetched
-    /// mail is kept, and nothing is posted.
+    /// mail is kept, and nothing is posted; it comes only where the mail is pending at this turn.
     pub fn fetch<R: Wait>(&mut self, rt: &R, k: u32) -> Result<Fetched<M>, OutOfMemory>
         requires { 0 < k }
         ensures looked { HasLooked self.old self.new (number_in result) }
         ensures found { IfOk result
             (λ found. IsFetch M.receiver self.old.actors (seen self.new) self.old.who k found) }
+        ensures none { kth_pending M.receiver self.old.actors (seen self.new) self.old.who k ≡ None →
+            IsOk result }
     {
         self.fetched = None;
         let found = fetch_at(rt, self.alloc, &mut self.seat, self.actors, self.who, k);
@@ -233,6 +235,7 @@ impl<M: Parcel + Drop, O: Drop> Port<M, O> {
             waits.items
             ≡ map (λ who. is_some (kth_pending M.receiver self.new.actors (seen self.new) who 1))
             whos.now) }
+        ensures none { whos.now ≡ [] → IsOk result }
     {
         waiting_at(rt, self.alloc, &mut self.seat, self.actors, whos)
     }

@@ -1,5 +1,5 @@
 //! The calls of a port, each of which is done at one turn.
-ghost use Rattle.std.specs.Prelude.{◌≡◌, ◌<◌, ◌≤◌, ◌+◌, ◌^◌, ◌++◌, ◌∷◌, [], true, false, length, map, IfOk, IfErr, OnOk, OnErr, MatchBool, is_some, Some, IsSome};
+ghost use Rattle.std.specs.Prelude.{◌≡◌, ◌<◌, ◌≤◌, ◌+◌, ◌^◌, ◌++◌, ◌∷◌, [], true, false, length, map, IfOk, IfErr, OnOk, OnErr, IsOk, MatchBool, is_some, Some, None, IsSome};
 ghost use Rattle.sc_turn.specs.Seats.{known, OfOneStart};
 ghost use Rattle.sc_turn.specs.Turn.{with_turn, with_row};
 ghost use Rattle.sc_actor.specs.Counted.{row_bytes, journal_bytes};
@@ -136,6 +136,7 @@ pub(crate) fn waiting_at<M: Parcel + Drop, O: Drop, R: Wait>(
         ≡ map
         (λ who. is_some (kth_pending M.receiver actors (rows_from (known seat.new).seen) who 1))
         whos.now) }
+    ensures none { whos.now ≡ [] → IsOk result }
 {
     let exchange = seat.enter(rt);
     let waits = waiting_in(&exchange.ledger, alloc, actors, whos);
@@ -149,11 +150,12 @@ fn waiting_in<M: Parcel + Drop, O: Drop>(
     actors: u32,
     whos: &[u32],
 ) -> Result<Vec<bool>, OutOfMemory>
-    ensures { IfOk result
+    ensures waiting { IfOk result
         (λ waits.
         waits.items
         ≡ map (λ who. is_some (kth_pending M.receiver actors ledger.now.rows.items who 1))
         whos.now) }
+    ensures none { whos.now ≡ [] → IsOk result }
 {
     let mut waits = Vec::new(alloc);
     for who in whos {
@@ -184,7 +186,7 @@ fn found_in<M: Parcel + Drop, O: Drop>(
 }
 
 /// Returns the k-th pending mail at this turn, with its number, or how many rows there are where
-/// fewer mails are pending.
+/// fewer mails are pending, which takes no memory.
 pub(crate) fn fetch_at<M: Parcel + Drop, O: Drop, R: Wait>(
     rt: &R,
     alloc: Global,
@@ -198,6 +200,8 @@ pub(crate) fn fetch_at<M: Parcel + Drop, O: Drop, R: Wait>(
     ensures looked { SeatLooked seat.old seat.new }
     ensures found { IfOk result
         (λ found. IsFetch M.receiver actors (rows_from (known seat.new).seen) who k found) }
+    ensures none { kth_pending M.receiver actors (rows_from (known seat.new).seen) who k ≡ None →
+        IsOk result }
 {
     let exchange = seat.enter(rt);
     let Some(number) = exchange.ledger.kth(actors, who, k) else {

@@ -1,5 +1,5 @@
 //! The action that a line or a step of a storm allows next.
-ghost use Rattle.std.specs.Prelude.{◌≡◌, true, IfOk, IfSome};
+ghost use Rattle.std.specs.Prelude.{◌≡◌, true, ℕ, IfOk, IfSome, IsOk};
 ghost use Rattle.sc_actor.specs.System.{numbers_of};
 ghost use Rattle.sc_replay.specs.Actions.{line_action, lowest_action, may_come_again, when, can_act, storm_action};
 ghost use Rattle.sc_replay.specs.Stages.{IsUpToDate};
@@ -43,7 +43,8 @@ fn go<A, M: Parcel, O: Drop>(stage: &Stage<A, M, O>, who: u32) -> Option<Action<
     when_may(may, who, Event::Go)
 }
 
-/// Returns the action of a line of one row, or `None` where the line is skipped.
+/// Returns the action of a line of one row, or `None` where the line is skipped. Does not fail on a
+/// line that gives no order.
 pub(crate) fn line_action<A, M: Parcel, O: Dup + Drop>(
     alloc: Global,
     stage: &Stage<A, M, O>,
@@ -57,6 +58,7 @@ pub(crate) fn line_action<A, M: Parcel, O: Dup + Drop>(
     ensures can { IfOk result
         (λ found. IfSome found
         (λ action. can_act (numbers_of stage.now.seats.items) action ≡ true)) }
+    ensures none { ((who : ℕ) (order : O) → line.now ≡ Line.Told who order → ⊥) → IsOk result }
 {
     Ok(match line {
         Line::Go { who } => go(stage, *who),

@@ -1,8 +1,9 @@
 //! Appending of a row to a stage, with all that is kept beside the rows.
-ghost use Rattle.std.specs.Prelude.{◌≡◌, ℕ, ◌<◌, ◌≤◌, ◌+◌, ◌^◌, ◌++◌, ◌∷◌, [], ◌||◌, ◌&&◌, ◌==◌, nat_lt, length, replicate, OnOk};
+ghost use Rattle.std.specs.Prelude.{◌≡◌, ℕ, ◌<◌, ◌≤◌, ◌+◌, ◌^◌, ◌++◌, ◌∷◌, [], ◌||◌, ◌&&◌, ◌==◌, nat_lt, true, false, length, replicate, Contains, OnOk, IsOk};
 ghost use Rattle.std.specs.List.{list_any, prefix_len};
 ghost use Rattle.sc_actor.specs.Mail.{mails, numbered, is_crash};
 ghost use Rattle.sc_actor.specs.System.{numbers_of, is_go};
+ghost use Rattle.sc_replay.specs.Actions.{holds_of};
 ghost use Rattle.sc_replay.specs.Opens.{opens, opened, reopened, runs, without, with_copy, without_to};
 ghost use Rattle.sc_replay.specs.Stages.{IsUpToDate};
 
@@ -59,10 +60,13 @@ fn repeat<A, M: Parcel>(
     pending: &mut Vec<OpenCopy>,
     mail: u32,
 ) -> Result<(), OutOfMemory>
-    ensures { OnOk result
+    ensures pending { OnOk result
         (pending.new.items
         ≡ reopened M.receiver (runs (numbers_of seats.now) crashed.now) pending.old.items mail
         (numbered mails.now mail)) }
+    ensures none { holds_of (λ m. runs (numbers_of seats.now) crashed.now (M.receiver m))
+        (numbered mails.now mail)
+        ≡ false → IsOk result }
 {
     if mail == 0 || mail as usize > mails.len() {
         return Ok(());
@@ -83,10 +87,14 @@ fn note_event<A, M: Parcel, O>(
     who: u32,
     event: &Event<O>,
 ) -> Result<(), OutOfMemory>
-    ensures { OnOk result
+    ensures pending { OnOk result
         (pending.new.items
         ≡ opened M.receiver (runs (numbers_of seats.now) crashed.now) mails.now pending.old.items who
         event.now) }
+    ensures none { ((mail : ℕ) → event.now ≡ Event.Again mail →
+        holds_of (λ m. runs (numbers_of seats.now) crashed.now (M.receiver m))
+        (numbered mails.now mail)
+        ≡ false) → IsOk result }
 {
     match event {
         Event::Deliver(mail) | Event::Drop(mail) => close_one(pending, *mail),
@@ -99,9 +107,10 @@ fn note_event<A, M: Parcel, O>(
 
 // Adds the actor of a Go to those that have gone.
 fn note_go<O>(gone: &mut Vec<u32>, who: u32, event: &Event<O>) -> Result<(), OutOfMemory>
-    ensures { OnOk result
+    ensures gone { OnOk result
         ((number : ℕ) → list_any (λ n. n == number) gone.new.items
         ≡ (list_any (λ n. n == number) gone.old.items || (who == number && is_go event.now))) }
+    ensures none { is_go event.now ≡ false → IsOk result }
 {
     if is_go(event) {
         gone.push(who)?;
@@ -111,9 +120,10 @@ fn note_go<O>(gone: &mut Vec<u32>, who: u32, event: &Event<O>) -> Result<(), Out
 
 // Adds the actor of a Crash to the crashed ones.
 fn note_crash<O>(crashed: &mut Vec<u32>, who: u32, event: &Event<O>) -> Result<(), OutOfMemory>
-    ensures { OnOk result
+    ensures crashed { OnOk result
         ((number : ℕ) → list_any (λ n. n == number) crashed.new.items
         ≡ (list_any (λ n. n == number) crashed.old.items || (who == number && is_crash event.now))) }
+    ensures none { is_crash event.now ≡ false → IsOk result }
 {
     if is_crash(event) {
         crashed.push(who)?;
@@ -131,11 +141,13 @@ fn add_open<A, M: Parcel>(
     sent: &[M],
 ) -> Result<(), OutOfMemory>
     requires few { first + length sent.now < 2 ^ 32 }
-    ensures { OnOk result
+    ensures pending { OnOk result
         (pending.new.items
         ≡ pending.old.items
         ++ opens M.receiver (runs (numbers_of seats.now) crashed.now) first sent.now
         (replicate (length sent.now) 1)) }
+    ensures none { ((mail : M) → runs (numbers_of seats.now) crashed.now (M.receiver mail) ≡ true →
+        Contains sent.now mail → ⊥) → IsOk result }
 {
     for i in 0..sent.len() {
         let to = sent[i].to();
@@ -153,7 +165,8 @@ pub(crate) fn add_mails<M: Dup + Drop>(
     mails: &mut Vec<M>,
     sent: &[M],
 ) -> Result<(), OutOfMemory>
-    ensures { OnOk result (mails.new.items ≡ mails.old.items ++ sent.now) }
+    ensures mails { OnOk result (mails.new.items ≡ mails.old.items ++ sent.now) }
+    ensures none { sent.now ≡ [] → IsOk result }
 {
     for mail in sent {
         mails.push(mail.dup(alloc)?)?;

@@ -1,11 +1,11 @@
 //! The check of given rows against a schedule, line by line.
-ghost use Rattle.std.specs.Prelude.{◌≡◌, ◌<◌, ◌≤◌, ◌+◌, ◌^◌, ◌-◌, [], ◌∷◌, true, length, IfOk, IfSome, OnOk, MatchBool};
+ghost use Rattle.std.specs.Prelude.{◌≡◌, ◌<◌, ◌≤◌, ◌+◌, ◌^◌, ◌-◌, ◌%◌, [], ◌∷◌, true, ℕ, length, None, IfOk, IfSome, OnOk, IsOk, MatchBool};
 ghost use Rattle.sc_actor.specs.Mail.{mails};
 ghost use Rattle.sc_actor.specs.System.{numbers_of};
 ghost use Rattle.sc_actor.specs.Walk.{Once, Storms, storm_steps, tasks_of};
 ghost use Rattle.sc_chance.specs.Words.{two_words};
 ghost use Rattle.sc_replay.specs.Checks.{IsTaking, DidWithRow, Misses, IsChecked};
-ghost use Rattle.sc_replay.specs.Actions.{can_act, chosen_action};
+ghost use Rattle.sc_replay.specs.Actions.{can_act, chosen_action, line_action, storm_action};
 ghost use Rattle.sc_replay.specs.Moves.{rules_of, many};
 ghost use Rattle.sc_replay.specs.Stages.{IsUpToDate};
 
@@ -65,6 +65,11 @@ where
         IsChecked (rules_of A.table A.Mail.receiver) stage.old (Once line.now ∷ []) stage.new
         rows.now checked) }
     ensures skipped { OnOk result (stage.new.skipped ≤ stage.old.skipped + 1) }
+    ensures none { ((who : ℕ) (order : A.Order) → line.now ≡ Line.Told who order → ⊥) →
+        line_action A.Mail.receiver (numbers_of stage.old.seats.items) stage.old.rows line.now ≡ None →
+        IsOk result }
+    ensures ended { ((who : ℕ) (order : A.Order) → line.now ≡ Line.Told who order → ⊥) →
+        length stage.old.rows ≡ length rows.now → IsOk result }
 {
     let Some(action) = line_action(alloc, stage, line)? else {
         stage.skipped += 1;
@@ -155,6 +160,10 @@ where
         IsChecked (rules_of A.table A.Mail.receiver) stage.old (Storms words ∷ []) stage.new
         rows.now checked) }
     ensures skipped { OnOk result (stage.new.skipped ≡ stage.old.skipped) }
+    ensures none { storm_action A.Mail.receiver (numbers_of stage.old.seats.items) stage.old.rows
+        (words.0 % 16) words.1
+        ≡ None → IsOk result }
+    ensures ended { length stage.old.rows ≡ length rows.now → IsOk result }
 {
     let Some(action) = storm_action(stage, words.0 % 16, words.1) else {
         return Ok(Checked::On);

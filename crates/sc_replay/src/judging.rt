@@ -1,5 +1,5 @@
 //! The replay of a whole journal: what it leaves, or its first row that is not lawful.
-ghost use Rattle.std.specs.Prelude.{◌≡◌, ◌<◌, ◌^◌, ◌↔◌, [], None, true, false, length, IfOk, IsTrue, is_none};
+ghost use Rattle.std.specs.Prelude.{◌≡◌, ◌<◌, ◌^◌, ◌↔◌, [], None, true, false, length, IfOk, IsOk, IsTrue, is_none};
 ghost use Rattle.sc_actor.specs.Mail.{mails, pending};
 ghost use Rattle.sc_actor.specs.System.{are_apart, system, numbers_of, kth};
 ghost use Rattle.sc_actor.specs.Walk.{IsLawful};
@@ -99,10 +99,11 @@ where
     requires apart { are_apart seats.items ≡ true }
     requires few_rows { length rows.now < 2 ^ 31 }
     requires few_mails { length (mails rows.now) < 2 ^ 31 }
-    ensures { IfOk result
+    ensures replayed { IfOk result
         (λ verdict.
         IsReplayed (system A.table A.Mail.receiver two_words seats.items) lines.now rows.now
         verdict) }
+    ensures none { lines.now ≡ [] → IsOk result }
 {
     let mut stage = begun(alloc, seats);
     for line in lines {
@@ -148,10 +149,11 @@ where
     requires apart { are_apart seats.items ≡ true }
     requires few_rows { length rows.now < 2 ^ 31 }
     requires few_mails { length (mails rows.now) < 2 ^ 31 }
-    ensures { IfOk result
+    ensures lawful { IfOk result
         (λ lawful.
         IsTrue lawful ↔ IsLawful (system A.table A.Mail.receiver two_words seats.items) lines.now
         rows.now) }
+    ensures none { lines.now ≡ [] → IsOk result }
 {
     let verdict = replay(alloc, seats, lines, rows)?;
     Ok(says_lawful(&verdict))

@@ -1,5 +1,5 @@
 //! Plain functions that read a journal from its start.
-ghost use Rattle.std.specs.Prelude.{◌≡◌, ◌<◌, ◌-◌, ◌^◌, ◌++◌, All, replicate, length, IfOk, OnOk, if◌then◌else◌};
+ghost use Rattle.std.specs.Prelude.{◌≡◌, ◌<◌, ◌-◌, ◌^◌, ◌++◌, [], All, replicate, length, IfOk, IsOk, OnOk, if◌then◌else◌};
 ghost use Rattle.sc_actor.specs.Mail.{mails, copies, counts_at, has_crashed, may_get, is_for, pending};
 ghost use Rattle.sc_actor.specs.System.{numbers_of};
 
@@ -33,7 +33,8 @@ fn count<O>(copies: &mut Vec<u32>, event: &Event<O>)
 
 // Appends a count of one copy for each of `n` mails that are sent.
 fn add_copies(copies: &mut Vec<u32>, n: usize) -> Result<(), OutOfMemory>
-    ensures { OnOk result (copies.new.items ≡ copies.old.items ++ replicate n 1) }
+    ensures copies { OnOk result (copies.new.items ≡ copies.old.items ++ replicate n 1) }
+    ensures none { n ≡ 0 → IsOk result }
 {
     for i in 0..n {
         let _ = i;
@@ -94,7 +95,8 @@ fn open_copies<A, M: Parcel, O>(
 // Returns for each mail, in order of number, how many copies are under way.
 fn copies_of<M, O>(alloc: Global, rows: &[Row<M, O>]) -> Result<Vec<u32>, OutOfMemory>
     requires { length rows.now < 2 ^ 31 }
-    ensures { IfOk result (λ counts. counts.items ≡ copies rows.now) }
+    ensures counts { IfOk result (λ counts. counts.items ≡ copies rows.now) }
+    ensures none { rows.now ≡ [] → IsOk result }
 {
     let mut counts = Vec::new(alloc);
     for row in rows {
@@ -106,7 +108,8 @@ fn copies_of<M, O>(alloc: Global, rows: &[Row<M, O>]) -> Result<Vec<u32>, OutOfM
 
 // Returns all mail that was sent, in order.
 fn mails_of<M: Dup + Drop, O>(alloc: Global, rows: &[Row<M, O>]) -> Result<Vec<M>, OutOfMemory>
-    ensures { IfOk result (λ sent. sent.items ≡ mails rows.now) }
+    ensures mails { IfOk result (λ sent. sent.items ≡ mails rows.now) }
+    ensures none { rows.now ≡ [] → IsOk result }
 {
     let mut sent = Vec::new(alloc);
     for row in rows {
@@ -117,7 +120,8 @@ fn mails_of<M: Dup + Drop, O>(alloc: Global, rows: &[Row<M, O>]) -> Result<Vec<M
 
 // Appends a number `times` times.
 fn add_number(found: &mut Sequence<u32>, number: u32, times: u32) -> Result<(), OutOfMemory>
-    ensures { OnOk result (found.new ≡ found.old ++ replicate times number) }
+    ensures found { OnOk result (found.new ≡ found.old ++ replicate times number) }
+    ensures none { times ≡ 0 → IsOk result }
 {
     for i in 0..times {
         let _ = i;
@@ -138,8 +142,9 @@ pub fn pending_of<A, M: Parcel + Drop, O>(
 ) -> Result<Sequence<u32>, OutOfMemory>
     requires few_rows { length rows.now < 2 ^ 31 }
     requires few_mails { length (mails rows.now) < 2 ^ 31 }
-    ensures { IfOk result
+    ensures found { IfOk result
         (λ found. found ≡ pending M.receiver (numbers_of seats.now) rows.now whose) }
+    ensures none { rows.now ≡ [] → IsOk result }
 {
     let sent = mails_of(alloc, rows)?;
     let counts = copies_of(alloc, rows)?;

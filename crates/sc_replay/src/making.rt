@@ -1,5 +1,5 @@
 //! The step of an action: what it makes of its actor, and its row.
-ghost use Rattle.std.specs.Prelude.{◌≡◌, ◌<◌, length, IfSome, IfOk, OnOk, true};
+ghost use Rattle.std.specs.Prelude.{◌≡◌, ◌<◌, ◌⊎◌, length, None, IfSome, IfOk, OnOk, IsOk, true};
 ghost use Rattle.sc_actor.specs.Replay.{acted, input_of};
 ghost use Rattle.sc_actor.specs.System.{numbers_of};
 ghost use Rattle.sc_replay.specs.Actions.{is_of_network, can_act};
@@ -29,7 +29,9 @@ fn input_of<M: Dup, O: Dup>(
     mails: &[M],
     event: &Event<O>,
 ) -> Result<Option<Input<M, O>>, OutOfMemory>
-    ensures { IfOk result (λ input. input ≡ input_of mails.now event.now) }
+    ensures input { IfOk result (λ input. input ≡ input_of mails.now event.now) }
+    ensures none { (input_of mails.now event.now ≡ None) ⊎ (event.now ≡ Event.Tick)
+        ⊎ (event.now ≡ Event.Go) → IsOk result }
 {
     match event {
         Event::Deliver(mail) => {
@@ -55,8 +57,9 @@ fn respond<A: Actor>(
     mails: &[A::Mail],
     event: &Event<A::Order>,
 ) -> Result<Sequence<A::Mail>, OutOfMemory>
-    ensures { IfOk result
+    ensures acted { IfOk result
         (λ sent. acted A.table actor.old (input_of mails.now event.now) ≡ (actor.new, sent)) }
+    ensures none { input_of mails.now event.now ≡ None → IsOk result }
 {
     match input_of(alloc, mails, event)? {
         None => Ok(Sequence::new(alloc)),
@@ -74,7 +77,8 @@ fn is_of_network<O>(event: &Event<O>) -> bool
     }
 }
 
-/// Does an action: lets its actor step, and returns its row.
+/// Does an action: lets its actor step, and returns its row. Does not fail on an event that gives
+/// the actor no input.
 pub(crate) fn make_row<A: Actor>(
     alloc: Global,
     seats: &mut Vec<Seat<A>>,
@@ -85,6 +89,7 @@ pub(crate) fn make_row<A: Actor>(
     ensures makes { IfOk result
         (λ row. Makes A.table mails.now seats.old.items seats.new.items action row) }
     ensures numbers { OnOk result (numbers_of seats.new.items ≡ numbers_of seats.old.items) }
+    ensures none { input_of mails.now action.event ≡ None → IsOk result }
 {
     let Action { who, event } = action;
     if is_of_network(&event) {

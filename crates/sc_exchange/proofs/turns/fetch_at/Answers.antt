@@ -1,5 +1,6 @@
-use Rattle.std.proofs.Common.{rules, ◌≡◌, ap, ◌∙◌, sym, subst}
+use Rattle.std.proofs.Common.{rules, ◌≡◌, ap, ◌∙◌, sym, subst, None, Some}
 use Rattle.sc_turn.specs.Definitions.{known}
+use Rattle.sc_ledger.specs.Definitions.{kth_pending}
 use Rattle.sc_exchange.specs.Definitions.{rows_from, IsFetch}
 use Rattle.sc_exchange.proofs.Results.{ok_maps}
 use Rattle.sc_exchange.proofs.Views.{seen_same}
@@ -25,3 +26,12 @@ pub returns-in_default-clause-found : goal.returns-in_default-clause-found
 returns-in_default-clause-found g c =
     let rows : rows_from (known c.keep_same.new.seat).seen ≡ c.enter-exchange.result.ledger.value.rows.items = seen_same (known c.args.seat.now) (known c.enter-exchange.new.self) (known c.keep_same.new.seat) c.enter-exchange.result.ledger.value.rows.items c.enter-exchange.ensures.view c.keep_same.ensures.view in
     search rules
+
+-- the mail was pending: the number is that of the mail
+pub returns-clause-none : goal.returns-clause-none
+returns-clause-none g c = λ none.
+    let receiver = g.M.Parcel.receiver in
+    let rows : rows_from (known c.keep_same-2.new.seat).seen ≡ c.enter-exchange.result.ledger.value.rows.items = seen_same (known c.args.seat.now) (known c.enter-exchange.new.self) (known c.keep_same-2.new.seat) c.enter-exchange.result.ledger.value.rows.items c.enter-exchange.ensures.view c.keep_same-2.ensures.view in
+    let found : c.kth.result ≡ None = c.kth.ensures.kth ∙ ap (λ ledger. kth_pending receiver c.args.actors ledger.rows.items c.args.who c.args.k) c.deref.ensures ∙ ap (λ l. kth_pending receiver c.args.actors l c.args.who c.args.k) (sym rows) ∙ none in
+    let some : c.kth.result ≡ Some c.in-Some.number = c.in-Some.is in
+    let bad : ⊥ = cc in absurd bad

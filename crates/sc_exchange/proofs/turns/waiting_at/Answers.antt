@@ -11,7 +11,7 @@ returns-clause-waiting g c =
     ok_maps c.waiting_in-waits.result
     (λ waits p. subst (λ l. waits.items ≡ map (λ who. is_some (kth_pending g.M.Parcel.receiver c.args.actors l who 1)) c.args.whos.now)
     (ap (λ ledger. ledger.rows.items) c.deref.ensures ∙ sym (seen_same (known c.args.seat.now) (known c.enter-exchange.new.self) (known c.keep_same.new.seat) c.enter-exchange.result.ledger.value.rows.items c.enter-exchange.ensures.view c.keep_same.ensures.view)) p)
-    c.waiting_in-waits.ensures
+    c.waiting_in-waits.ensures.waiting
 
 pub returns-clause-looked : goal.returns-clause-looked
 returns-clause-looked g c = let e = c.enter-exchange.ensures in

@@ -18,8 +18,8 @@ loop-line-init g c =
       omega (arith, c.begun-stage.ensures.skipped),
     )
 
-pub returns-in-Ended : goal.returns-in-Ended
-returns-in-Ended g c =
+pub returns-in-Ended-clause-replayed : goal.returns-in-Ended-clause-replayed
+returns-in-Ended-clause-replayed g c =
     let r = rules_of g.A.Actor.table g.A.Mail.Parcel.receiver in
     let ended : IsChecked r c.loop-line.stage (tasks_of two_words c.line-item.result) c.check_line.new.stage c.args.rows.now Ended = subst (IsChecked r c.loop-line.stage (tasks_of two_words c.line-item.result) c.check_line.new.stage c.args.rows.now) c.in-Ended.is c.in_ok-check_line.ensures.is in
     let has = judged_ends r two_words c.args.seats.items c.args.lines.now c.loop-line.stage c.args.rows.now c.check_line.new.stage c.loop-line.line-index c.line-item.result c.loop-line-test.true c.line-item.is c.loop-line.invariant.0 ended.0 in
@@ -32,8 +32,8 @@ overflow_add-result g c =
     (subst (IsChecked r c.loop-line.stage (tasks_of two_words c.line-item.result) c.check_line.new.stage c.args.rows.now) c.in-Wrong.is c.in_ok-check_line.ensures.is) in
     omega (arith, c.len.ensures, bad.within, c.requires.few_rows)
 
-pub returns-in-Wrong : goal.returns-in-Wrong
-returns-in-Wrong g c =
+pub returns-in-Wrong-clause-replayed : goal.returns-in-Wrong-clause-replayed
+returns-in-Wrong-clause-replayed g c =
     let r = rules_of g.A.Actor.table g.A.Mail.Parcel.receiver in
     let bad = judged_breaks r two_words c.args.seats.items c.args.lines.now c.loop-line.stage c.args.rows.now c.check_line.new.stage c.loop-line.line-index c.line-item.result c.loop-line-test.true c.line-item.is c.loop-line.invariant.0
     (subst (IsChecked r c.loop-line.stage (tasks_of two_words c.line-item.result) c.check_line.new.stage c.args.rows.now) c.in-Wrong.is c.in_ok-check_line.ensures.is) in
@@ -48,8 +48,8 @@ loop-line-preserved g c =
       omega (arith, c.in_ok-check_line.ensures.skipped, c.loop-line.invariant.2),
     )
 
-pub returns-then-len-rows : goal.returns-then-len-rows
-returns-then-len-rows g c =
+pub returns-then-len-rows-clause-replayed : goal.returns-then-len-rows-clause-replayed
+returns-then-len-rows-clause-replayed g c =
     let r = rules_of g.A.Actor.table g.A.Mail.Parcel.receiver in
     let bad = late r two_words c.args.seats.items c.args.lines.now c.loop-line.stage c.args.rows.now
     (omega (arith, c.len-2.ensures, c.if-len-rows.true))
@@ -57,8 +57,8 @@ returns-then-len-rows g c =
     c.loop-line.invariant.1.follows in
     subst (λ n. IsBadRow (with_births r two_words c.args.seats.items) c.args.lines.now c.args.rows.now (n + 1)) (sym c.len-then-len-rows.ensures) bad
 
-pub returns : goal.returns
-returns g c =
+pub returns-clause-replayed : goal.returns-clause-replayed
+returns-clause-replayed g c =
     let r = rules_of g.A.Actor.table g.A.Mail.Parcel.receiver in
     let has = judged_all r two_words c.args.seats.items c.args.lines.now c.loop-line.stage c.args.rows.now (omega (arith, c.len-2.ensures, c.if-len-rows.false))
     (IsStageAt-end r two_words c.args.seats.items c.args.lines.now c.loop-line.stage c.loop-line.line-index (omega (arith, c.loop-line-test.false)) c.loop-line.invariant.0)

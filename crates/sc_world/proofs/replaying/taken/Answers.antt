@@ -25,4 +25,4 @@ returns c =
     (λ verdict h.
     subst (λ (seats : List (Seat Player)). IsReplayed (system player_table receiver_of two_words seats) (schedule c.args.scenario.now) c.args.rows.now verdict) c.in_ok-seats.ensures
     (subst (λ (lines : List (Line OrderLine)). IsReplayed (system player_table receiver_of two_words c.in_ok-seats.seats.items) lines c.args.rows.now verdict) (c.as_slice.ensures.value ∙ c.in_ok-lines.ensures) h))
-    c.replay.ensures
+    c.replay.ensures.replayed
