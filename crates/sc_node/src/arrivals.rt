@@ -76,7 +76,7 @@ impl NodeCore {
         ensures known { is_some (replica_of child.now.core.id self.old.replicas) ≡ true →
             IsOk result }
     {
-        if has_replica(self, child.core.id) {
+        if has_replica(self.replicas(), child.core.id) {
             return Ok(());
         }
         let replica = Replica::born(alloc, self.me, child.dup(alloc)?)?;

@@ -56,7 +56,7 @@ impl NodeCore {
     ) -> Result<Sequence<Mail>, OutOfMemory>
         ensures { IfOk result (λ sent. on_order line.now self.old ≡ (self.new, sent)) }
     {
-        match replica_place(self, group_of_order(&line.order)) {
+        match replica_place(self.replicas(), group_of_order(&line.order)) {
             None => tell_unknown(alloc, self.me, line.number),
             Some(i) => self.take_order_at(alloc, i, line),
         }
