@@ -11,7 +11,6 @@ ghost use Rattle.sc_node.specs.Idle.{IsPassedByOne, IsMailPassedBy, IsInputPasse
 
 use crate::absent::{group_in, may_come};
 use crate::arrivals::is_before;
-use crate::places::replica_place;
 use crate::rows::take_mail;
 use crate::ticks::on_tick;
 use sc_actor::{Actor, Input};
@@ -182,7 +181,7 @@ impl NodeCore {
         ensures none { IsPassedByOne (replica_of group self.old.replicas) self.old.me from body.now →
             IsOk result }
     {
-        match replica_place(self.replicas(), group) {
+        match self.replica_place(group) {
             None => self.take_unknown(alloc, from, body),
             Some(i) => self.take_at(alloc, i, group, from, body),
         }
