@@ -1,5 +1,5 @@
 -- Where a group's replica stands.
-use Rattle.std.proofs.Common.{◌≡◌, ℕ, ◌+◌, ◌<◌, ◌≤◌, Bool, true, false, List, [], ◌∷◌, length, drop, get_or, zero, suc, Option, Some, None, is_some, refl, sym, ap, ◌∙◌, arith, if◌then◌else◌}
+use Rattle.std.proofs.Common.{◌≡◌, ℕ, ◌+◌, ◌≤◌, Bool, true, false, List, [], ◌∷◌, zero, suc, Option, Some, None, is_some, refl, sym, ap, ◌∙◌, arith, if◌then◌else◌}
 use Rattle.sc_base.specs.declared.names.Draw.{Draw}
 use Rattle.sc_base.specs.Same.{same_draw}
 use Rattle.sc_node_table.specs.Replica.{ReplicaState, name_of}
@@ -62,23 +62,3 @@ known_by group [] (Some n) e = absurd (cc)
 known_by group [] None e = refl
 known_by group (r ∷ rs) (Some n) e = sym (ap is_some ((stands-at group (r ∷ rs) n (sym e)).found r))
 known_by group (r ∷ rs) None e = sym (ap is_some (stands-nowhere group (r ∷ rs) 0 (sym e)))
-
--- the replica at a place is the group's
-pub found-here : (at i : ℕ) (group : Draw) (rs : List ReplicaState) → i < length rs → ((d : ReplicaState) → true ≡ same_draw (name_of (get_or rs i d)) group)
-    → place_from at group (drop i rs) ≡ Some at
-found-here at i group [] less is = absurd (omega arith)
-found-here at zero group (r ∷ rs) less is = ap (λ b. if b then Some at else place_from (at + 1) group rs) (sym (is r))
-found-here at (suc i) group (r ∷ rs) less is = found-here at i group rs (omega arith) is
-
-passed-suc : (at i : ℕ) (group : Draw) (rs : List ReplicaState) → i < length rs → ((d : ReplicaState) → false ≡ same_draw (name_of (get_or rs i d)) group)
-    → place_from at group (drop i rs) ≡ place_from (at + 1) group (drop (suc i) rs)
-passed-suc at i group [] less is = absurd (omega arith)
-passed-suc at zero group (r ∷ rs) less is = ap (λ b. if b then Some at else place_from (at + 1) group rs) (sym (is r))
-passed-suc at (suc i) group (r ∷ rs) less is = passed-suc at i group rs (omega arith) is
-
--- the first replica is another group's
-pub passed-by : (i : ℕ) (group : Draw) (rs : List ReplicaState) → i < length rs → ((d : ReplicaState) → false ≡ same_draw (name_of (get_or rs i d)) group)
-    → place_from i group (drop i rs) ≡ place_from (i + 1) group (drop (i + 1) rs)
-passed-by i group rs less is =
-    let n : suc i ≡ i + 1 = omega arith in
-    passed-suc i i group rs less is ∙ ap (λ m. place_from (i + 1) group (drop m rs)) n

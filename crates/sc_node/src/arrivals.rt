@@ -9,7 +9,6 @@ ghost use Rattle.sc_node_table.specs.Node.{is_before, replica_of, with_new, with
 
 use crate::absent::absent;
 use crate::node::NodeCore;
-use crate::places::has_replica;
 use sc_base::{Draw, Dup, OutOfMemory, Sequence};
 use sc_cmd::{Base, MemberSets};
 use sc_mail::{Mail, MailBody};
@@ -76,7 +75,7 @@ impl NodeCore {
         ensures known { is_some (replica_of child.now.core.id self.old.replicas) ≡ true →
             IsOk result }
     {
-        if has_replica(self, child.core.id) {
+        if self.has_replica(child.core.id) {
             return Ok(());
         }
         let replica = Replica::born(alloc, self.me, child.dup(alloc)?)?;

@@ -1,18 +1,18 @@
 //! The node.
-ghost use Rattle.std.specs.Prelude.{◌≡◌, [], true, false, None, IfOk, OnOk, IsOk};
+ghost use Rattle.std.specs.Prelude.{◌≡◌, ◌<◌, [], length, true, false, None, IfOk, OnOk, IsOk};
 ghost use Rattle.std.specs.List.{list_all};
 ghost use Rattle.sc_cmd.specs.declared.cores.Base.{Base};
 ghost use Rattle.sc_node_table.specs.Slots.{slots_ahead};
-ghost use Rattle.sc_node_table.specs.Replica.{name_of};
+ghost use Rattle.sc_node_table.specs.Replica.{ReplicaState, name_of};
 ghost use Rattle.sc_node_table.specs.Node.{is_before, are_in_order, born_replicas, born_node, replica_of, taken_by, routed, on_mail, with_children, on_tick, node_table, may_come};
 ghost use Rattle.sc_node.specs.Places.{StandsAt};
+ghost use Rattle.sc_node.specs.Ticking.{ticked_at};
 ghost use Rattle.sc_node.specs.Idle.{IsPassedByOne, IsMailPassedBy, IsInputPassedBy};
 
 use crate::absent::{group_in, may_come};
 use crate::arrivals::is_before;
-use crate::places::replica_place;
 use crate::rows::take_mail;
-use crate::ticking::tick_each;
+use crate::ticks::on_tick;
 use sc_actor::{Actor, Input};
 use sc_base::{Draw, Draws, Dup, OutOfMemory, Sequence};
 use sc_cmd::{Base, OrderLine};
@@ -181,7 +181,7 @@ impl NodeCore {
         ensures none { IsPassedByOne (replica_of group self.old.replicas) self.old.me from body.now →
             IsOk result }
     {
-        match replica_place(self, group) {
+        match self.replica_place(group) {
             None => self.take_unknown(alloc, from, body),
             Some(i) => self.take_at(alloc, i, group, from, body),
         }
@@ -239,13 +239,28 @@ impl NodeCore {
         Ok(sent)
     }
 
-    /// Lets each replica tick, in the order of their groups' names.
+    /// Lets the replica at a place tick by its row, with the names that are left. Mails are appended
+    /// to those that are there. After `Err(OutOfMemory)` the node may only be dropped.
+    fn tick_at(&mut self, i: usize, sent: &mut Sequence<Mail>) -> Result<(), OutOfMemory>
+        requires { i < length self.old.replicas }
+        ensures { OnOk result
+            ((d : ReplicaState) → (self.new, sent.new) ≡ ticked_at i d (self.old, sent.old)) }
+    {
+        on_tick(&mut self.replicas[i], self.policy, &mut self.draws, sent)?;
+        Ok(())
+    }
+
+    /// Lets each replica tick, in the order of their groups' names, with the names that those
+    /// before it left, and returns what is sent. After `Err(OutOfMemory)` the node may only be
+    /// dropped.
     fn on_tick(&mut self, alloc: Global) -> Result<Sequence<Mail>, OutOfMemory>
         ensures row { IfOk result (λ sent. on_tick self.old ≡ (self.new, sent)) }
         ensures none { self.old.replicas ≡ [] → IsOk result }
     {
         let mut sent = Sequence::new(alloc);
-        tick_each(self, &mut sent)?;
+        for i in 0..self.replicas().len() {
+            self.tick_at(i, &mut sent)?;
+        }
         Ok(sent)
     }
 }

@@ -9,7 +9,6 @@ ghost use Rattle.sc_node.specs.Places.{StandsAt};
 use crate::absent::alone;
 use crate::node::NodeCore;
 use crate::orders::on_order;
-use crate::places::replica_place;
 use sc_base::{Draw, OutOfMemory, Sequence};
 use sc_cmd::{Order, OrderLine, OrderRefusal, ToldResult};
 use sc_mail::{DESK, Mail, MailBody};
@@ -56,7 +55,7 @@ impl NodeCore {
     ) -> Result<Sequence<Mail>, OutOfMemory>
         ensures { IfOk result (λ sent. on_order line.now self.old ≡ (self.new, sent)) }
     {
-        match replica_place(self, group_of_order(&line.order)) {
+        match self.replica_place(group_of_order(&line.order)) {
             None => tell_unknown(alloc, self.me, line.number),
             Some(i) => self.take_order_at(alloc, i, line),
         }

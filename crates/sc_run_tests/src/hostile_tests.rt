@@ -6,14 +6,18 @@ use crate::gates::Open;
 use crate::replay_tests::scenario_of;
 use crate::run_tests::{Case, FIRST, FIRST_REPORT, check, check_all};
 use crate::thread_tests::add;
-use sc_actor::Played;
-use sc_run::{Left, play_whole};
+use sc_actor::{Journal, Played};
+use sc_cmd::OrderLine;
+use sc_mail::Mail;
+use sc_run::{Left, play_whole, tells_full};
 use sc_workers::Way;
 use std::alloc::Global;
 use std::mem::forget;
 use std::process::Abort;
 use std::sync::Wait;
 use std::thread::Threads;
+
+const FULL_AFTER_TWO: &[u8] = b"journal full after 2 rows\n";
 
 // Returns the first lines of a text, as many as `count` says.
 fn first_lines(text: &[u8], count: u64) -> &[u8] {
@@ -129,6 +133,16 @@ fn a_source_that_fails_after_bytes_were_taken_leaves_no_journal(rt: HostRuntime)
     );
 }
 
+// Plays the put and the get within a limit, and returns what is left.
+fn left_within<R: Abort + Threads + Wait + Sync>(rt: &R, alloc: Global, limit: u64) -> Left
+    requires { limit ≤ 2 ^ 30 }
+{
+    let scenario = scenario_of(rt, alloc, FIRST);
+    let left = play_whole(rt, alloc, Way::Runs, &scenario, limit, &Open).expect(rt, "memory");
+    forget(scenario);
+    left
+}
+
 // Returns how a play of the put and the get within a limit ends, and the number of rows it leaves.
 fn played_within<R: Abort + Threads + Wait + Sync>(
     rt: &R,
@@ -137,15 +151,12 @@ fn played_within<R: Abort + Threads + Wait + Sync>(
 ) -> (Played, usize)
     requires { limit ≤ 2 ^ 30 }
 {
-    let scenario = scenario_of(rt, alloc, FIRST);
-    let left = play_whole(rt, alloc, Way::Runs, &scenario, limit, &Open).expect(rt, "memory");
     let Left {
         played,
         journal,
         parties,
-    } = left;
+    } = left_within(rt, alloc, limit);
     let rows = journal.len();
-    forget(scenario);
     forget(journal);
     forget(parties);
     (played, rows)
@@ -165,4 +176,25 @@ fn a_journal_ends_where_the_next_row_would_pass_its_limit(rt: HostRuntime) {
     let none = played_within(&rt, rt.alloc(), 321);
     assert!(rt; whole == (WHOLE, 9));
     assert!(rt; eight == (Played::Full, 8) && none == (Played::Full, 0));
+}
+
+// Returns whether the text about a journal is the line that it is full after two rows.
+fn is_full_after_two(rt: &impl Abort, alloc: Global, journal: Journal<Mail, OrderLine>) -> bool {
+    let text = tells_full(alloc, journal).expect(rt, "memory");
+    match text.lines.as_slice() {
+        [line] => line.bytes() == FULL_AFTER_TWO,
+        _ => false,
+    }
+}
+
+#[test]
+fn full_after_two(rt: HostRuntime) {
+    let Left {
+        played,
+        journal,
+        parties,
+    } = left_within(&rt, rt.alloc(), 700);
+    forget(parties);
+    assert!(rt; played == Played::Full && journal.len() == 2);
+    assert!(rt; is_full_after_two(&rt, rt.alloc(), journal));
 }

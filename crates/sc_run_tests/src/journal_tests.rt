@@ -1,7 +1,7 @@
 //! Journals that are stored, audited and explained: worked files, of which another program printed
 //! the first, and what its rows decided.
 
-use crate::run_tests::{Case, Expected, FIRST, FIRST_REPORT, check, check_all};
+use crate::run_tests::{Case, Expected, FIRST, FIRST_REPORT, USAGE, check, check_all};
 use crate::thread_tests::add;
 use std::alloc::Global;
 use std::mem::forget;
@@ -88,9 +88,6 @@ const NO_SCENARIO: Damage = (b"scatter 1", b"scatter 3");
 // A scenario whose last line has no line feed.
 const LINE_WITHOUT_FEED: &[u8] =
     b"scatter 1\nnodes 1\ngroup 0 1\nclient 1\nput a x\nget a\nend\ngo 1\nsettle 100";
-
-const USAGE: &[u8] = b"usage: scatter run | scatter make N S | scatter journal | scatter audit \
-        | scatter scan LO LEN R MOST | scatter pool | scatter explain\n";
 
 // What is printed, and that it is lawful.
 const STORED_ONES: &[Case] = &[
@@ -188,115 +185,4 @@ fn has_journals_stored_and_audited(rt: HostRuntime) {
     check_damaged(&rt, rt.alloc(), STORED);
     check_all(&rt, rt.alloc(), NO_JOURNALS);
     check_all(&rt, rt.alloc(), FAULTS);
-}
-
-// Files without rows, and files that are none, with their first bad line.
-const FILES: &[Case] = &[
-    (
-        ("audit", b"scatter 1\nnodes 1\ngroup 0 1\njournal\n", 0, 0),
-        (0, true, b"lawful rows 0\n"),
-    ),
-    (
-        ("audit", b"scatter 1\nnodes 1\ngroup 0 1\n\njournal\n", 0, 0),
-        (0, true, b"lawful rows 0\n"),
-    ),
-    (
-        (
-            "audit",
-            b"scatter 1\nnodes 1\ngroup 0 1\n\n\n# x\njournal\n",
-            0,
-            0,
-        ),
-        (0, true, b"lawful rows 0\n"),
-    ),
-    // no line `journal` that a line feed ends
-    (
-        ("audit", b"", 0, 0),
-        (3, false, b"line 1: missing journal\n"),
-    ),
-    (
-        ("explain", FIRST, 0, 0),
-        (3, false, b"line 10: missing journal\n"),
-    ),
-    (
-        ("audit", b"\n", 0, 0),
-        (3, false, b"line 2: missing journal\n"),
-    ),
-    (
-        ("audit", b"journal", 0, 0),
-        (3, false, b"line 2: missing journal\n"),
-    ),
-    (
-        ("audit", b"scatter 1\nnodes 1\ngroup 0 1\njournal", 0, 0),
-        (3, false, b"line 5: missing journal\n"),
-    ),
-    (
-        ("audit", b"scatter 1\nnodes 1\ngroup 0 1\njournals\n", 0, 0),
-        (3, false, b"line 5: missing journal\n"),
-    ),
-    (
-        ("audit", b"scatter 1\nnodes 1\ngroup 0 1\n journal\n", 0, 0),
-        (3, false, b"line 5: missing journal\n"),
-    ),
-    (
-        ("audit", b"scatter 1\nnodes 1\ngroup 0 1\njournal\r\n", 0, 0),
-        (3, false, b"line 5: missing journal\n"),
-    ),
-    (
-        ("audit", b"a\nb\nc\nd\ne\nf\ng\nh\ni\n", 0, 0),
-        (3, false, b"line 10: missing journal\n"),
-    ),
-    (
-        ("audit", b"a\nb\nc\nd\ne\nf\ng\nh\ni\nj", 0, 0),
-        (3, false, b"line 11: missing journal\n"),
-    ),
-    // the text before the line `journal` is no scenario
-    (
-        ("audit", b"journal\n", 0, 0),
-        (3, false, b"line 1: missing header\n"),
-    ),
-    (
-        ("audit", b"\njournal\n", 0, 0),
-        (3, false, b"line 1: missing header\n"),
-    ),
-    (
-        ("audit", b"scatter 1\nnodes 1\njournal\n", 0, 0),
-        (3, false, b"line 3: missing part\n"),
-    ),
-    (
-        ("audit", b"scatter 1\nnodes 1\n\njournal\n", 0, 0),
-        (3, false, b"line 4: missing part\n"),
-    ),
-    (
-        (
-            "audit",
-            b"scatter 1\nnodes 1\ngroup 0 1\nclient 1\nget a\njournal\n",
-            0,
-            0,
-        ),
-        (3, false, b"line 6: unended client\n"),
-    ),
-    (
-        ("audit", b"scatter 1\nfoo\njournal\nx", 0, 0),
-        (3, false, b"line 2: unknown word\n"),
-    ),
-    // a line behind the line `journal` is the text of no row
-    (
-        ("audit", b"scatter 1\nnodes 1\ngroup 0 1\njournal\nx", 0, 0),
-        (3, false, b"line 5: bad row\n"),
-    ),
-    (
-        (
-            "audit",
-            b"scatter 1\nnodes 1\ngroup 0 1\njournal\njournal",
-            0,
-            0,
-        ),
-        (3, false, b"line 5: bad row\n"),
-    ),
-];
-
-#[test]
-fn files_are_read_or_name_their_first_bad_line(rt: HostRuntime) {
-    check_all(&rt, rt.alloc(), FILES);
 }

@@ -5,10 +5,6 @@
 #[cfg(test)]
 mod gates;
 #[cfg(test)]
-mod hand_tests;
-#[cfg(test)]
-mod history_tests;
-#[cfg(test)]
 mod hostile_tests;
 #[cfg(test)]
 mod journal_tests;
@@ -17,8 +13,6 @@ mod ordinary_tests;
 #[cfg(test)]
 mod replay_tests;
 #[cfg(test)]
-mod row_tests;
-#[cfg(test)]
 mod run_tests;
 #[cfg(test)]
 mod scan_tests;
@@ -26,8 +20,6 @@ mod scan_tests;
 mod storm_tests;
 #[cfg(test)]
 mod thread_tests;
-#[cfg(test)]
-mod tick_tests;
 #[cfg(test)]
 mod told_tests;
 #[cfg(test)]

@@ -6,6 +6,7 @@ ghost use Rattle.sc_sound.specs.Players.{as_nodes};
 ghost use Rattle.sc_sound.specs.Soundness.{IsSoundThroughout};
 
 use crate::gates::Open;
+use crate::run_tests::{ACCEPT_THRICE, CUT_SHORT, CUT_SHORT_REPORT, FIRST, TWO_LEADERS};
 use crate::storm_tests::{has_cover, has_legal};
 use crate::told_tests::{Told, has_groups};
 use sc_actor::{Event, Journal, Played, Row, are_few};
@@ -23,38 +24,6 @@ use std::mem::{self, forget};
 use std::process::Abort;
 use std::sync::Wait;
 use std::thread::Threads;
-
-const PUT_GET: &[u8] =
-    b"scatter 1\nnodes 1\ngroup 0 1\nclient 1\nput a x\nget a\nend\ngo 1\nsettle 100\n";
-
-const PUT_GET_REPORT: &[u8] =
-    b"scatter report 1\nreply 1 1 put none\nreply 1 2 get value x\nring 0 group 0.1 members 1\n\
-        rows 9\nmail 8\ndelivered 8\nskipped 0\nquiet yes\n";
-
-const CRASHED: &[u8] =
-    b"scatter 1\nnodes 3\ngroup 0 1 2 3\nclient 1\nput a x\nend\ncrash 2\ncrash 3\ngo 1\n\
-        settle 100\n";
-
-const REPEATED: &[u8] =
-    b"scatter 1\nnodes 1\ngroup 0 1\nclient 1\nput a x\nend\ngo 1\ndeliver n1 1\nagain 2\n\
-        again 2\nsettle 100\n";
-
-const ELECTION: &[u8] =
-    b"scatter 1\nnodes 3\ngroup 0 1 2 3\nclient 1\nput a x\nend\ngo 1\ndeliver n1 1\ntick n2\n\
-        deliver n3 2\ndeliver n2 2\nsettle 100\n";
-
-const SKIPPED: &[u8] = b"scatter 1\nnodes 1\ngroup 0 1\ndeliver n1 3\n";
-
-const SKIPPED_REPORT: &[u8] =
-    b"scatter report 1\nring 0 group 0.1 members 1\nrows 0\nmail 0\ndelivered 0\nskipped 1\n\
-        quiet yes\n";
-
-const CUT_SHORT: &[u8] =
-    b"scatter 1\nnodes 1\ngroup 0 1\nclient 1\nput a x\nget a\nend\ngo 1\nsettle 1\n";
-
-const CUT_SHORT_REPORT: &[u8] =
-    b"scatter report 1\nunanswered 1 1 put\nunsent 1 2 get\nring 0 group 0.1 members 1\nrows 2\n\
-        mail 2\ndelivered 1\nskipped 0\nquiet no\n";
 
 // What is changed of one row.
 #[derive(Clone, Copy)]
@@ -196,20 +165,16 @@ fn named_of<R: Abort + Threads + Wait + Sync>(rt: &R, alloc: Global, case: Case)
 }
 
 const CASES: &[Case] = &[
-    (PUT_GET, Change::Nothing, 0, 0),
-    (CRASHED, Change::Nothing, 0, 0),
-    (REPEATED, Change::Nothing, 0, 0),
-    (ELECTION, Change::Nothing, 0, 0),
-    (SKIPPED, Change::Nothing, 0, 0),
-    (CUT_SHORT, Change::Nothing, 0, 0),
-    (PUT_GET, Change::Receiver, 4, 4),
-    (PUT_GET, Change::Silence, 2, 2),
-    (PUT_GET, Change::Sender, 3, 3),
-    (PUT_GET, Change::Event, 5, 5),
-    (PUT_GET, Change::Twice, 0, 10),
-    (REPEATED, Change::Sender, 3, 3),
-    (ELECTION, Change::Event, 20, 20),
-    (ELECTION, Change::Sender, 35, 35),
+    (FIRST, Change::Nothing, 0, 0),
+    (TWO_LEADERS, Change::Nothing, 0, 0),
+    (FIRST, Change::Receiver, 4, 4),
+    (FIRST, Change::Silence, 2, 2),
+    (FIRST, Change::Sender, 3, 3),
+    (FIRST, Change::Event, 5, 5),
+    (FIRST, Change::Twice, 0, 10),
+    (ACCEPT_THRICE, Change::Sender, 3, 3),
+    (TWO_LEADERS, Change::Event, 20, 20),
+    (TWO_LEADERS, Change::Sender, 35, 35),
 ];
 
 #[test]
@@ -288,17 +253,9 @@ fn reports<R: Abort + Threads + Wait + Sync>(
     is_so
 }
 
-const REPORTS: &[(&[u8], &[u8])] = &[
-    (PUT_GET, PUT_GET_REPORT),
-    (SKIPPED, SKIPPED_REPORT),
-    (CUT_SHORT, CUT_SHORT_REPORT),
-];
-
 #[test]
 fn a_replay_tells_the_report_of_its_rows(rt: HostRuntime) {
-    for (input, report) in REPORTS {
-        assert!(rt; reports(&rt, rt.alloc(), *input, *report));
-    }
+    assert!(rt; reports(&rt, rt.alloc(), CUT_SHORT, CUT_SHORT_REPORT));
 }
 
 // Returns the operation of the request of client 1 with this number, from 1.
@@ -476,19 +433,12 @@ fn log_of(node: u16, numbers: &[u32]) -> Question<'_> {
 
 #[test]
 fn a_put_and_a_get_are_decided_in_order(rt: HostRuntime) {
-    let first = tells(&rt, rt.alloc(), PUT_GET, log_of(0, &[1, 2]));
-    let other = tells(&rt, rt.alloc(), PUT_GET, log_of(1, &[]));
-    assert!(rt; first && other);
-}
-
-#[test]
-fn a_put_finds_nothing_and_a_get_finds_what_was_put(rt: HostRuntime) {
-    assert!(rt; tells(&rt, rt.alloc(), PUT_GET, Question::History(&[1, 2])));
+    let log = tells(&rt, rt.alloc(), FIRST, log_of(0, &[1, 2]));
+    let history = tells(&rt, rt.alloc(), FIRST, Question::History(&[1, 2]));
+    assert!(rt; log && history);
 }
 
 #[test]
 fn a_replay_leaves_each_node_and_client_where_its_rows_do(rt: HostRuntime) {
-    let whole = tells(&rt, rt.alloc(), PUT_GET, Question::Left([1, 1, 0]));
-    let cut = tells(&rt, rt.alloc(), CUT_SHORT, Question::Left([1, 1, 1]));
-    assert!(rt; whole && cut);
+    assert!(rt; tells(&rt, rt.alloc(), CUT_SHORT, Question::Left([1, 1, 1])));
 }

@@ -30,7 +30,8 @@ pub const FIRST_REPORT: &[u8] =
     b"scatter report 1\nreply 1 1 put none\nreply 1 2 get value x\nring 0 group 0.1 members 1\n\
         rows 9\nmail 8\ndelivered 8\nskipped 0\nquiet yes\n";
 
-const USAGE: &[u8] = b"usage: scatter run | scatter make N S | scatter journal | scatter audit \
+/// The text about arguments outside the grammar.
+pub const USAGE: &[u8] = b"usage: scatter run | scatter make N S | scatter journal | scatter audit \
         | scatter scan LO LEN R MOST | scatter pool | scatter explain\n";
 
 /// A run that is cut off with mail pending.
@@ -41,7 +42,8 @@ pub const CUT_SHORT: &[u8] =
 const FREE_ONCE: &[u8] =
     b"scatter 1\nnodes 1\ngroup 0 1\nclient 1\nput a x\nget a\nend\ngo 1\nfree 1 4\n";
 
-const CUT_SHORT_REPORT: &[u8] =
+/// The report on the run that is cut off.
+pub const CUT_SHORT_REPORT: &[u8] =
     b"scatter report 1\nunanswered 1 1 put\nunsent 1 2 get\nring 0 group 0.1 members 1\nrows 2\n\
         mail 2\ndelivered 1\nskipped 0\nquiet no\n";
 
@@ -316,7 +318,8 @@ const MAJORITY_CRASHED_REPORT: &[u8] =
     b"scatter report 1\nunanswered 1 1 put\nring 0 group 0.1 members 1 2 3\nrows 6\nmail 5\n\
         delivered 3\nskipped 0\nquiet yes\n";
 
-const ACCEPT_THRICE: &[u8] =
+/// The mail that asks a node to accept a put comes three times.
+pub const ACCEPT_THRICE: &[u8] =
     b"scatter 1\nnodes 1\ngroup 0 1\nclient 1\nput a x\nend\ngo 1\ndeliver n1 1\nagain 2\n\
         again 2\nsettle 100\n";
 
@@ -324,7 +327,8 @@ const ACCEPT_THRICE_REPORT: &[u8] =
     b"scatter report 1\nreply 1 1 put none\nring 0 group 0.1 members 1\nrows 11\nmail 6\n\
         delivered 8\nskipped 0\nquiet yes\n";
 
-const TWO_LEADERS: &[u8] =
+/// A second node is elected while the first still sends.
+pub const TWO_LEADERS: &[u8] =
     b"scatter 1\nnodes 3\ngroup 0 1 2 3\nclient 1\nput a x\nend\ngo 1\ndeliver n1 1\ntick n2\n\
         deliver n3 2\ndeliver n2 2\nsettle 100\n";
 

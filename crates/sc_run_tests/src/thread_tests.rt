@@ -14,56 +14,6 @@ use std::thread::Threads;
 /// A text around a line of deliveries, and how the report begins with any number of workers.
 pub type Case = (&'static [u8], &'static [u8], &'static [u8]);
 
-const PUT_REPLY: &[u8] = b"scatter report 1\nreply 1 1 put none\nring ";
-
-const ONE_NODE: &[u8] = b"scatter 1\nnodes 1\ngroup 0 1\nclient 1\nput a x\nget a\nend\ngo 1\n";
-
-const ONE_NODE_REPLIES: &[u8] =
-    b"scatter report 1\nreply 1 1 put none\nreply 1 2 get value x\nring ";
-
-const THREE_NODES: &[u8] =
-    b"scatter 1\nnodes 3\ngroup 0 1 2 3\nclient 1\nput a x\nend\nclient 2\nput b y\nget b\nend\n\
-        go 1\ngo 2\n";
-
-const THREE_NODES_REPLIES: &[u8] =
-    b"scatter report 1\nreply 1 1 put none\nreply 2 1 put none\nreply 2 2 get value y\nring ";
-
-const FIVE_NODES: &[u8] =
-    b"scatter 1\nnodes 5\ngroup 0 1 2 3 4 5\nclient 1\nput a x\ndel a\nget a\nend\nclient 2\n\
-        put b y\nput b z\nend\ngo 1\ngo 2\n";
-
-const FIVE_NODES_REPLIES: &[u8] =
-    b"scatter report 1\nreply 1 1 put none\nreply 1 2 del value x\nreply 1 3 get none\n\
-        reply 2 1 put none\nreply 2 2 put value y\nring ";
-
-const ONE_CRASHED: &[u8] =
-    b"scatter 1\nnodes 3\ngroup 0 1 2 3\nclient 1\nput a x\nend\nclient 2\nget b\nend\ncrash 3\n\
-        go 1\ngo 2\n";
-
-const ONE_CRASHED_REPLIES: &[u8] =
-    b"scatter report 1\nreply 1 1 put none\nreply 2 1 get none\nring ";
-
-const TWO_LINES: &[u8] =
-    b"scatter 1\nnodes 2\ngroup 0 1 2\nclient 1\nput a x\nend\nclient 2\nget a\nend\ngo 1\n";
-
-const TWO_LINES_REPLIES: &[u8] =
-    b"scatter report 1\nreply 1 1 put none\nreply 2 1 get value x\nring ";
-
-const JOINED: &[u8] =
-    b"scatter 1\nnodes 2\ngroup 0 1\nclient 1\nput a x\nend\norder 1 join 2 0.1\nsettle 100\n\
-        go 1\n";
-
-const JOINED_REPLIES: &[u8] = b"scatter report 1\nreply 1 1 put none\norder 1 done\nring ";
-
-const REPEATED: &[u8] =
-    b"scatter 1\nnodes 1\ngroup 0 1\nclient 1\nput a x\nend\ngo 1\ndeliver n1 1\nagain 2\n";
-
-const LOST: &[u8] =
-    b"scatter 1\nnodes 3\ngroup 0 1 2 3\nclient 1\nput a x\nend\ngo 1\ndeliver n1 1\ndrop n2 1\n";
-
-const ELECTED: &[u8] =
-    b"scatter 1\nnodes 3\ngroup 0 1 2 3\nclient 1\nput a x\nend\ntick n2\nsettle 100\ngo 1\n";
-
 const EIGHT_CLIENTS: &[u8] =
     b"scatter 1\nnodes 3\ngroup 0 1 2 3\nclient 1\nput a x\nget a\nend\nclient 2\nput b x\n\
         get b\nend\nclient 3\nput c x\nget c\nend\nclient 4\nput d x\nget d\nend\nclient 5\n\
@@ -135,15 +85,6 @@ pub fn check_same<R: Abort + Threads + Wait + Sync>(rt: &R, alloc: Global, cases
 }
 
 const CASES: &[Case] = &[
-    (ONE_NODE, b"", ONE_NODE_REPLIES),
-    (THREE_NODES, b"", THREE_NODES_REPLIES),
-    (FIVE_NODES, b"", FIVE_NODES_REPLIES),
-    (ONE_CRASHED, b"", ONE_CRASHED_REPLIES),
-    (TWO_LINES, b"go 2\nsettle 100\n", TWO_LINES_REPLIES),
-    (JOINED, b"", JOINED_REPLIES),
-    (REPEATED, b"", PUT_REPLY),
-    (LOST, b"", PUT_REPLY),
-    (ELECTED, b"", PUT_REPLY),
     (EIGHT_CLIENTS, b"", EIGHT_REPLIES),
     (FOUR_GROUPS, b"", FOUR_REPLIES),
 ];

@@ -199,17 +199,8 @@ fn with_a_policy_leaders_split_and_merge_their_groups(rt: HostRuntime) {
     check_rows(&rt, rt.alloc(), POLICY_ROWS);
 }
 
-// Two groups, a client of each, and orders of which one may refuse the other; then a line of
+// Two groups merge and a boundary moves while a client of each of three groups asks, in a line of
 // deliveries by several workers.
-const BOTH_BUSY: &[u8] =
-    b"scatter 1\nnodes 4\ngroup 0 1 2\ngroup 2147483648 3 4\nclient 1\nput a v\nget a\nend\n\
-        client 2\nput m v\nget m\nend\ngo 1\ngo 2\norder 1 split 0.1 1677721600\n\
-        order 3 merge 0.2\n";
-
-const BOTH_REPLIES: &[u8] =
-    b"scatter report 1\nreply 1 1 put none\nreply 1 2 get value v\nreply 2 1 put none\n\
-        reply 2 2 get value v\norder 1 ";
-
 const MERGED_WHILE_ASKED: &[u8] =
     b"scatter 1\nnodes 3\ngroup 0 1\ngroup 1073741824 2\ngroup 1744830464 3\nclient 1\nput a v\n\
         get a\nend\nclient 2\nput m v\nget m\nend\nclient 3\nput ! v\nget !\nend\ngo 1\ngo 2\n\
@@ -222,12 +213,9 @@ const MERGED_REPLIES: &[u8] =
 // What is still asked is asked again.
 const ASKED_AGAIN: &[u8] = b"tick c1\ntick c2\nsettle 1000\n";
 
-const BUSY: &[Case] = &[
-    (BOTH_BUSY, ASKED_AGAIN, BOTH_REPLIES),
-    (MERGED_WHILE_ASKED, ASKED_AGAIN, MERGED_REPLIES),
-];
+const BUSY: &[Case] = &[(MERGED_WHILE_ASKED, ASKED_AGAIN, MERGED_REPLIES)];
 
 #[test]
-fn replies_stand_while_groups_split_and_merge_under_several_workers(rt: HostRuntime) {
+fn replies_stand_while_groups_merge_under_several_workers(rt: HostRuntime) {
     check_same(&rt, rt.alloc(), BUSY);
 }

@@ -13,13 +13,9 @@ mod node_tests;
 #[cfg(test)]
 mod outside_tests;
 #[cfg(test)]
-mod parties;
-#[cfg(test)]
 mod plan_tests;
 #[cfg(test)]
 mod replica_tests;
-#[cfg(test)]
-mod run_tests;
 #[cfg(test)]
 mod samples;
 #[cfg(test)]

@@ -4,5 +4,4 @@ use Rattle.sc_node.proofs.places.first_at.Given as goal
 
 -- it is not among those so far
 abbrev pub invariant-loop-i : goal.invariant-loop-i
-invariant-loop-i g l =
-    place_from l.i l.group (drop l.i (g.H.Holder.node l.holder).replicas) ≡ place_from 0 l.group (g.H.Holder.node l.holder).replicas
+invariant-loop-i l = place_from l.i l.group (drop l.i l.replicas) ≡ place_from 0 l.group l.replicas

@@ -1,9 +1,13 @@
 //! Journals of ticks, and the first row of them that is not lawful.
-use crate::replay_tests::named;
-use sc_actor::{Event, Journal, Row};
+ghost use Rattle.sc_scenario.specs.Valid.{IsValid};
+
+use crate::scenarios::scenario_of;
+use sc_actor::{Event, Journal, Row, are_few};
 use sc_base::Sequence;
 use sc_cmd::OrderLine;
 use sc_mail::Mail;
+use sc_scenario::Scenario;
+use sc_world::{ReplayFault, replay_rows};
 use std::alloc::Global;
 use std::mem::forget;
 use std::process::Abort;
@@ -24,11 +28,33 @@ fn rows_of(rt: &impl Abort, alloc: Global, actors: &[u32]) -> Journal<Mail, Orde
     rows
 }
 
+// Returns the row of a journal that a replay names, or 0 where the rows are lawful.
+fn bad_row(
+    rt: &impl Abort,
+    alloc: Global,
+    scenario: &Scenario,
+    journal: &Journal<Mail, OrderLine>,
+) -> u32
+    requires { IsValid scenario.now }
+{
+    assert!(rt; are_few(journal.as_slice()));
+    match replay_rows(alloc, scenario, journal) {
+        Ok(world) => {
+            forget(world);
+            0
+        }
+        Err(ReplayFault::BadRow { at }) => at,
+        Err(ReplayFault::OutOfMemory) => panic!(rt; "memory"),
+    }
+}
+
 // Returns the row that a replay of these ticks names, or 0 where they are lawful.
 fn named_of(rt: &impl Abort, alloc: Global, actors: &[u32]) -> u32 {
+    let scenario = scenario_of(rt, alloc, TICK);
     let rows = rows_of(rt, alloc, actors);
-    let at = named(rt, alloc, TICK, &rows);
+    let at = bad_row(rt, alloc, &scenario, &rows);
     forget(rows);
+    forget(scenario);
     at
 }
 

@@ -4,7 +4,7 @@ ghost use Rattle.std.specs.Prelude.{◌≡◌};
 ghost use Rattle.sc_actor.specs.Mail.{mails};
 ghost use Rattle.sc_scenario.specs.Valid.{IsValid};
 
-use crate::replay_tests::scenario_of;
+use crate::scenarios::scenario_of;
 use sc_actor::{Event, Input, Row, are_few};
 use sc_base::{Dup, MOST_REQUESTS};
 use sc_by_hand::{Hand, SCENARIO, act};

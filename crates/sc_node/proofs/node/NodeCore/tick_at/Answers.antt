@@ -2,7 +2,7 @@ use Rattle.std.proofs.Common.{◌<◌, length, sym, subst, ◌∙◌, ap, arith}
 use Rattle.sc_node_table.specs.Node.{NodeState}
 use Rattle.sc_node.specs.Ticking.{ticked_at}
 use Rattle.sc_node.proofs.Standing.{ticked-there}
-use Rattle.sc_node.proofs.holding.NodeCoreHolder.tick_at.Goals as goal
+use Rattle.sc_node.proofs.node.NodeCore.tick_at.Goals as goal
 
 pub index_mut-requires : goal.index_mut-requires
 index_mut-requires c =
