@@ -18,15 +18,15 @@ pub enum Hold {
 /// What a `record` line says of a group: its record by its own log.
 #[derive(Clone, Copy)]
 pub struct GroupRecord {
-    /// The arc of the group on the circle.
+    /// Its arc of the circle.
     pub arc: RingArc,
-    /// The group that took this one over, if one did.
+    /// The group that took it over, if one did.
     pub gone: Option<Draw>,
-    /// How the lock binds the group.
+    /// How its lock binds it.
     pub lock: Hold,
-    /// The members of the group.
+    /// Its members.
     pub members: Members,
-    /// The name of the group.
+    /// Its name.
     pub name: Draw,
     /// The group before it on the circle.
     pub pred: Draw,
@@ -37,11 +37,11 @@ pub struct GroupRecord {
 /// What a `group` line says of a group of the ring: its effective record, in short.
 #[derive(Clone, Copy)]
 pub struct RingGroup {
-    /// The arc of the group on the circle.
+    /// Its arc of the circle.
     pub arc: RingArc,
-    /// The name of the group.
+    /// Its name.
     pub name: Draw,
-    /// The number of pairs of the group.
+    /// The number of its pairs.
     pub pairs: u64,
     /// The group before it on the circle.
     pub pred: Draw,
