@@ -20,7 +20,7 @@ SendsWaiting client mails = (mails ≡ []) ⊎ ((group : Draw) × (target : ℕ)
 abbrev pub IsReplyTo : ℕ → Reply → Input Mail OrderLine → Type 0
 IsReplyTo seq reply input = (mail : Mail) × (group : Draw) × (input ≡ Got mail) × (mail.body ≡ Answer group seq (Value reply))
 
--- the same request waits as before, and no reply is kept
+-- the request that waited before waits still, and no reply is kept
 pub record Waits (before after : Client) : Type 0 where
   pub number : after.waiting ≡ before.waiting
   pub replies : after.replies ≡ before.replies

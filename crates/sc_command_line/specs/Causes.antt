@@ -32,11 +32,11 @@ status_of Filled = 7
 status_of Lawful = 0
 status_of Unlawful = 9
 
--- a sink's calls, where it tells their pieces, brought these lines, one a call
+-- a sink's calls, where it records their pieces, brought these lines, one a call
 abbrev pub BringsLines : Option (List (List ℕ)) → Option (List (List ℕ)) → List (List ℕ) → Type 0
 BringsLines told told' lines = IfSome told (λ pieces. told' ≡ Some (pieces ++ lines))
 
--- a sink's calls, where it tells their pieces, brought some first lines of these, one a call
+-- a sink's calls, where it records their pieces, brought a prefix of these lines, one a call
 abbrev pub BringsFirst : Option (List (List ℕ)) → Option (List (List ℕ)) → List (List ℕ) → Type 0
 BringsFirst told told' lines = (n : ℕ) × BringsLines told told' (take n lines)
 

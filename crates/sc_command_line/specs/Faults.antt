@@ -31,7 +31,7 @@ of_scenario scenario.OutOfMemory = OutOfMemory
 abbrev pub IsBadText : List ℕ → ℕ → Reason → Type 0
 IsBadText bytes line why = verdict_of bytes ≡ Err (scenario.Bad line why)
 
--- Why an input is not what was asked for: the source's count of read errors rose, or all of the input, where the source tells its bytes, has this bad line. Out of memory says nothing.
+-- Why an input is not what was asked for: the source's count of read errors rose, or all of the input, where the source's bytes are known, has this bad line. Out of memory says nothing.
 abbrev pub HasFault : (List ℕ → ℕ → Reason → Type 0) → SourceUse → InputFault → Type 0
 HasFault IsBad source Failed = Rose source.faults_before source.faults_after
 HasFault IsBad source (Bad line why) = IfSome source.left (λ input. IsBad input line why)

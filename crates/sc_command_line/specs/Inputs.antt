@@ -16,11 +16,11 @@ use Rattle.sc_command_line.specs.Subcommands.{is_audit, is_explain}
 abbrev pub most_takes : List (List ℕ) → ℕ
 most_takes words = if is_audit words || is_explain words then most_file_bytes + 2 else most_bytes + 2
 
--- these bytes are all of the input, where the source tells its bytes
+-- these bytes are all of the input, where the source's bytes are known
 abbrev pub AreAll : Option (List ℕ) → List ℕ → Type 0
 AreAll left bytes = IfSome left (λ input. bytes ≡ input)
 
--- All of the input, where the source tells its bytes, is the text of this scenario, which is valid either way.
+-- All of the input, where the source's bytes are known, is the text of this scenario, which is valid either way.
 pub record ReadsScenario (left : Option (List ℕ)) (scenario : Scenario) : Type 0 where
   pub valid : IsValid scenario
   pub read : IfSome left (λ input. verdict_of input ≡ Ok scenario)

@@ -39,7 +39,7 @@ pub enum Reason {
     UnendedClient,
     /// The text ends without the number of nodes or without a group.
     MissingPart,
-    /// This is the line with the byte after the last allowed one, or the line after the last
+    /// The line is that with the byte after the last allowed one, or the line after the last
     /// allowed one.
     TooLarge,
     /// The file of a stored journal has no line `journal`.

@@ -40,8 +40,8 @@ pub fn calm_requests_are_answered()
     plain_journals_are_answered();
 }
 
-/// In each whole journal of a valid calm scenario in which no line of deliveries was cut off, and
-/// that has at most 2^28 rows, every request of a client whose go line is followed by a line of
+/// States, of each whole journal of a valid calm scenario in which no line of deliveries was cut off
+/// and that has at most 2^28 rows: every request of a client whose go line is followed by a line of
 /// deliveries is answered: the client kept a reply to each. No line needs room for a budget.
 pub fn settled_requests_are_answered()
     ensures { SettledRequestsAreAnswered }

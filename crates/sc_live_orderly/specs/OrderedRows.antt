@@ -113,7 +113,7 @@ taken who row = if row.who == who && is_delivery row.event then 1 else 0
 abbrev pub deliveries : {M O : Type 0} → List (Row M O) → ℕ
 deliveries rows = count_by (λ row. is_delivery row.event) rows
 
--- How many rows tell an actor to go.
+-- How many rows start an actor.
 abbrev pub goes : {M O : Type 0} → List (Row M O) → ℕ
 goes rows = count_by (λ row. is_go row.event) rows
 

@@ -9,13 +9,13 @@ use Rattle.sc_actor.specs.declared.schedules.Line.TheVariants.{Go as GoLine, Del
 use Rattle.sc_actor.specs.Definitions.{is_delivery, System, IsLawful, is_quiet}
 use Rattle.sc_live_orderly.specs.OrderedRows.{IsCalmRow, is_told, deliveries}
 
--- What the lines since the last line of deliveries (`settle` or `free`) did: nothing, told actors to go, or gave an order.
+-- What the lines since the last line of deliveries (`settle` or `free`) did: nothing, started actors, or gave an order.
 pub data Said : Type 0 where
   Nothing : Said
   Goes : Said
   AnOrder : Said
 
--- An actor may be told to go, unless an order was given since the last line of deliveries.
+-- An actor may be started, unless an order was given since the last line of deliveries.
 abbrev pub MayGo : Said → Type 0
 MayGo Nothing = Unit {0}
 MayGo Goes = Unit {0}

@@ -1,7 +1,7 @@
 //! Laws of journals whose deliveries come in order, and of how many deliveries there can be. They
 //! hold for any actors. Definitions and laws: no function here has a body.
 //!
-//! A schedule is plain where each line tells an actor to go, or only delivers. It is calm where
+//! A schedule is plain where each line starts an actor, or only delivers. It is calm where
 //! lines may give orders besides. In a journal of such a schedule each actor takes its mail in
 //! ascending order of number, whatever the line and the number of workers. If each delivery lowers
 //! what is owed by at least one, what is owed at birth bounds the number of all deliveries. So a

@@ -23,7 +23,7 @@ gives_order (Settle most) = false
 gives_order (Free most workers) = false
 gives_order (Storm number most) = false
 
--- whether a line tells a client to start
+-- whether a line starts a client
 abbrev pub starts : SchedLine → Bool
 starts (Go client) = true
 starts (Told node order) = false
@@ -58,7 +58,7 @@ AllowsCalmly budget (Tick who) = ⊥
 AllowsCalmly budget (Crash node) = ⊥
 AllowsCalmly budget (Storm number most) = ⊥
 
--- whether a line of deliveries has to stand between two lines: one gives an order, and the other gives an order or tells a client to start
+-- whether a line of deliveries has to stand between two lines: one gives an order, and the other gives an order or starts a client
 abbrev pub are_parted : SchedLine → SchedLine → Bool
 are_parted one other = (gives_order one && (gives_order other || starts other)) || (starts one && gives_order other)
 

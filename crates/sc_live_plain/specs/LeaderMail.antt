@@ -5,14 +5,14 @@ use Rattle.sc_node_table.specs.Values.{Draw, Mail, MailBody, Request, Answer, Pr
 use Rattle.sc_node_table.specs.Definitions.{numbers_from}
 use Rattle.sc_live_plain.specs.Frames.{Frame}
 
--- the mark of a mail for a group: it asks to accept something at a slot, it is the vote of a node at a slot, it tells what was decided at a slot, or it is none of these
+-- the mark of a mail for a group: it asks to accept something at a slot, it is the vote of a node at a slot, it reports what was decided at a slot, or it is none of these
 pub data Mark : Type 0 where
   Asks : (slot : ℕ) → Mark
   Votes : (node slot : ℕ) → Mark
   Tells : (slot : ℕ) → Mark
   Other : Mark
 
--- the mark of a body from a node, for the group of this name: Accept asks, Accepted votes, Learn tells, and all else is other
+-- the mark of a body from a node, for the group of this name: Accept asks, Accepted votes, Learn reports, and all else is other
 abbrev pub mark_of : Draw → ℕ → MailBody → Mark
 mark_of name from (Accept group ballot slot command) = if same_draw group name then Asks slot else Other
 mark_of name from (Accepted group ballot slot) = if same_draw group name then Votes from slot else Other
@@ -36,7 +36,7 @@ mark_of name from (Told order result) = Other
 abbrev pub mark : Draw → Mail → Mark
 mark name mail = mark_of name mail.from mail.body
 
--- the marks come in an order that a node can follow: each Asks is for a slot that is at least `low` and above each slot that a mark before it votes for or tells
+-- the marks come in an order that a node can follow: each Asks is for a slot that is at least `low` and above each slot that a mark before it votes for or reports
 abbrev pub AreInOrder : ℕ → List Mark → Type 0
 AreInOrder low [] = Unit {0}
 AreInOrder low (Asks slot ∷ marks) = (low ≤ slot) × AreInOrder low marks
@@ -51,7 +51,7 @@ IsBelow bound (Votes node slot) = slot < bound
 IsBelow bound (Tells slot) = slot < bound
 IsBelow bound Other = Unit {0}
 
--- the slots that marks tell, in their order
+-- the slots that marks report, in their order
 abbrev pub told : List Mark → List ℕ
 told [] = []
 told (Tells slot ∷ marks) = slot ∷ told marks
@@ -65,7 +65,7 @@ pub record View : Type 0 where
   pub bound : ℕ
   pub voters : ℕ → Option (List ℕ)
 
--- the marks tell a node exactly the slots that it has not executed and its leader has, in ascending order
+-- the marks report to a node exactly the slots that it has not executed and its leader has, in ascending order
 pub record IsLearning (from to : ℕ) (marks : List Mark) : Type 0 where
   pub left : ℕ
   pub reaches : from + left ≡ to

@@ -7,7 +7,7 @@ use Rattle.sc_live_plain.specs.Frames.{Frame}
 use Rattle.sc_live_plain.specs.LeaderMail.{Mark, Asks, Votes, Tells, Other, View, told}
 use Rattle.sc_live_plain.specs.LeaderMailInJournals.{voters_in, marks_for}
 
--- a mark that a leader may send in a row in which it offers at the slots from `from` to below `to`: it asks only for these, and votes and tells only for earlier ones
+-- a mark that a leader may send in a row in which it offers at the slots from `from` to below `to`: it asks only for these, and votes and reports only for earlier ones
 abbrev pub IsNew : ℕ → ℕ → Mark → Type 0
 IsNew from to (Asks slot) = (from ≤ slot) × (slot < to)
 IsNew from to (Votes node slot) = slot < from
@@ -74,7 +74,7 @@ pub record IsCounted (now : View) (taken : Mark) (slot : ℕ) (voters : List ℕ
   pub keeps : (node : ℕ) → is_member before node ≡ true → is_member voters node ≡ true
   pub counts : (node : ℕ) → taken ≡ Votes node slot → is_member voters node ≡ true
 
--- a leader counts a vote or takes a request: it executes some number of slots, tells the other members each of them, and offers commands at new slots
+-- a leader counts a vote or takes a request: it executes some number of slots, reports each of them to the other members, and offers commands at new slots
 pub record Leads (frame : Frame) (now after : View) (node : ℕ) (taken : Mark) (sent : ℕ → List Mark) : Type 0 where
   pub leads : node ≡ frame.lead
   pub takes : IsCount frame taken

@@ -37,7 +37,7 @@ effective_by (Watching tx watch) transactions group = after_outcome (decision tx
 abbrev pub effective : StoreWorld → Draw → Option Group
 effective world name = option_map (λ group. effective_by group.core.lock world.transactions group) (named_group name world.groups)
 
--- whether a group with this lock serves calls: where it is in no transaction or only watches
+-- whether a group with this lock serves requests: where it is in no transaction or only watches
 abbrev pub is_open : Lock → Bool
 is_open Free = true
 is_open (Coordinating tx body order heard) = false

@@ -13,13 +13,13 @@ pub record IsPlaced (world : StoreWorld) (cut : Cut) : Type 0 where
   -- the effective record of the range's group
   pub group : Group
   pub is : effective world cut.group ≡ Some group
-  -- it is not gone
+  -- the group is not gone
   pub here : group.core.gone ≡ None
-  -- it has the arc of the range
+  -- the group has the arc of the range
   pub arc : group.core.arc ≡ cut.arc
-  -- its successor is the group of the range that begins where this one ends
+  -- the successor is the group of the range that begins where this one ends
   pub succ : (other : Cut) × Among other world.ring × (other.arc.lo ≡ end_of cut.arc) × (group.core.succ.group ≡ other.group)
-  -- its predecessor is the group of the range that ends where this one begins
+  -- the predecessor is the group of the range that ends where this one begins
   pub pred : (other : Cut) × Among other world.ring × (cut.arc.lo ≡ end_of other.arc) × (group.core.pred.group ≡ other.group)
 
 -- a group that serves a key is the group of a range that holds the key's position

@@ -23,7 +23,7 @@ pub record StoreWorld : Type 0 where
   pub transactions : List Transaction
   -- the decided ring
   pub ring : List Cut
-  -- the calls that took effect
+  -- the requests that took effect
   pub history : List Entry
 
 -- the world before any entry: the groups of a scenario

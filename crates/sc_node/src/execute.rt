@@ -12,7 +12,7 @@ use sc_mail::Mail;
 use sc_replica::Replica;
 use sc_replica_transactions::before_of;
 
-/// Does steps 1, 2, 4, 5 and 6 of Execute, as `executed_one` has them.
+/// Executes the command of the next slot, without the child and the ready commands behind it.
 #[tactic(auto, unfolding(sc_node_table::specs::Execute::executed_one))]
 fn execute_one(
     replica: &mut Replica,
@@ -36,7 +36,7 @@ fn execute_one(
     replica.look(out)
 }
 
-/// Does step 7 of Execute: executes what is ready at the next slot, as long as there is a command.
+/// Executes the ready commands of the next slots, as long as there is one, and pumps after each.
 fn execute_ready(
     replica: &mut Replica,
     out: &mut Sequence<Mail>,

@@ -1,4 +1,4 @@
-//! What is sent for an executed command: the answer to a call, the report of an order to the desk,
+//! What is sent for an executed command: the answer to a request, the report of an order,
 //! and the mails of a transaction.
 ghost use Rattle.std.specs.Prelude.{◌≡◌, [], true, false, OnOk, IsOk};
 ghost use Rattle.sc_node_table.specs.Execute.{order_result, told_effect, announced};
@@ -12,7 +12,7 @@ use sc_node_table::Before;
 use sc_replica::Replica;
 use sc_replica_transactions as transactions;
 
-/// Returns whether a command is a call.
+/// Returns whether a command is a request.
 fn is_call(command: &Command) -> bool
     ensures { result ≡ is_call command.now }
 {
@@ -42,7 +42,7 @@ fn order_result(command: &Command, effect: &Effect) -> Option<ToldResult>
     }
 }
 
-/// Answers a call where it was counted. Nothing else is sent for it.
+/// Answers a request whose entry was counted here. Nothing else is sent for it.
 #[tactic(auto, using(crate::proofs::Saying::nothing_of_calls))]
 fn tell_call(
     replica: &mut Replica,
@@ -90,7 +90,7 @@ fn speak(
     )
 }
 
-/// Reports a command other than a call to the desk, and sends what its transaction has to say.
+/// Reports a command other than a request to the desk, and sends what its transaction has to say.
 #[tactic(auto, using(crate::proofs::Saying::no_answer_of_others))]
 fn tell_others(
     replica: &Replica,
@@ -112,7 +112,7 @@ fn tell_others(
     speak(replica, counted, before, effect, command, out)
 }
 
-/// Sends what is to be said of a command, counted or learnt, by its effect and the group before it.
+/// Sends what a command causes, counted or learnt, by its effect and the group before it.
 pub(crate) fn tell(
     replica: &mut Replica,
     counted: bool,

@@ -17,12 +17,12 @@ use Rattle.sc_policy.specs.Definitions.{is_told}
 abbrev pub sent : ℕ → ℕ → MailBody → List Mail → List Mail
 sent me to body mails = mails ++ record { from = me; to = to; body = body } ∷ []
 
--- the same body is sent to each of these nodes, in their order
+-- one body is sent to each of these nodes, in their order
 unfoldable pub sent_all : ℕ → List ℕ → MailBody → List Mail → List Mail
 sent_all me [] body mails = mails
 sent_all me (node ∷ nodes) body mails = sent_all me nodes body (sent me node body mails)
 
--- the same body is sent to each of these nodes but the sender, in their order
+-- one body is sent to each of these nodes but the sender, in their order
 unfoldable pub sent_others : ℕ → List ℕ → MailBody → List Mail → List Mail
 sent_others me [] body mails = mails
 sent_others me (node ∷ nodes) body mails = sent_others me nodes body (if node == me then mails else sent me node body mails)

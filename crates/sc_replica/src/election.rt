@@ -51,7 +51,7 @@ impl Replica {
         }
     }
 
-    /// Sends this answer to the client of a call that is in flight or ready at a slot.
+    /// Sends this answer to the client of a request that is in flight or ready at a slot.
     #[tactic(auto, unfolding(sc_node_table::specs::Mails::answered_all))]
     fn answer_taken(
         &self,
@@ -74,7 +74,7 @@ impl Replica {
         }
     }
 
-    /// Sends this answer to the client of each call that is in flight or ready.
+    /// Sends this answer to the client of each request that is in flight or ready.
     fn answer_under_way(
         &self,
         body: &AnswerBody,
@@ -93,8 +93,8 @@ impl Replica {
         Ok(())
     }
 
-    /// Ends the run: sends this answer to the client of each call in flight, ready or queued, and
-    /// reports to the desk of each queued order that this node does not lead.
+    /// Ends the run: sends this answer to the client of each request in flight, ready or queued,
+    /// and reports to the desk of each queued order that this node does not lead.
     #[tactic(auto, unfolding(sc_node_table::specs::Election::ended))]
     pub(crate) fn end(
         &mut self,

@@ -17,7 +17,7 @@ use sc_mail::{AnswerBody, Mail};
 use sc_replica_choices::{not_among, same_command, waits_in};
 use sc_replica_parts::{answer, drop_ready, order_number, ready_at, tell_order};
 
-/// Returns the answer to the client of a call with this effect. None where the call has to wait.
+/// Returns the answer to the client of a request with this effect. None where it has to wait.
 fn answer_of(effect: Effect) -> Option<AnswerBody>
     ensures { result ≡ answer_of effect }
 {
@@ -54,7 +54,7 @@ impl Replica {
         Ok(effect)
     }
 
-    /// Sends this answer to the client of a call. Does nothing for another command.
+    /// Sends this answer to the client of a request. Does nothing for another command.
     #[tactic(auto, unfolding(sc_node_table::specs::Execute::told_call))]
     fn answer_call(
         &self,
@@ -74,7 +74,7 @@ impl Replica {
         }
     }
 
-    /// Puts a copy of a call back into its queue. Does nothing for another command.
+    /// Puts a copy of a request back into its queue. Does nothing for another command.
     #[tactic(auto, unfolding(sc_node_table::specs::Execute::told_call))]
     fn call_again(&mut self, command: &Command, out: &Sequence<Mail>) -> Result<(), OutOfMemory>
         ensures row { OnOk result
@@ -87,7 +87,7 @@ impl Replica {
         }
     }
 
-    /// Answers the client of a call by the call's effect, or puts the call back where the effect
+    /// Answers the client of a request by its effect, or puts the request back where the effect
     /// gives no answer.
     fn tell_call(
         &mut self,
@@ -105,7 +105,7 @@ impl Replica {
         }
     }
 
-    /// Answers the client of a call, or puts the call back, where the call was counted. Does
+    /// Answers the client of a request, or puts it back, where its entry was counted here. Does
     /// nothing for one that was learnt.
     pub fn tell_counted(
         &mut self,

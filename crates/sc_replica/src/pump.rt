@@ -18,7 +18,7 @@ use sc_replica_parts::{answer_command, head, is_empty, take_head};
 use std::alloc::Global;
 use std::collections::VecDeque;
 
-// Returns whether the head of the queue of calls and orders has to wait, or there is none.
+// Returns whether the head of the queue of requests and orders has to wait, or there is none.
 fn head_waits(idle: bool, lock: &Lock, calls: &VecDeque<Command>) -> bool
     ensures { result ≡ head_waits idle lock.now calls.now.items }
 {
@@ -28,8 +28,8 @@ fn head_waits(idle: bool, lock: &Lock, calls: &VecDeque<Command>) -> bool
     }
 }
 
-/// Returns the command at the head of the queue of calls and orders, if it may have a slot. Calls
-/// before it that the group does not serve are answered and leave the queue.
+/// Returns the command at the head of the queue of requests and orders, if it may have a slot.
+/// Requests before it that the group does not serve are answered and leave the queue.
 fn next_call(
     alloc: Global,
     me: u16,
@@ -124,7 +124,7 @@ impl Replica {
         false
     }
 
-    /// Takes a command for a slot from the queue of calls and orders, if one may have it.
+    /// Takes a command for a slot from the queue of requests and orders, if one may have it.
     #[tactic(auto, unfolding(sc_node_table::specs::Pump::from_calls))]
     fn find_in_calls(&mut self, out: &mut Sequence<Mail>) -> Result<Option<Command>, OutOfMemory>
         ensures found { IfOk result
@@ -145,7 +145,7 @@ impl Replica {
     }
 
     /// Takes a command for a slot from the queue of transactions' commands, where nothing is in
-    /// flight or ready, and from the queue of calls and orders where that one is empty.
+    /// flight or ready, and from the queue of requests and orders where that one is empty.
     fn find_in_acts(&mut self, out: &mut Sequence<Mail>) -> Result<Option<Command>, OutOfMemory>
         ensures found { IfOk result
             (λ command.

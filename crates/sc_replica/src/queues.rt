@@ -9,7 +9,7 @@ use sc_cmd::Command;
 use sc_replica_parts::{push_front, put_call};
 
 impl Replica {
-    /// Puts a command back at the head of its queue. A Noop is dropped; of two calls of one client
+    /// Puts a command back at the head of its queue. A Noop is dropped; of two requests of a client
     /// the one with the higher number stays.
     #[tactic(auto, unfolding(sc_node_table::specs::Queues::put_back))]
     pub(crate) fn put_back(&mut self, command: Command) -> Result<(), OutOfMemory>

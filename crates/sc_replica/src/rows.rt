@@ -20,7 +20,7 @@ use sc_replica_choices::{call_refusal, uncounted};
 use sc_replica_parts::{add_call, answer, call_of, drop_call, send};
 
 impl Replica {
-    /// Appends a call to the queue in place of an earlier one of its client, and pumps. Does
+    /// Appends a request to the queue in place of an earlier one of its client, and pumps. Does
     /// nothing where the same or a later one is queued.
     #[tactic(auto, unfolding(sc_node_table::specs::Rows::queued))]
     fn queue(

@@ -79,7 +79,7 @@ impl Replica {
         is_at_rest(idle, &self.acts, &self.calls, &self.machine.core().lock)
     }
 
-    /// Appends the command of an order to the queue of calls and orders.
+    /// Appends the command of an order to the queue of requests and orders.
     pub fn put_order(&mut self, command: Command) -> Result<(), OutOfMemory>
         ensures { OnOk result (self.new ≡ with_call command self.old) }
     {

@@ -12,7 +12,7 @@ use sc_mail::AnswerBody;
 use sc_node_table::CUT_UNIT;
 use std::collections::VecDeque;
 
-// Returns whether calls are served under this lock.
+// Returns whether requests get slots under this lock.
 fn serves_calls(lock: &Lock) -> bool
     ensures { result ≡ serves_calls lock.now }
 {
@@ -50,7 +50,7 @@ pub fn call_refusal(core: &Core, running: bool, hint: Option<u16>, op: &Op) -> O
     None
 }
 
-/// Returns whether a command at the head of the queue has to wait: a call for the lock, and an
+/// Returns whether a command at the head of the queue has to wait: a request for the lock, and an
 /// order also for what is in flight or ready.
 pub fn waits(idle: bool, lock: &Lock, command: &Command) -> bool
     ensures { result ≡ waits idle lock.now command.now }
@@ -61,7 +61,7 @@ pub fn waits(idle: bool, lock: &Lock, command: &Command) -> bool
     }
 }
 
-/// Returns the answer to a call that the group does not serve. None for another command.
+/// Returns the answer to a request that the group does not serve. None for another command.
 pub fn turned_down(core: &Core, command: &Command) -> Option<AnswerBody>
     ensures { result ≡ turned_down core.now command.now }
 {

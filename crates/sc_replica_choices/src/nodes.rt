@@ -47,7 +47,7 @@ pub fn uncounted<V>(
     Ok(nodes)
 }
 
-/// The nodes, from 1 to the given number, that are in one of these sets.
+/// Returns the nodes, from 1 to the given number, that are in one of these sets.
 #[tactic(auto, unfolding(sc_node_table::specs::Election::nodes_to))]
 pub fn nodes_to(alloc: Global, most: u16, sets: &Sets) -> Result<Vec<u16>, OutOfMemory>
     requires { most ≤ most_nodes }

@@ -8,7 +8,7 @@ abbrev pub head_of : {X : Type 0} → List X → Option X
 head_of [] = None
 head_of (x ∷ xs) = Some x
 
--- whether the head of the queue of calls and orders has to wait, or there is none
+-- whether the head of the queue of requests and orders has to wait, or there is none
 abbrev pub head_waits : Bool → Lock → List Command → Bool
 head_waits idle lock [] = true
 head_waits idle lock (command ∷ calls) = waits idle lock command

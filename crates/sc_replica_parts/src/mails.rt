@@ -42,7 +42,7 @@ pub fn answer(
     )
 }
 
-/// Appends this answer to the client of a call. Does nothing for another command.
+/// Appends this answer to the client of a request. Does nothing for another command.
 #[tactic(auto, unfolding(sc_node_table::specs::Mails::answered))]
 pub fn answer_command(
     alloc: Global,
@@ -121,7 +121,7 @@ pub fn tell_order(
     tell_desk(me, number, told, out)
 }
 
-/// Appends this answer to the client of a queued call, and for a queued order the report to the
+/// Appends this answer to the client of a queued request, and for a queued order the report to the
 /// desk that its node does not lead.
 #[tactic(auto, unfolding(sc_node_table::specs::Mails::dismissed))]
 fn dismiss(

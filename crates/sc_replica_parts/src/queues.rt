@@ -52,7 +52,7 @@ pub fn push_back(queue: &mut VecDeque<Command>, command: Command) -> Result<(), 
     Ok(())
 }
 
-/// Appends a call.
+/// Appends a request to the queue.
 pub fn add_call(
     alloc: Global,
     calls: &mut VecDeque<Command>,
@@ -74,7 +74,7 @@ fn drop_at(queue: &mut VecDeque<Command>, i: usize)
     let _gone = queue.remove(i);
 }
 
-/// Returns the number of a client's call, if one is queued.
+/// Returns the number of a client's queued request, if there is one.
 pub fn call_of(commands: &VecDeque<Command>, client: u16) -> Option<u32>
     ensures { result ≡ call_of commands.now.items client }
 {
@@ -88,7 +88,7 @@ pub fn call_of(commands: &VecDeque<Command>, client: u16) -> Option<u32>
     None
 }
 
-/// Returns whether a command is a call of this client.
+/// Returns whether a command is a request of this client.
 fn is_call_of(client: u16, command: &Command) -> bool
     ensures { result ≡ is_call_of client command.now }
 {
@@ -98,7 +98,7 @@ fn is_call_of(client: u16, command: &Command) -> bool
     }
 }
 
-/// Takes out a client's call.
+/// Removes a client's queued request, if there is one.
 pub fn drop_call(calls: &mut VecDeque<Command>, client: u16)
     ensures { calls.new.items ≡ without_call calls.old.items client }
 {
@@ -110,7 +110,7 @@ pub fn drop_call(calls: &mut VecDeque<Command>, client: u16)
     }
 }
 
-/// Inserts a call at the head of the queue. Of two calls of one client the one with the higher
+/// Inserts a request at the head of the queue. Of two requests of a client that with the higher
 /// number stays.
 pub fn put_call(
     calls: &mut VecDeque<Command>,

@@ -14,7 +14,7 @@ use sc_node_table::Before;
 use sc_replica_parts::send;
 use std::alloc::Global;
 
-/// Tells each of several nodes that the transaction is given up.
+/// Reports to each of several nodes that the transaction is given up.
 #[tactic(auto, unfolding(sc_node_table::specs::Mails::sent_all))]
 fn send_aborts(
     me: u16,
@@ -39,7 +39,7 @@ fn send_aborts(
     Ok(())
 }
 
-/// Tells each member of a party that the transaction is given up.
+/// Reports to each member of a party that the transaction is given up.
 fn abort_to(me: u16, tx: Draw, link: &Link, out: &mut Sequence<Mail>) -> Result<(), OutOfMemory>
     ensures mails { OnOk result (out.new ≡ aborted_to me tx link.now out.old) }
     ensures none { aborted_to me tx link.now [] ≡ [] → IsOk result }
@@ -47,7 +47,7 @@ fn abort_to(me: u16, tx: Draw, link: &Link, out: &mut Sequence<Mail>) -> Result<
     send_aborts(me, link.members.as_slice(), tx, link.group, out)
 }
 
-/// Tells each member of the watcher, where the participant was heard, that the transaction is given
+/// Reports to each member of a watcher whose participant was heard that the transaction is given
 /// up.
 fn abort_watcher(
     me: u16,
@@ -64,7 +64,7 @@ fn abort_watcher(
     }
 }
 
-/// Tells the participant that the transaction is given up, and the watcher where one was asked
+/// Reports to the participant that the transaction is given up, and the watcher where one was asked
 /// after it.
 pub(crate) fn give_up(
     effect: &Effect,
@@ -84,7 +84,7 @@ pub(crate) fn give_up(
     abort_watcher(me, tx, &before.heard, out)
 }
 
-/// Tells the node that brought a participant's Yes what it decided, where it decided the
+/// Reports to the node that brought a participant's Yes what it decided, where it decided the
 /// transaction.
 pub(crate) fn answer_vote(
     alloc: Global,
@@ -110,7 +110,7 @@ pub(crate) fn answer_vote(
     }
 }
 
-/// Tells the participant that was heard what a watcher's Yes decided, and then the node that
+/// Reports to the participant that was heard what a watcher's Yes decided, and then the node that
 /// brought the vote.
 fn release(
     alloc: Global,

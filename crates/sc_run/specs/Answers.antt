@@ -16,7 +16,7 @@ use Rattle.sc_command_line.specs.declared.subcommands.Subcommand.TheVariants as 
 use Rattle.sc_run.specs.declared.done.Done.{Done}
 use Rattle.sc_run.specs.Run.{Ends}
 
--- the input, whose bytes the source tells, is the text of this scenario
+-- the input, where the source's bytes are known, is the text of this scenario
 abbrev pub IsText : SourceUse → Scenario → Type 0
 IsText source scenario = (input : List ℕ) × (source.left ≡ Some input) × (verdict_of input ≡ Ok scenario)
 

@@ -7,7 +7,7 @@ use sc_live_answers::{
 };
 use sc_live_plain::{plain_journals_are_light, plain_lines_end_quiet};
 
-/// Says that in each lawful journal of a valid scenario within its budget, plain or calm, no line
+/// States that in each lawful journal of a valid scenario within its budget, plain or calm, no line
 /// is cut off with mail pending; in each whole one every request of a client whose `go` line is
 /// followed by a line of deliveries is answered; and no journal of a plain one counts more than
 /// 2^30 bytes. In each whole journal of a calm one in which no line was cut off such requests are

@@ -70,8 +70,8 @@ pub fn audit(
     }
 }
 
-/// Says that an audit of a file whose rows are a lawful journal of its scenario says yes, unless a
-/// read error comes; and that an audit of what was printed as a stored journal, within the limit of
+/// States that an audit of a file whose rows are a lawful journal of its scenario says yes, unless
+/// a read error comes; and that an audit of what was printed as a stored journal, within the limit of
 /// files, does.
 pub fn lawful_journals_are_confirmed()
     ensures files { LawfulFilesAreConfirmed }

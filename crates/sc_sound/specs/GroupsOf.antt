@@ -107,6 +107,6 @@ world_at ahead bases rows = world_of bases (entries_at ahead bases rows)
 abbrev pub ring_at : Ahead → List Base → List (Row Mail OrderLine) → List Cut
 ring_at ahead bases rows = (world_at ahead bases rows).ring
 
--- the history of a journal: the calls that took effect in any group, in the order of the rows that decide them
+-- the history of a journal: the requests that took effect in any group, in the order of the rows that decide them
 abbrev pub history_at : Ahead → List Base → List (Row Mail OrderLine) → List Entry
 history_at ahead bases rows = (world_at ahead bases rows).history

@@ -41,9 +41,9 @@ pub record HasRun (ahead : Ahead) (base : Base) (rows : List (Row Mail OrderLine
   pub within : count ≤ length (decided_log ahead base rows)
   -- the slot that the replica waits for is the one after the prefix
   pub next_is : next r ≡ count + 1
-  -- it holds the entries of the prefix after those that it has forgotten
+  -- the replica holds the entries of the prefix after those that it has forgotten
   pub entries : r.log.entries ≡ drop r.log.base (take count (decided_log ahead base rows))
-  -- its group is the state after the prefix
+  -- the group of the replica is the state after the prefix
   pub group_is : r.group ≡ state_after (group_of base) (take count (decided_log ahead base rows))
 
 -- each replica of each node is of a group of the journal, and its state is that after a prefix of the group's log

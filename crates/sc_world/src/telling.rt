@@ -73,7 +73,7 @@ pub fn decided_ring(alloc: Global, world: &World<'_>) -> Result<Vec<Cut>, OutOfM
     Ok(ring)
 }
 
-/// Returns the history of a journal: row by row the calls decided there that took effect, in any
+/// Returns the history of a journal: row by row the requests decided there that took effect, in any
 /// group. The history is legal. The only error is out of memory.
 pub fn history(alloc: Global, world: &World<'_>) -> Result<Vec<Entry>, OutOfMemory>
     ensures told { IfOk result (λ entries. entries.items ≡

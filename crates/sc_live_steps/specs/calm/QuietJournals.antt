@@ -93,12 +93,12 @@ pub record RisesAt (at : View) (group : Draw) (r : ReplicaState) : Type 0 where
   pub is_there : at group r.top.node ≡ Some there
   pub nearer : (there.running ≡ true) ⊎ (((into : Route) × (there.group.core.gone ≡ Some into)) ⊎ (r.top.round < there.top.round))
 
--- A client that was not told to go is as at its birth; one that was told has all its replies.
+-- A client that was not started is as at its birth; one that was has all its replies.
 abbrev pub IsAnswered : Bool → Route → ClientState → Type 0
 IsAnswered false first client = client ≡ born_client client.me client.requests first
 IsAnswered true first client = (client.waiting ≡ None) × (length client.replies ≡ length client.requests)
 
--- A quiet journal of a calm scenario, by its replicas and its clients; of each client it is given whether it was told to go.
+-- A quiet journal of a calm scenario, by its replicas and its clients; of each client it is given whether it was started.
 pub record IsQuiet (at : View) (first : Route) (clients : List (Bool × ClientState)) : Type 0 where
   pub groups : (group : Draw) (node : ℕ) → HasReplica at group node → StandsQuiet at group ⊎ IsGoneQuiet at group
   pub at_rest : (group : Draw) (node : ℕ) (r : ReplicaState) → at group node ≡ Some r → IsAtRest r

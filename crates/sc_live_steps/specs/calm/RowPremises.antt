@@ -108,7 +108,7 @@ abbrev pub IsCalmFor : Chart → Elsewhere → Mail → Player → Type 0
 IsCalmFor chart elsewhere mail (Node node) = (mail.to ≡ node.me) × IsCalmMailAt chart.ways chart.groups elsewhere mail.from mail.body node
 IsCalmFor chart elsewhere mail (Client client) = HearsCalmly chart.ways chart.reach mail.from mail.body client
 
--- A player that may be told to go: a node, or a client that has not begun.
+-- A player that may be started: a node, or a client that has not begun.
 abbrev pub MayGoNow : Chart → Player → Type 0
 MayGoNow chart (Node node) = Unit {0}
 MayGoNow chart (Client client) = IsUnbegun chart.reach client
