@@ -24,7 +24,7 @@ use sc_law_refusal::{
 };
 use sc_live_answers::{
     calm_lines_settle, calm_requests_are_answered, last_lines_answer, plain_journals_are_answered,
-    settled_requests_are_answered,
+    settled_orders_are_reported, settled_requests_are_answered,
 };
 use sc_live_plain::{
     last_lines_end_quiet, made_scenarios_are_at_budget, plain_journals_are_light,
@@ -151,6 +151,7 @@ fn the_laws_of_plain_scenarios_are_called() {
 
 #[test]
 fn the_laws_of_calm_scenarios_are_called() {
+    settled_orders_are_reported();
     calm_lines_settle();
     calm_requests_are_answered();
 }

@@ -21,7 +21,7 @@ use Rattle.sc_live_steps.specs.calm.Definitions.{Chart, players, run_owes, KeptC
 use Rattle.sc_live_journals.specs.mail.Definitions.{IsPosted, IsPlayers, IsNodesBody, IsClientsBody, MailIsPosted, DesksAreNotBorn}
 use Rattle.sc_live_plain.specs.Definitions.{IsQuietJournal, budget_of, orders_of, calm_budget_of, IsCalm, IsCalmAtBudget, RoomyScenariosAreCalm, CalmLinesAreSpaced, PlainLinesEndQuiet, PlainJournalsAreLight, PlainRequestsAreAnswered}
 use Rattle.sc_live_plain.proofs.Lemmas.{IsStage, stage, roomy_scenarios_are_calm}
-use Rattle.sc_live_answers.specs.Definitions.{charts_of, CalmJournalsAreCharted, CalmJournalsGoOn, CalmLinesSettle, CalmJournalsRest, SettledJournalsRest, TimelyJournalsRest, SettledRequestsAreAnswered, CalmRequestsAreAnswered, IsCalmJournal, IsPrefixOf, calm_deliveries_of, AreCharted, CalmLinesEndQuiet, CalmJournalsAreShort}
+use Rattle.sc_live_answers.specs.Definitions.{charts_of, CalmJournalsAreCharted, CalmJournalsGoOn, CalmLinesSettle, CalmJournalsRest, SettledJournalsRest, TimelyJournalsRest, SettledRequestsAreAnswered, CalmRequestsAreAnswered, IsCalmJournal, IsPrefixOf, calm_deliveries_of, AreCharted, CalmLinesEndQuiet, CalmJournalsAreShort, AreReported}
 use Rattle.sc_live_answers.specs.GivenOrders.{OrdersMayBeGiven}
 use Rattle.sc_live_answers.proofs.AnsweredRequests.{answered_calmly}
 use Rattle.sc_live_answers.proofs.BudgetAtBirth.{births_covered}
@@ -131,6 +131,12 @@ module _ (segment : SegmentLaws) (rows_laws : RowLaws) (laws : LineLaws) (words 
   pub rests_timely : (rows : Rows) → Lawful as_nodes words scenario rows → AreInTime s rows → length rows ≤ 2 ^ 28 → is_quiet s rows ≡ true → IsQuietJournal words scenario begins.first rows
   rests_timely rows lawful timely short quiet = rests_in rows (in_calm rows lawful timely short) quiet
 
+  -- in a quiet journal in which no line was cut off the results of all orders are reported
+  pub reports_settled : (rows : Rows) → Lawful as_nodes words scenario rows → unsettled s (schedule scenario) rows ≡ false → length rows ≤ 2 ^ 28 → is_quiet s rows ≡ true → AreReported rows
+  reports_settled rows lawful uncut short quiet =
+      let is = in_calm rows lawful (settled_in_time s (schedule scenario) (laws.spaced_law 0 scenario calm).0 rows lawful uncut) short in
+      (rows_of.quiet_rests segment rows_laws words scenario begins.first begins.others (orders_of scenario + 1) (length scenario.groups + orders_of scenario) rows (frame rows is) rows (whole rows) is.timely quiet).reported
+
   -- a quiet journal in which no line was cut off rests
   pub rests_settled : (rows : Rows) → Lawful as_nodes words scenario rows → unsettled s (schedule scenario) rows ≡ false → length rows ≤ 2 ^ 28 → is_quiet s rows ≡ true → IsQuietJournal words scenario begins.first rows
   rests_settled rows lawful uncut short quiet = rests_timely rows lawful (settled_in_time s (schedule scenario) (laws.spaced_law 0 scenario calm).0 rows lawful uncut) short quiet
@@ -223,6 +229,7 @@ pub journals_go_on : SegmentLaws → RowLaws → LineLaws → KeptCalmIsMeasured
 journals_go_on segment rows_laws laws measured_law little_law = record {
   settled = settled_rest segment rows_laws laws;
   timely = timely_rest segment rows_laws laws;
+  reported = λ words scenario rows valid calm lawful uncut short quiet. reports_settled segment rows_laws laws words scenario valid calm rows lawful uncut short quiet;
   charted = λ words scenario valid at some. charted segment rows_laws laws words scenario valid (laws.roomy_law.calm (calm_budget_of scenario) scenario at) at some;
   rests = λ words scenario first others rows valid at some groups lawful quiet. (
       let s = stage scenario (rows_laws.all_bounded scenario valid) in

@@ -261,3 +261,11 @@ pub mod WaitingActLaws
 pub mod WaitingWorkLaws
 pub mod YoungGroupLaws
 pub mod Lemmas
+pub mod OrderNumbers
+pub mod ReportedMail
+pub mod OrderResults
+pub mod HeldOrders
+pub mod HeldOrdersAtStart
+pub mod UnusedNames
+pub mod PassedOrders
+pub mod SettledOrders

@@ -13,13 +13,13 @@ use Rattle.sc_live_answers.specs.Definitions.{is_split}
 use Rattle.sc_live_answers.proofs.Affairs.{Affair, BeginsFree}
 use Rattle.sc_live_answers.proofs.WorkMail.{one_sent}
 use Rattle.sc_live_answers.proofs.AffairParts.{Held, Fine, must_open, slot_offered, from_pumps}
-use Rattle.sc_live_answers.proofs.OrderTasks.{affair_by, begins_free}
+use Rattle.sc_live_answers.proofs.OrderTasks.{affair_of, begins_free}
 use Rattle.sc_live_steps.proofs.PumpProofs.Lemmas.{none_at as free_at, none_from as none_taken}
 
 -- its command stands at its group
-pub order_does : (name : Draw) (number : ℕ) (order : Order) → (affair_by (is_split order) (group_of_order order) name).Does (group_of_order order) (ordered_command name number order)
-order_does name number (An.Split group at) = (refl, refl)
-order_does name number _ = tt
+pub order_does : (name : Draw) (number : ℕ) (order : Order) → (affair_of number (is_split order) (group_of_order order) name).Does (group_of_order order) (ordered_command name number order)
+order_does name number (An.Split group at) = ((refl, refl), refl)
+order_does name number _ = (tt, refl)
 
 -- it waits for nothing where nothing is under way, and is not turned down
 order_goes : (name : Draw) (number : ℕ) (order : Order) (core : Core) → (waits true Free (ordered_command name number order) ≡ false) × (turned_down core (ordered_command name number order) ≡ None)
@@ -27,7 +27,7 @@ order_goes name number (An.Split group at) core = (refl, refl)
 order_goes name number _ core = (refl, refl)
 
 -- an order is taken by one that is settled
-settled_by : (gone offer : Bool) (why : OrderRefusal) (other : Option OrderRefusal) → cond (gone || not offer) (Some why) other ≡ None → offer ≡ true
+pub settled_by : (gone offer : Bool) (why : OrderRefusal) (other : Option OrderRefusal) → cond (gone || not offer) (Some why) other ≡ None → offer ≡ true
 settled_by gone true why other e = refl
 settled_by true false why other e = cc
 settled_by false false why other e = cc
@@ -117,22 +117,22 @@ module _ (a : Affair) (begins : BeginsFree a) (g : Draw) (r : ReplicaState) (res
 
 -- so an order given to one at rest is refused, or its command is in flight
 pub order_fine : (drawer : Drawer) (line : OrderLine) (r : ReplicaState) → IsAtRest r → name_of r ≡ group_of_order line.order → (r.running ≡ true → r.leader.reports ≡ []) → next r ≤ last_slot → length r.sets ≡ slots_ahead
-    → Fine (affair_by (is_split line.order) (group_of_order line.order) (next_name drawer)) (group_of_order line.order) (ordered_row drawer line (r, []))
+    → Fine (affair_of line.number (is_split line.order) (group_of_order line.order) (next_name drawer)) (group_of_order line.order) (ordered_row drawer line (r, []))
 unfolding ordered_row
 order_fine drawer line r rest named plain low many = by (untaken drawer line r) refl
   where
     a : Affair
-    a = affair_by (is_split line.order) (group_of_order line.order) (next_name drawer)
+    a = affair_of line.number (is_split line.order) (group_of_order line.order) (next_name drawer)
 
     command : Command
     command = ordered_command (next_name drawer) line.number line.order
 
-    by : (o : Option OrderRefusal) → untaken drawer line r ≡ o → Fine (affair_by (is_split line.order) (group_of_order line.order) (next_name drawer)) (group_of_order line.order) (taken_or_told o line.number (ordered_command (next_name drawer) line.number line.order) (r, []))
+    by : (o : Option OrderRefusal) → untaken drawer line r ≡ o → Fine (affair_of line.number (is_split line.order) (group_of_order line.order) (next_name drawer)) (group_of_order line.order) (taken_or_told o line.number (ordered_command (next_name drawer) line.number line.order) (r, []))
     by (Some why) e = (
-      held (affair_by (is_split line.order) (group_of_order line.order) (next_name drawer)) (begins_free (is_split line.order) (group_of_order line.order) (next_name drawer)) (group_of_order line.order) r rest named plain low many (ordered_command (next_name drawer) line.number line.order) (order_does (next_name drawer) line.number line.order)
+      held (affair_of line.number (is_split line.order) (group_of_order line.order) (next_name drawer)) (begins_free line.number (is_split line.order) (group_of_order line.order) (next_name drawer)) (group_of_order line.order) r rest named plain low many (ordered_command (next_name drawer) line.number line.order) (order_does (next_name drawer) line.number line.order)
           (order_goes (next_name drawer) line.number line.order r.group.core),
-      one_sent (affair_by (is_split line.order) (group_of_order line.order) (next_name drawer)) r.me 0 (Told line.number (Refused why)) [] tt tt,
+      one_sent (affair_of line.number (is_split line.order) (group_of_order line.order) (next_name drawer)) r.me 0 (Told line.number (Refused why)) [] tt tt,
     )
     by None e =
-        pump_offers (affair_by (is_split line.order) (group_of_order line.order) (next_name drawer)) (begins_free (is_split line.order) (group_of_order line.order) (next_name drawer)) (group_of_order line.order) r rest named plain low many (ordered_command (next_name drawer) line.number line.order) (order_does (next_name drawer) line.number line.order)
+        pump_offers (affair_of line.number (is_split line.order) (group_of_order line.order) (next_name drawer)) (begins_free line.number (is_split line.order) (group_of_order line.order) (next_name drawer)) (group_of_order line.order) r rest named plain low many (ordered_command (next_name drawer) line.number line.order) (order_does (next_name drawer) line.number line.order)
         (order_goes (next_name drawer) line.number line.order r.group.core) (settled_by (is_some r.group.core.gone) (settled r) (NotLeader r.hint) _ e)

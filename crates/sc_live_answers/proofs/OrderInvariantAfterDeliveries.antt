@@ -11,14 +11,15 @@ use Rattle.sc_machine_table.specs.Definitions.{applied}
 use Rattle.sc_node_table.specs.Definitions.{NodeState, replica_of, group_of_mail, may_come, ReplicaState, name_of}
 use Rattle.sc_sound.specs.Definitions.{groups_at, Player, player_table, births, as_nodes}
 use Rattle.sc_live_steps.specs.calm.Definitions.{players, FindsCalm, Rows}
-use Rattle.sc_paxos_words.proofs.Lemmas.{Each-from}
+use Rattle.sc_actor.specs.declared.rows.Event.TheVariants.{Told}
+use Rattle.sc_paxos_words.proofs.Lemmas.{Each-from, Each-among, Each-weaker}
 use Rattle.sc_live_steps.specs.orders.Definitions.{Stage}
 use Rattle.sc_live_journals.specs.rows.Definitions.{view_at, with_event}
 use Rattle.sc_live_journals.proofs.RowsProofs.Lemmas.{view_was}
 use Rattle.sc_live_journals.specs.mail.Definitions.{SlotsAreLeft, ReplicasLast, MailMayCome}
 use Rattle.sc_live_journals.specs.logs.Definitions.{ViewsAreReplicas, SlotsHaveRosters, logged_sets}
-use Rattle.sc_live_answers.specs.Definitions.{ReplicasRunLogs, IsUnsettled, IsNamedGuide, NewestStay, WellLedLeadAlone, IsOrdersRow, OrdersRowsFind, OrdersRowsMeet, IsQuietWhileYoung, IsSentStep, NextRowsAreSent, SentReplicas, IsNoRequest, IsPlainAt, over_at, slot_leaders_at, NextRowsRise, IsRisingOn, IsRoundSince, OrdersKeepRounds, PrefixesAreFound, NoMailForStrangers, IsCalmJournal, AreSent, ContinuesBy, IsNamedGroup, IsUnder, IsYoungAt, AllLeadAlone, IsKnownMail, OrderRowsFindCalm, ViewsAgree, ChildrenAreCreated, IsWorkingRow, ChildrenWereNowhere, IsUnanswered, YoungGroupsStay, AreSeen, IsTrueSince, LeadsSince, EntriesAreTrue, MailComesUnsettled, TakesSince, IsHinted, CoordinatorsAreHinted, HintedOrdersGoOn, AreSettled, CoordinatorsAreSettled, SettledOrdersGoOn, EndingGroupsGoOn, IsGoingSince, NamesStayFew, NoneWaits, AskedGroupsStood, ContinuesSince, TrueOrdersGoOn, IsGuidedRow, DeliveriesKeepWork, WorkStandsAlone, FlightsAreEntries, OrderErrandsGoToNodes, IsOfJournal, IsOrderedSince, DeliveriesKeepOrdered, TakersAreNodes, LawfulReplicasAreNamedOnce}
-use Rattle.sc_live_journals.specs.scenes.Definitions.{IsThere, IsNowhere, AreUntouched, IsDelivered, FreshGroupsStay, FindsOrder, GoesBy, StageAfter, IsTaking, LeadsAlone}
+use Rattle.sc_live_answers.specs.Definitions.{ReplicasRunLogs, IsUnsettled, IsNamedGuide, NewestStay, WellLedLeadAlone, IsOrdersRow, OrdersRowsFind, OrdersRowsMeet, IsQuietWhileYoung, IsSentStep, NextRowsAreSent, SentReplicas, IsNoRequest, IsPlainAt, over_at, slot_leaders_at, NextRowsRise, IsRisingOn, IsRoundSince, OrdersKeepRounds, PrefixesAreFound, NoMailForStrangers, IsCalmJournal, AreSent, ContinuesBy, IsNamedGroup, IsUnder, IsYoungAt, AllLeadAlone, IsKnownMail, OrderRowsFindCalm, ViewsAgree, ChildrenAreCreated, IsWorkingRow, ChildrenWereNowhere, IsUnanswered, YoungGroupsStay, AreSeen, IsTrueSince, LeadsSince, EntriesAreTrue, MailComesUnsettled, TakesSince, IsHinted, CoordinatorsAreHinted, HintedOrdersGoOn, AreSettled, CoordinatorsAreSettled, SettledOrdersGoOn, EndingGroupsGoOn, IsGoingSince, NamesStayFew, NoneWaits, AskedGroupsStood, ContinuesSince, TrueOrdersGoOn, IsGuidedRow, DeliveriesKeepWork, WorkStandsAlone, FlightsAreEntries, OrderErrandsGoToNodes, IsOfJournal, IsOrderedSince, DeliveriesKeepOrdered, TakersAreNodes, LawfulReplicasAreNamedOnce, IsTrueEntry, Does, HasNumber, LockNumber, IsReported, IsGiven, IsOrderHeld}
+use Rattle.sc_live_journals.specs.scenes.Definitions.{IsThere, IsNowhere, AreUntouched, IsDelivered, FreshGroupsStay, FindsOrder, GoesBy, StageAfter, IsTaking, LeadsAlone, scene_at}
 use Rattle.sc_live_steps.specs.entries.LoneEntries.{IsEntry}
 use Rattle.sc_live_journals.specs.charts.Definitions.{chart_at, quiet_prefix}
 use Rattle.sc_live_plain.specs.Definitions.{replicas_after, DoHintsRise}
@@ -29,6 +30,9 @@ use Rattle.sc_live_answers.proofs.GuidedGroups.{named_there}
 use Rattle.sc_live_answers.proofs.ClientsUnderOrders.{started_still, other_stays}
 use Rattle.sc_live_answers.proofs.PlayerReplicas.{place_of}
 use Rattle.sc_live_answers.proofs.SentMailGroups.{known_after}
+use Rattle.sc_live_answers.proofs.HeldOrders.{AreLeaders, held_on}
+use Rattle.sc_live_answers.proofs.HeldOrdersAtStart.{given_rows}
+use Rattle.sc_live_answers.proofs.UnusedNames.{order_unnamed}
 
 -- mail that asks elsewhere, or any other
 elsewhere_or : (body : MailBody) → ((tx coord : Draw) × (hint : Option ℕ) × (body ≡ TxElsewhere tx coord hint)) ⊎ ((tx coord : Draw) (hint : Option ℕ) → body ≡ TxElsewhere tx coord hint → ⊥)
@@ -241,6 +245,36 @@ module _ (all_bounded : ValidScenariosAreBounded) (few_law : SlotsAreLeft) (logs
       ending_groups_law words scenario first journal quiet rows seat number under.stage next_stage.0 goes_since under.sent steps under.reached
       (λ base among nowhere. young_after base among (at_row.never_there last_law no_law words scenario first journal quiet rows o.behind seat number calm o.rows_are under on base.core.id nowhere)) leads_since next_stage.1.stands next_stage.2 o.goes
 
+  -- ---- the order's result
+
+  named_after : (name : Draw) → IsThere all then name → IsNamedGroup scenario journal name
+  named_after = named_there found_law words scenario journal then calm on.front
+
+  lead_after : (name : Draw) (node : ℕ) (r : ReplicaState) → view_at all then name node ≡ Some r → r.running ≡ true → LeadsAlone all then name node r
+  lead_after name node r e runs =
+      let g = named_after name (node, r, e) in
+      let t = sent_after g.0 g.1 in
+      subst (λ n. LeadsAlone all then n node r) g.2 (alone_law.alone _ _ _ words all then g.0 t.course node r t.led (ap (λ n. view_at all then n node) g.2 ∙ e) runs).0
+
+  leaders : AreLeaders o.line.number all rows then
+  leaders = record {
+    flights = λ name node r e. Each-weaker (λ (flight : Flight Command). Does o.task name flight.value) (λ (flight : Flight Command). HasNumber o.line.number flight.value) (λ flight d. subst (λ n. HasNumber n flight.value) o.is_task.number d.1) r.leader.flights (o.work.replicas name node r e).flights;
+    locks = λ name node r e. subst (λ n. LockNumber n r.group.core.lock) o.is_task.number (o.work.replicas name node r e).state.1;
+    entries = λ name node r e runs flight among. Each-among (λ (f : Flight Command). IsTrueEntry r.me r.group f.value) r.leader.flights flight (entries_law words scenario first journal quiet rows name node r under.stage (leads_since name node r e runs)) among;
+    alone = lead_after;
+  }
+
+  result_after : IsReported (mails then) o.line.number ⊎ IsOrderHeld (scene_at all then)
+  result_after =
+      held_on o.line.number o.told words all quiet rows seat number on.seated on.timely finds under.stage under.untouched.stands o.true_since.done
+      (order_unnamed words scenario quiet rows under.stage (all_bounded scenario calm.valid) (found_law words scenario journal quiet calm under.rests.front).lawful o.true_since) leaders next_stage.0 next_stage.1.stands next_stage.2 o.result
+
+  only_after : (other : OrderLine) → IsGiven then other → IsGiven quiet other ⊎ (other ≡ o.line)
+  only_after other given = elim (given_rows rows row other given) [
+    | inl before_ ↦ o.only other before_
+    | inr e ↦ absurd (let e_ : Deliver number ≡ Told other = e in cc)
+  ]
+
   keeps : IsOrderedSince words scenario first journal quiet then
   unfolding under_after
   keeps = record {
@@ -255,6 +289,9 @@ module _ (all_bounded : ValidScenariosAreBounded) (few_law : SlotsAreLeft) (logs
     settled = settled_after;
     hinted = hinted_after;
     line = o.line;
+    only = only_after;
+    told = o.told;
+    result = result_after;
     task = o.task;
     is_task = o.is_task;
     work = work_law.keeps words scenario rows seat number o.task guided_row o.work;

@@ -1,5 +1,5 @@
 -- An order given in a quiet prefix begins all that holds while it is under way.
-use Rattle.std.proofs.Common.{◌≡◌, ◌≤◌, ℕ, true, false, List, [], ◌∷◌, Some, inl, inr, refl, sym, ◌∙◌, ap, arith}
+use Rattle.std.proofs.Common.{◌≡◌, ◌⊎◌, ◌≤◌, ℕ, true, false, List, [], ◌∷◌, Some, inl, inr, refl, sym, ◌∙◌, ap, subst, arith}
 use Rattle.std.proofs.lemmas.Bool.{cases_Bool}
 use Rattle.sc_base.specs.Definitions.{Among, Each}
 use Rattle.sc_node_table.specs.Values.{Draw, Base, OrderLine, Mail, Seat, Row}
@@ -17,13 +17,16 @@ use Rattle.sc_live_steps.specs.orders.Definitions.{Stage, Still}
 use Rattle.sc_live_journals.specs.rows.Definitions.{view_at, marks_at, IsSeat, with_event}
 use Rattle.sc_live_journals.specs.mail.Definitions.{SlotsAreLeft}
 use Rattle.sc_live_journals.specs.logs.Definitions.{IsGroupOf, ViewsAreReplicas, SlotsHaveRosters, logged_sets}
-use Rattle.sc_live_answers.specs.Definitions.{ReplicasRunLogs, IsNamedGuide, IsReachedSo, NewestStay, IsOrdersRow, OrdersRowsFind, IsQuietWhileYoung, IsSentStep, NextRowsAreSent, SentReplicas, over_at, slot_leaders_at, NextRowsRise, IsRisingOn, IsRoundSince, OrdersKeepRounds, PrefixesAreFound, IsFoundPrefix, NoMailForStrangers, GoesToNode, OrderErrandsGoToNodes, NodeErrandsReachPlayers, IsCalmJournal, IsPrefixOf, AreSent, IsNamedGroup, RestsAt, IsUnder, IsYoungAt, GivenOrdersFindCalm, ViewsAgree, ChildrenAreCreated, YoungGroupsStay, TrueOrdersBegin, EndingGroupsBegin, NamesStayFew, NoneWaits, IsHinted, HintedOrdersBegin, SettledOrdersBegin, AreSeen, OrdersBeginWork, WorkStandsAlone, IsOrderedSince, OrdersBeginOrdered}
-use Rattle.sc_live_journals.specs.scenes.Definitions.{IsThere, IsNowhere, AreUntouched, IsGivenInQuiet, FreshGroupsStay, FindsOrder, FoundOrdersStep, StageAfter}
+use Rattle.sc_live_answers.specs.Definitions.{ReplicasRunLogs, IsNamedGuide, IsReachedSo, NewestStay, IsOrdersRow, OrdersRowsFind, IsQuietWhileYoung, IsSentStep, NextRowsAreSent, SentReplicas, over_at, slot_leaders_at, NextRowsRise, IsRisingOn, IsRoundSince, OrdersKeepRounds, PrefixesAreFound, IsFoundPrefix, NoMailForStrangers, GoesToNode, OrderErrandsGoToNodes, NodeErrandsReachPlayers, IsCalmJournal, IsPrefixOf, AreSent, IsNamedGroup, RestsAt, IsUnder, IsYoungAt, GivenOrdersFindCalm, ViewsAgree, ChildrenAreCreated, YoungGroupsStay, TrueOrdersBegin, EndingGroupsBegin, NamesStayFew, NoneWaits, IsHinted, HintedOrdersBegin, SettledOrdersBegin, AreSeen, OrdersBeginWork, WorkStandsAlone, IsOrderedSince, OrdersBeginOrdered, IsGiven}
+use Rattle.sc_live_journals.specs.scenes.Definitions.{IsThere, IsNowhere, AreUntouched, IsGivenInQuiet, FreshGroupsStay, FindsOrder, FoundOrdersStep, StageAfter, LeadsAlone}
 use Rattle.sc_live_journals.specs.charts.Definitions.{chart_at}
 use Rattle.sc_live_answers.proofs.GuidedGroups as at_row
 use Rattle.sc_live_answers.proofs.GuidedGroups.{named_there, reached_even}
 use Rattle.sc_live_answers.proofs.ClientsUnderOrders.{started_still, told_stays}
 use Rattle.sc_live_answers.proofs.SentMailGroups.{known_told}
+use Rattle.sc_policy.specs.Definitions.{is_told as is_told_order}
+use Rattle.sc_live_answers.proofs.HeldOrdersAtStart.{given_allowed, given_rows, held_at_start}
+use Rattle.sc_live_answers.proofs.WellLedLeaders.{well_led_lead_alone}
 
 module _ (all_bounded : ValidScenariosAreBounded) (few_law : SlotsAreLeft) (logs_law : ReplicasRunLogs) (views_law : ViewsAreReplicas) (rosters_law : SlotsHaveRosters) (next_law : NextRowsAreSent) (newest_law : NewestStay) (found_law : PrefixesAreFound) (no_law : NoMailForStrangers)
     (agree_law : ViewsAgree) (plain_law : SentReplicas) (finds_law : OrdersRowsFind) (fresh_law : FreshGroupsStay) (young_law : YoungGroupsStay) (true_law : TrueOrdersBegin) (settled_law : SettledOrdersBegin) (hinted_law : HintedOrdersBegin) (work_law : OrdersBeginWork) (created_law : ChildrenAreCreated) (rise_law : NextRowsRise) (rounds_law : OrdersKeepRounds) (stands_law : WorkStandsAlone) (calm_law : GivenOrdersFindCalm) (errands_law : OrderErrandsGoToNodes) (actors_law : NodeErrandsReachPlayers) (ending_groups_law : EndingGroupsBegin) (waits_law : NoneWaits) (names_law : NamesStayFew) (step_law : FoundOrdersStep)
@@ -149,6 +152,22 @@ module _ (all_bounded : ValidScenariosAreBounded) (few_law : SlotsAreLeft) (logs
   found : IsFoundPrefix words scenario journal quiet
   found = found_law words scenario journal quiet calm rests.front
 
+  lead_after : (name : Draw) (node : ℕ) (r : ReplicaState) → view_at all then name node ≡ Some r → r.running ≡ true → LeadsAlone all then name node r
+  lead_after name node r e runs =
+      let g = named_there found_law words scenario journal then calm front name (node, r, e) in
+      let t = sent_after g.0 g.1 in
+      subst (λ n. LeadsAlone all then n node r) g.2 (well_led_lead_alone.alone _ _ _ words all then g.0 t.course node r t.led (ap (λ n. view_at all then n node) g.2 ∙ e) runs).0
+
+  -- the order is one for a node of the scenario
+  allowed : ((1 ≤ seat.who) × (seat.who ≤ scenario.nodes)) × (is_told_order line.number ≡ true)
+  allowed = given_allowed words scenario journal quiet row line calm front refl
+
+  only_begins : (other : OrderLine) → IsGiven then other → IsGiven quiet other ⊎ (other ≡ line)
+  only_begins other given = elim (given_rows quiet row other given) [
+    | inl before_ ↦ inl before_
+    | inr e ↦ inr (let both : Told line ≡ Told other = e in cc)
+  ]
+
   begins : IsOrderedSince words scenario first journal quiet then
   unfolding under_after
   begins =
@@ -166,6 +185,9 @@ module _ (all_bounded : ValidScenariosAreBounded) (few_law : SlotsAreLeft) (logs
         settled = settled_law words scenario first journal quiet seat line begun.0 calm rests seen told_so front sent_after strangers begun.1.stands true_so;
         hinted = hinted_after;
         line = line;
+        only = only_begins;
+        told = allowed.1;
+        result = held_at_start words scenario quiet seat line seated allowed.0 (λ name who r e. (at_rest name who r e, λ runs. plain name who r e, room name who r e)) lead_after;
         task = work.0;
         is_task = work.1;
         work = work.2;

@@ -14,6 +14,7 @@ use Rattle.sc_law_groups.proofs.GroupProofs.Lemmas.{ordered_if}
 use Rattle.sc_live_answers.specs.Definitions.{IsNoSplit, DoesSplit, DoesOther, DoesBy, SplitsInto, LockSplits, LockOther, IsBy, CreatesBy}
 use Rattle.sc_live_answers.proofs.Affairs.{Affair, BeginsFree}
 use Rattle.sc_live_answers.proofs.ChildrenUnderOrders.{none_some}
+use Rattle.sc_live_answers.proofs.OrderNumbers.{numbered, numbered_free}
 use Rattle.sc_law_entries.proofs.HistoryProofs.Lemmas.{free_by}
 
 -- of two that are off, the first is
@@ -344,6 +345,13 @@ affair_by false told child = record {
   watch = λ name tx vote by. tt;
 }
 
-pub begins_free : (b : Bool) (told child : Draw) → BeginsFree (affair_by b told child)
-begins_free true told child = record { free = λ name core e. lock_free told child name core e; young = λ name base b. b.2 }
-begins_free false told child = record { free = λ name core e. subst LockOther (sym e) tt; young = λ name base b. absurd b }
+by_free : (b : Bool) (told child : Draw) → BeginsFree (affair_by b told child)
+by_free true told child = record { free = λ name core e. lock_free told child name core e; young = λ name base b. b.2 }
+by_free false told child = record { free = λ name core e. subst LockOther (sym e) tt; young = λ name base b. absurd b }
+
+-- an order with this number
+abbrev pub affair_of : ℕ → Bool → Draw → Draw → Affair
+affair_of number b told child = numbered number (affair_by b told child)
+
+pub begins_free : (number : ℕ) (b : Bool) (told child : Draw) → BeginsFree (affair_of number b told child)
+begins_free number b told child = numbered_free number (affair_by b told child) (by_free b told child)

@@ -19,7 +19,7 @@ use Rattle.sc_live_answers.specs.Definitions.{Executed, HasDone, HasStepped, Res
 use Rattle.sc_live_answers.proofs.LeaderDeeds.{lead_works, one_not_none}
 use Rattle.sc_live_answers.proofs.OrderFactsAfterDeliveries.{has_asked, has_done, has_new}
 use Rattle.sc_live_answers.proofs.QuietLeaders.{stands_there}
-use Rattle.sc_live_answers.proofs.LeaderDeliveries.{Aside, Fate, Leading, Missed, New, Same, fate}
+use Rattle.sc_live_answers.proofs.LeaderDeliveries.{Aside, Fate, Leading, Missed, New, Same, fate, steps_of}
 use Rattle.sc_live_answers.proofs.OpenedTransactions.{no_asking}
 pub use Rattle.sc_live_answers.proofs.OrderPremises.{no_works as rests_idle}
 
@@ -185,7 +185,7 @@ module _ (tells : ReplicasAreRecorded) (words : ℕ → ℕ → ℕ × ℕ) (sce
 
         by_fate : Fate words (births as_nodes scenario) rows seat number g.goes.seated g.goes.timely g.finds (stage, g.untouched.stands) deal.asked → Has
         by_fate (Same e) = idle_there e
-        by_fate (Leading x made leads e steps) = led x made leads e steps
+        by_fate (Leading x made leads row acts) = led x made.0 leads row.is (steps_of x made acts)
         by_fate (Aside mail x c beside f) = aside mail x c f
         by_fate (Missed mail at t none) = missed mail at t none
         by_fate (New b) = born_now b

@@ -1,5 +1,5 @@
 -- The segments of a calm journal: quiet prefixes that rest, requests behind them, and orders.
-use Rattle.std.proofs.Common.{◌≡◌, ℕ, ◌+◌, ◌≤◌, true, false, true≢false, List, [], ◌∷◌, ◌++◌, length, refl, sym, ◌∙◌, ap, subst, arith, append_assoc, append-nil}
+use Rattle.std.proofs.Common.{◌≡◌, ℕ, ◌+◌, ◌≤◌, true, false, true≢false, List, [], ◌∷◌, ◌++◌, length, inl, inr, refl, sym, ◌∙◌, ap, subst, arith, append_assoc, append-nil}
 use Rattle.sc_base.specs.Definitions.{Each}
 use Rattle.sc_node_table.specs.Values.{Base, OrderLine, Mail, Seat, Event, Deliver, Row}
 use Rattle.sc_actor.specs.declared.rows.Event.TheVariants.{Told}
@@ -10,17 +10,28 @@ use Rattle.sc_scenario.specs.declared.scenarios.Scenario.{Scenario}
 use Rattle.sc_sound.specs.Definitions.{Player, player_table, births, as_nodes}
 use Rattle.sc_live_steps.specs.calm.Definitions.{players, FindsCalm, Rows}
 use Rattle.sc_live_steps.specs.orders.Definitions.{Still}
-use Rattle.sc_live_journals.specs.scenes.Definitions.{IsThere, StageAfter}
+use Rattle.sc_live_journals.specs.scenes.Definitions.{IsThere, StageAfter, scene_at}
 use Rattle.sc_live_plain.specs.Definitions.{DoHintsRise, replicas_after}
 use Rattle.sc_live_journals.specs.rows.Definitions.{IsSeat, with_event}
 use Rattle.sc_live_journals.specs.charts.Definitions.{chart_at, names_at, quiet_prefix}
-use Rattle.sc_live_answers.specs.Definitions.{IsCalmJournal, IsPrefixOf, ContinuesBy, RestsAt, JournalsBeginResting, GoesToNode, RequestsSendNoErrands, NodeErrandsReachPlayers, IsAskedSince, RequestsBeginAsked, AskedRowsGoOn, AskedRowsFindCalm, RequestsKeepGroups, RequestsRestAgain, IsOrderedSince, OrdersBeginOrdered, DeliveriesKeepOrdered, OrdersLeaveResting, HasFewNames, ClientsAreNear, NamesStayFew}
+use Rattle.sc_live_answers.specs.Definitions.{IsCalmJournal, IsPrefixOf, ContinuesBy, RestsAt, JournalsBeginResting, GoesToNode, RequestsSendNoErrands, NodeErrandsReachPlayers, IsAskedSince, RequestsBeginAsked, AskedRowsGoOn, AskedRowsFindCalm, RequestsKeepGroups, RequestsRestAgain, IsOrderedSince, OrdersBeginOrdered, DeliveriesKeepOrdered, OrdersLeaveResting, HasFewNames, ClientsAreNear, NamesStayFew, IsReported, AreReported}
+use Rattle.sc_actor.proofs.Lemmas.{mails-append, mails-snoc}
+use Rattle.sc_live_answers.proofs.HeldOrders.{none_holds}
+use Rattle.sc_live_answers.proofs.HeldOrdersAtStart.{given_rows}
+use Rattle.sc_live_answers.proofs.ReportedMail.{reported_more}
 use Rattle.sc_live_answers.proofs.Segments.{Parts, IsSegment, segments}
 
 -- an order that is given
 pub told_line : (event : Event OrderLine) → is_told event ≡ true → (line : OrderLine) × (event ≡ Told line)
 told_line (Told line) told = (line, refl)
 told_line _ told = absurd (true≢false (sym told))
+
+-- a row that gives no order leaves the results reported
+reported_on : (rows : Rows) (row : Row Mail OrderLine) → is_told row.event ≡ false → AreReported rows → AreReported (rows ++ row ∷ [])
+reported_on rows row untold all line given = elim (given_rows rows row line given) [
+  | inl before ↦ subst (λ ms. IsReported ms line.number) (sym (mails-snoc rows row)) (reported_more line.number (mails rows) row.sent (all line before))
+  | inr e ↦ absurd (true≢false (sym (ap is_told e) ∙ untold))
+]
 
 -- the laws that stand below segments
 pub record SegmentLaws : Type 0 where
@@ -51,15 +62,17 @@ module _ (laws : SegmentLaws) (words : ℕ → ℕ → ℕ × ℕ) (scenario : S
   abbrev s : System Player Mail OrderLine
   s = players words (births as_nodes scenario)
 
-  -- a quiet prefix that rests, in which errands went to nodes, and no more groups were led than there were groups and orders
+  -- a quiet prefix that rests, in which errands went to nodes, no more groups were led than there were groups and orders, and the result of each order was reported
   pub record RestsSo (quiet : Rows) : Type 0 where
     pub rests : RestsAt words scenario first journal quiet
+    pub reported : AreReported quiet
     pub home : Each (GoesToNode scenario) (mails quiet)
     pub named : HasFewNames scenario quiet
 
   -- clients asked alone since
   pub record AsksSo (quiet rows : Rows) : Type 0 where
     pub asked : IsAskedSince words scenario first far sends journal quiet rows
+    pub reported : AreReported (quiet ++ rows)
     pub home : Each (GoesToNode scenario) (mails (quiet ++ rows))
     pub named : names_at all (quiet ++ rows) ≡ names_at all quiet
 
@@ -73,6 +86,7 @@ module _ (laws : SegmentLaws) (words : ℕ → ℕ → ℕ × ℕ) (scenario : S
   pub asks_none : (quiet : Rows) → IsPrefixOf journal quiet → RestsSo quiet → AsksSo quiet []
   asks_none quiet front r = record {
     asked = (laws.ask_law words scenario first others far sends journal quiet frame.calm frame.groups r.rests (frame.few quiet front).0).0;
+    reported = subst AreReported (sym (append-nil quiet)) r.reported;
     home = subst (λ (l : Rows). Each (GoesToNode scenario) (mails l)) (sym (append-nil quiet)) r.home;
     named = ap (names_at all) (append-nil quiet);
   }
@@ -84,6 +98,7 @@ module _ (laws : SegmentLaws) (words : ℕ → ℕ → ℕ × ℕ) (scenario : S
       let later = laws.stay_law words scenario first others far sends journal quiet rows row frame.calm frame.groups a.asked front untold in
       record {
         asked = later;
+        reported = subst AreReported shift (reported_on (quiet ++ rows) row untold a.reported);
         home = laws.silent_law words scenario first others far sends journal quiet rows row frame.calm frame.groups r.rests a.asked.known a.asked.requested later.requested a.home;
         named = ap (names_at all) (sym shift)
             ∙ laws.names_law.asked words scenario first journal quiet (quiet ++ rows) row frame.calm r.rests
@@ -138,7 +153,7 @@ module _ (laws : SegmentLaws) (words : ℕ → ℕ → ℕ × ℕ) (scenario : S
   pub parts : Parts s (IsPrefixOf journal) RestsSo AsksSo OrdersSo
   parts = record {
     prefixes = prefix_before;
-    begins = record { rests = laws.begin_law words scenario first others journal frame.groups frame.calm; home = tt; named = laws.names_law.born words scenario journal frame.calm };
+    begins = record { rests = laws.begin_law words scenario first others journal frame.groups frame.calm; reported = λ line given. absurd given.among; home = tt; named = laws.names_law.born words scenario journal frame.calm };
     goes = λ quiet row front timely r untold. asks_row quiet [] row front r (asks_none quiet (prefix_before quiet row front) r) untold;
     asks = λ quiet rows row front timely r a untold. asks_row quiet rows row front r a untold;
     told = λ quiet row front timely r told. (
@@ -154,11 +169,19 @@ module _ (laws : SegmentLaws) (words : ℕ → ℕ → ℕ × ℕ) (scenario : S
         (delivered_row quiet (quiet ++ rows) row (subst (IsPrefixOf journal) (sym shift) front) timely_row o c.seat number (c.row_is ∙ ap (row_of player_table c.seat (quiet ++ rows)) event) c.born));
     answered = λ quiet rows front timely r a still. record {
       rests = laws.again_law words scenario first others far sends journal quiet rows frame.calm frame.groups a.asked still (laws.actors_law words scenario (mails (quiet ++ rows)) a.home);
+      reported = a.reported;
       home = a.home;
       named = (let same = ap length a.named in let low = r.named in let more = orders_more quiet rows in omega (arith, same, low, more));
     };
     over = λ quiet rows front timely r o still. record {
       rests = laws.over_law words scenario first others journal quiet (quiet ++ rows) frame.groups frame.calm o still;
+      reported = λ line given. elim (o.only line given) [
+        | inl before ↦ subst (λ ms. IsReported ms line.number) (sym (mails-append quiet rows)) (reported_more line.number (mails quiet) (mails rows) (r.reported line before))
+        | inr same ↦ elim o.result [
+          | inl told ↦ subst (λ (x : OrderLine). IsReported (mails (quiet ++ rows)) x.number) (sym same) told
+          | inr held ↦ absurd (none_holds Still (scene_at all (quiet ++ rows)) (λ none. none) (laws.over_law words scenario first others journal quiet (quiet ++ rows) frame.groups frame.calm o still).still held)
+        ]
+      ];
       home = o.home;
       named = laws.names_law.over scenario quiet (quiet ++ rows) o.task o.names o.one_order r.named;
     };

@@ -25,7 +25,7 @@ use Rattle.sc_live_journals.proofs.ScenesProofs.Lemmas.{client_leaves, now_is, a
 use Rattle.sc_live_answers.specs.Definitions.{Task, is_split, AreAtWork, IsTaskOf, OrdersBeginWork}
 use Rattle.sc_live_answers.proofs.Affairs.{Affair, BeginsFree, AreGood}
 use Rattle.sc_live_answers.proofs.WorkInRows.{HeldSo, RowHolds}
-use Rattle.sc_live_answers.proofs.OrderTasks.{affair_by, begins_free}
+use Rattle.sc_live_answers.proofs.OrderTasks.{affair_of, begins_free}
 use Rattle.sc_live_answers.proofs.OrderCommands.{order_fine}
 use Rattle.sc_live_answers.proofs.WorkInPrefixes.{AreHeld, goes_on, held_work}
 use Rattle.sc_live_answers.proofs.DrawnNames.{drawn_nowhere, drawn_unknown}
@@ -88,20 +88,20 @@ module _ (well : ScenariosAreWellBorn) (words : ℕ → ℕ → ℕ × ℕ) (sce
   abbrev Done : Type 0
   Done = (task : Task) × IsTaskOf (births as_nodes scenario) quiet line task × AreAtWork task words (births as_nodes scenario) (with_event quiet seat (Told line))
 
-  finish : (task : Task) → IsTaskOf (births as_nodes scenario) quiet line task → Begins (affair_by task.splits task.group task.name) → Done
+  finish : (task : Task) → IsTaskOf (births as_nodes scenario) quiet line task → Begins (affair_of task.number task.splits task.group task.name) → Done
   finish task of b =
-      (task, of, held_work task words (births as_nodes scenario) (with_event quiet seat (Told line)) (goes_on (affair_by task.splits task.group task.name) words (births as_nodes scenario) quiet seat (Told line) timely b (quiet_held (affair_by task.splits task.group task.name) (begins_free task.splits task.group task.name))))
+      (task, of, held_work task words (births as_nodes scenario) (with_event quiet seat (Told line)) (goes_on (affair_of task.number task.splits task.group task.name) words (births as_nodes scenario) quiet seat (Told line) timely b (quiet_held (affair_of task.number task.splits task.group task.name) (begins_free task.number task.splits task.group task.name))))
 
   -- an order of which nothing comes
-  nothing : Begins (affair_by false group group) → Done
-  nothing b = finish (record { group = group; name = group; splits = false }) (record { group = refl; there = λ t. absurd (true≢false (sym t)); new = λ t. absurd (true≢false (sym t)); unknown = λ t. absurd (true≢false (sym t)) }) b
+  nothing : Begins (affair_of line.number false group group) → Done
+  nothing b = finish (record { number = line.number; group = group; name = group; splits = false }) (record { number = refl; group = refl; there = λ t. absurd (true≢false (sym t)); new = λ t. absurd (true≢false (sym t)); unknown = λ t. absurd (true≢false (sym t)) }) b
 
   client_begins : (client : ClientState) → value player_table seat quiet ≡ Client client → Done
   client_begins client is =
       nothing (record {
-        views = λ name r v. rest_so (affair_by false group group) (begins_free false group group) name r
+        views = λ name r v. rest_so (affair_of line.number false group group) (begins_free line.number false group group) name r
             (rests name seat.who r (sym (client_leaves words all quiet seat (Told line) seated timely client is name (ToldInput line) refl refl).view ∙ v)).0;
-        good = subst (AreGood (affair_by false group group)) (sym (sent_is all quiet seat (Told line) group seated (Client client) is (Some (ToldInput line)) refl)) tt;
+        good = subst (AreGood (affair_of line.number false group group)) (sym (sent_is all quiet seat (Told line) group seated (Client client) is (Some (ToldInput line)) refl)) tt;
       })
 
   module _ (node : NodeState) (is : value player_table seat quiet ≡ Node node) where
@@ -120,10 +120,10 @@ module _ (well : ScenariosAreWellBorn) (words : ℕ → ℕ → ℕ × ℕ) (sce
     none_begins : replica_of group node.replicas ≡ None → Done
     none_begins here =
         nothing (record {
-          views = λ name r v. rest_so (affair_by false group group) (begins_free false group group) name r
+          views = λ name r v. rest_so (affair_of line.number false group group) (begins_free line.number false group group) name r
               (rests name seat.who r (view_of name (Some r) (sym (now_is all quiet seat (Told line) node seated is (node, told_desk node.me line.number (Refused (NotLeader None)) []) (Some (ToldInput line)) refl
               (ap (λ (x : NodeState × List Mail). (Node x.0, x.1)) (ap (λ o. ordered_of o line node) here)) name) ∙ v))).0;
-          good = subst (AreGood (affair_by false group group)) (sym (all_sent all quiet seat (Told line) node seated is (node, told_desk node.me line.number (Refused (NotLeader None)) []) (Some (ToldInput line)) refl
+          good = subst (AreGood (affair_of line.number false group group)) (sym (all_sent all quiet seat (Told line) node seated is (node, told_desk node.me line.number (Refused (NotLeader None)) []) (Some (ToldInput line)) refl
               (ap (λ (x : NodeState × List Mail). (Node x.0, x.1)) (ap (λ o. ordered_of o line node) here)))) (tt, tt);
         })
 
@@ -162,14 +162,14 @@ module _ (well : ScenariosAreWellBorn) (words : ℕ → ℕ → ℕ × ℕ) (sce
       by_taken : (o : Option OrderRefusal) → untaken node.draws line r ≡ o → Done
       by_taken (Some why) e =
           let is_ : after ≡ (r, told_desk r.me line.number (Refused why) []) = refused why e in
-          nothing (begins (affair_by false group group) (begins_free false group group) (subst (λ (p : Place). HeldSo (affair_by false group group) group p.0) (sym is_) (rest_so (affair_by false group group) (begins_free false group group) group r rest.0))
-          (subst (λ (p : Place). AreGood (affair_by false group group) p.1) (sym is_) (tt, tt)))
+          nothing (begins (affair_of line.number false group group) (begins_free line.number false group group) (subst (λ (p : Place). HeldSo (affair_of line.number false group group) group p.0) (sym is_) (rest_so (affair_of line.number false group group) (begins_free line.number false group group) group r rest.0))
+          (subst (λ (p : Place). AreGood (affair_of line.number false group group) p.1) (sym is_) (tt, tt)))
       by_taken None e =
           let fine = order_fine node.draws line r rest.0 own rest.1 rest.2 kept.1 in
           let born = born_node seat.actor refl in
-          finish (record { group = group; name = next_name node.draws; splits = is_split line.order })
-          (record { group = refl; there = λ t. (seat.who, r, view_of group (Some r) here); unknown = λ t. drawn_unknown words scenario quiet bounded lawful seat line born.0 born.1 seated node is r here e (split_names line.order t); new = λ t. drawn_nowhere words scenario quiet bounded lawful seat line born.0 born.1 seated node is r here e (split_names line.order t) })
-          (begins (affair_by (is_split line.order) group (next_name node.draws)) (begins_free (is_split line.order) group (next_name node.draws)) (fine.0.1, fine.0.2, fine.0.3, fine.0.4, fine.0.5) fine.1)
+          finish (record { number = line.number; group = group; name = next_name node.draws; splits = is_split line.order })
+          (record { number = refl; group = refl; there = λ t. (seat.who, r, view_of group (Some r) here); unknown = λ t. drawn_unknown words scenario quiet bounded lawful seat line born.0 born.1 seated node is r here e (split_names line.order t); new = λ t. drawn_nowhere words scenario quiet bounded lawful seat line born.0 born.1 seated node is r here e (split_names line.order t) })
+          (begins (affair_of line.number (is_split line.order) group (next_name node.draws)) (begins_free line.number (is_split line.order) group (next_name node.draws)) (fine.0.1, fine.0.2, fine.0.3, fine.0.4, fine.0.5) fine.1)
 
     node_begins : (o : Option ReplicaState) → replica_of group node.replicas ≡ o → Done
     node_begins None here = none_begins here

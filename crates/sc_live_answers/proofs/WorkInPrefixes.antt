@@ -23,7 +23,7 @@ use Rattle.sc_live_answers.proofs.Affairs.{Affair, BeginsFree, Says, IsGood, Are
 use Rattle.sc_live_answers.proofs.AffairParts.{Kids}
 use Rattle.sc_live_answers.proofs.WorkInRows.{HeldSo, RowHolds, delivery_holds, delivery_creates, delivery_unborn}
 use Rattle.sc_live_answers.proofs.UnknownChildren.{IsUnborn, kid_unborn}
-use Rattle.sc_live_answers.proofs.OrderTasks.{affair_by, begins_free}
+use Rattle.sc_live_answers.proofs.OrderTasks.{affair_of, begins_free}
 use Rattle.std.proofs.lemmas.Option.{same_Some}
 use Rattle.sc_live_answers.proofs.SentMailGroups.{each_filter}
 
@@ -89,84 +89,84 @@ module _ (well : ScenariosAreWellBorn) (a : Affair) (begins : BeginsFree a) (wor
 -- ---- of a task
 
 -- what a mail says of a task is what it says of its affair
-says_so : (b : Bool) (told child : Draw) (body : MailBody) → SaysWork (record { group = told; name = child; splits = b }) body → Says (affair_by b told child) body
-says_so false told child (Request group client seq op) q = q
-says_so false told child (Answer group seq answer) q = q
-says_so false told child (Learn group slot command) q = q
-says_so false told child (Install group slot base sets) q = q
-says_so false told child (TxPrepare tx offer) q = q
-says_so false told child (TxVote tx coord part vote) q = q
-says_so false told child (Prepare group ballot from_slot) q = q
-says_so false told child (Promise group ballot reports) q = q
-says_so false told child (Accept group ballot slot command) q = q
-says_so false told child (Accepted group ballot slot) q = q
-says_so false told child (Nack group promised) q = q
-says_so false told child (Ask group from_slot) q = q
-says_so false told child (TxOutcome tx part outcome) q = q
-says_so false told child (TxElsewhere tx coord hint) q = q
-says_so false told child (TxWatch tx watch) q = q
-says_so false told child (TxWatched tx coord part vote) q = q
-says_so false told child (ToldMail order result) q = q
-says_so true told child _ q = q
+says_so : (n : ℕ) (b : Bool) (told child : Draw) (body : MailBody) → SaysWork (record { number = n; group = told; name = child; splits = b }) body → Says (affair_of n b told child) body
+says_so n false told child (Request group client seq op) q = q
+says_so n false told child (Answer group seq answer) q = q
+says_so n false told child (Learn group slot command) q = q
+says_so n false told child (Install group slot base sets) q = q
+says_so n false told child (TxPrepare tx offer) q = q
+says_so n false told child (TxVote tx coord part vote) q = q
+says_so n false told child (Prepare group ballot from_slot) q = q
+says_so n false told child (Promise group ballot reports) q = q
+says_so n false told child (Accept group ballot slot command) q = q
+says_so n false told child (Accepted group ballot slot) q = q
+says_so n false told child (Nack group promised) q = q
+says_so n false told child (Ask group from_slot) q = q
+says_so n false told child (TxOutcome tx part outcome) q = q
+says_so n false told child (TxElsewhere tx coord hint) q = q
+says_so n false told child (TxWatch tx watch) q = q
+says_so n false told child (TxWatched tx coord part vote) q = q
+says_so n false told child (ToldMail order result) q = q
+says_so n true told child _ q = q
 
-says_back : (b : Bool) (told child : Draw) (body : MailBody) → Says (affair_by b told child) body → SaysWork (record { group = told; name = child; splits = b }) body
-says_back false told child (Request group client seq op) q = q
-says_back false told child (Answer group seq answer) q = q
-says_back false told child (Learn group slot command) q = q
-says_back false told child (Install group slot base sets) q = q
-says_back false told child (TxPrepare tx offer) q = q
-says_back false told child (TxVote tx coord part vote) q = q
-says_back false told child (Prepare group ballot from_slot) q = q
-says_back false told child (Promise group ballot reports) q = q
-says_back false told child (Accept group ballot slot command) q = q
-says_back false told child (Accepted group ballot slot) q = q
-says_back false told child (Nack group promised) q = q
-says_back false told child (Ask group from_slot) q = q
-says_back false told child (TxOutcome tx part outcome) q = q
-says_back false told child (TxElsewhere tx coord hint) q = q
-says_back false told child (TxWatch tx watch) q = q
-says_back false told child (TxWatched tx coord part vote) q = q
-says_back false told child (ToldMail order result) q = q
-says_back true told child _ q = q
+says_back : (n : ℕ) (b : Bool) (told child : Draw) (body : MailBody) → Says (affair_of n b told child) body → SaysWork (record { number = n; group = told; name = child; splits = b }) body
+says_back n false told child (Request group client seq op) q = q
+says_back n false told child (Answer group seq answer) q = q
+says_back n false told child (Learn group slot command) q = q
+says_back n false told child (Install group slot base sets) q = q
+says_back n false told child (TxPrepare tx offer) q = q
+says_back n false told child (TxVote tx coord part vote) q = q
+says_back n false told child (Prepare group ballot from_slot) q = q
+says_back n false told child (Promise group ballot reports) q = q
+says_back n false told child (Accept group ballot slot command) q = q
+says_back n false told child (Accepted group ballot slot) q = q
+says_back n false told child (Nack group promised) q = q
+says_back n false told child (Ask group from_slot) q = q
+says_back n false told child (TxOutcome tx part outcome) q = q
+says_back n false told child (TxElsewhere tx coord hint) q = q
+says_back n false told child (TxWatch tx watch) q = q
+says_back n false told child (TxWatched tx coord part vote) q = q
+says_back n false told child (ToldMail order result) q = q
+says_back n true told child _ q = q
 
-held_so : (b : Bool) (told child name : Draw) (r : ReplicaState) → IsAtWork (record { group = told; name = child; splits = b }) name r → HeldSo (affair_by b told child) name r
-held_so true told child name r k = (k.calls, k.acts, k.flights, k.ready, k.state)
-held_so false told child name r k = (k.calls, k.acts, k.flights, k.ready, k.state)
+held_so : (n : ℕ) (b : Bool) (told child name : Draw) (r : ReplicaState) → IsAtWork (record { number = n; group = told; name = child; splits = b }) name r → HeldSo (affair_of n b told child) name r
+held_so n true told child name r k = (k.calls, k.acts, k.flights, k.ready, k.state)
+held_so n false told child name r k = (k.calls, k.acts, k.flights, k.ready, k.state)
 
-held_back : (b : Bool) (told child name : Draw) (r : ReplicaState) → HeldSo (affair_by b told child) name r → IsAtWork (record { group = told; name = child; splits = b }) name r
-held_back true told child name r k = record { calls = k.0; acts = k.1; flights = k.2; ready = k.3; state = k.4 }
-held_back false told child name r k = record { calls = k.0; acts = k.1; flights = k.2; ready = k.3; state = k.4 }
+held_back : (n : ℕ) (b : Bool) (told child name : Draw) (r : ReplicaState) → HeldSo (affair_of n b told child) name r → IsAtWork (record { number = n; group = told; name = child; splits = b }) name r
+held_back n true told child name r k = record { calls = k.0; acts = k.1; flights = k.2; ready = k.3; state = k.4 }
+held_back n false told child name r k = record { calls = k.0; acts = k.1; flights = k.2; ready = k.3; state = k.4 }
 
 -- a child that its group did not know
 module _ (well : ScenariosAreWellBorn) (words : ℕ → ℕ → ℕ × ℕ) (scenario : Scenario) (rows : Rows) (seat : Seat Player) (number : ℕ) (g : IsGuidedRow words scenario rows seat number) where
-  unborn_by : (b : Bool) (told child : Draw) → AreHeld (affair_by b told child) words (births as_nodes scenario) rows → (mail : Mail) (group : Draw) (node : NodeState) (r : ReplicaState) → IsTaking words (births as_nodes scenario) rows seat number mail group node
+  unborn_by : (n : ℕ) (b : Bool) (told child : Draw) → AreHeld (affair_of n b told child) words (births as_nodes scenario) rows → (mail : Mail) (group : Draw) (node : NodeState) (r : ReplicaState) → IsTaking words (births as_nodes scenario) rows seat number mail group node
       → replica_of group node.replicas ≡ Some r → Each (λ (kid : Base). CreatesBy b told child group kid × IsUnborn r.group.core.born kid) (mailed mail.from mail.body (r, [])).1
-  unborn_by true told child k mail group node r t here =
-      delivery_unborn well (affair_by true told child) (begins_free true told child) words scenario rows seat number g.seated g.timely g.meets g.groups (λ name x v. k.replicas name seat.who x v) mail t.sent (good_mail well (affair_by true told child) (begins_free true told child) words scenario rows seat number g k mail t.sent)
-      (λ name x command kid s e. kid_unborn told child name x command kid s e) group node r t here
-  unborn_by false told child k mail group node r t here =
+  unborn_by n true told child k mail group node r t here =
+      delivery_unborn well (affair_of n true told child) (begins_free n true told child) words scenario rows seat number g.seated g.timely g.meets g.groups (λ name x v. k.replicas name seat.who x v) mail t.sent (good_mail well (affair_of n true told child) (begins_free n true told child) words scenario rows seat number g k mail t.sent)
+      (λ name x command kid s e. kid_unborn told child name x command kid s.0 e) group node r t here
+  unborn_by n false told child k mail group node r t here =
       Each-weaker (λ (kid : Base). CreatesBy false told child group kid) (λ (kid : Base). CreatesBy false told child group kid × IsUnborn r.group.core.born kid) (λ kid bad. absurd bad) (mailed mail.from mail.body (r, [])).1
-      (creation well (affair_by false told child) (begins_free false told child) words scenario rows seat number g k mail group node r t here)
+      (creation well (affair_of n false told child) (begins_free n false told child) words scenario rows seat number g k mail group node r t here)
 
 module _ (task : Task) (words : ℕ → ℕ → ℕ × ℕ) (births : List (Seat Player)) (rows : Rows) where
-  pub work_held : AreAtWork task words births rows → AreHeld (affair_by task.splits task.group task.name) words births rows
+  pub work_held : AreAtWork task words births rows → AreHeld (affair_of task.number task.splits task.group task.name) words births rows
   work_held k = record {
-    replicas = λ name who r v. held_so task.splits task.group task.name name r (k.replicas name who r v);
-    mail = λ who is. Each-weaker (λ (mail : Mail). SaysWork task mail.body) (IsGood (affair_by task.splits task.group task.name)) (λ mail q. says_so task.splits task.group task.name mail.body q) (rest (players words births) rows who) (k.mail who is);
+    replicas = λ name who r v. held_so task.number task.splits task.group task.name name r (k.replicas name who r v);
+    mail = λ who is. Each-weaker (λ (mail : Mail). SaysWork task mail.body) (IsGood (affair_of task.number task.splits task.group task.name)) (λ mail q. says_so task.number task.splits task.group task.name mail.body q) (rest (players words births) rows who) (k.mail who is);
   }
 
-  pub held_work : AreHeld (affair_by task.splits task.group task.name) words births rows → AreAtWork task words births rows
+  pub held_work : AreHeld (affair_of task.number task.splits task.group task.name) words births rows → AreAtWork task words births rows
   held_work k = record {
-    replicas = λ name who r v. held_back task.splits task.group task.name name r (k.replicas name who r v);
-    mail = λ who is. Each-weaker (IsGood (affair_by task.splits task.group task.name)) (λ (mail : Mail). SaysWork task mail.body) (λ mail q. says_back task.splits task.group task.name mail.body q) (rest (players words births) rows who) (k.mail who is);
+    replicas = λ name who r v. held_back task.number task.splits task.group task.name name r (k.replicas name who r v);
+    mail = λ who is. Each-weaker (IsGood (affair_of task.number task.splits task.group task.name)) (λ (mail : Mail). SaysWork task mail.body) (λ mail q. says_back task.number task.splits task.group task.name mail.body q) (rest (players words births) rows who) (k.mail who is);
   }
 
 pub deliveries_keep : ScenariosAreWellBorn → DeliveriesKeepWork
 deliveries_keep well = record {
   keeps = λ words scenario rows seat number task g k.
-      held_work task words (births as_nodes scenario) (with_event rows seat (Deliver number)) (keeps well (affair_by task.splits task.group task.name) (begins_free task.splits task.group task.name) words scenario rows seat number g (work_held task words (births as_nodes scenario) rows k));
+      held_work task words (births as_nodes scenario) (with_event rows seat (Deliver number)) (keeps well (affair_of task.number task.splits task.group task.name) (begins_free task.number task.splits task.group task.name) words scenario rows seat number g (work_held task words (births as_nodes scenario) rows k));
   creation = λ words scenario rows seat number task g k mail group node r t here.
-      unborn_by well words scenario rows seat number g task.splits task.group task.name (work_held task words (births as_nodes scenario) rows k) mail group node r t here;
+      unborn_by well words scenario rows seat number g task.number task.splits task.group task.name (work_held task words (births as_nodes scenario) rows k) mail group node r t here;
   unasked = λ words births rows seat number task born timely k mail group client seq op at e.
       subst (SaysWork task) e (takes_one words births rows seat number born timely (λ (m : Mail). SaysWork task m.body) (k.mail seat.who (is_born-from (players words births) seat.who seat born)) mail at);
   unanswered = λ words births rows seat number task born timely k mail group seq answer at e.
@@ -186,8 +186,8 @@ does_work b told child name _ d = (_, refl)
 pub stands_alone : WorkStandsAlone
 stands_alone = record {
   alone = λ task name r k. record {
-    flights = Each-weaker (λ flight. Does task name flight.value) (λ flight. IsWork flight.value) (λ flight d. does_work task.splits task.group task.name name flight.value d) r.leader.flights k.flights;
-    ready = Each-weaker (λ (entry : ℕ × Command). Does task name entry.1) (λ (entry : ℕ × Command). IsWork entry.1) (λ entry d. does_work task.splits task.group task.name name entry.1 d) r.ready k.ready;
+    flights = Each-weaker (λ flight. Does task name flight.value) (λ flight. IsWork flight.value) (λ flight d. does_work task.splits task.group task.name name flight.value d.0) r.leader.flights k.flights;
+    ready = Each-weaker (λ (entry : ℕ × Command). Does task name entry.1) (λ (entry : ℕ × Command). IsWork entry.1) (λ entry d. does_work task.splits task.group task.name name entry.1 d.0) r.ready k.ready;
   };
   rests = λ r rest none. (ap works_in rest.acts, ap works_in rest.calls);
 }

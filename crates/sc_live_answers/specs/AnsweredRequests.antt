@@ -10,6 +10,7 @@ use Rattle.sc_live_steps.specs.calm.Definitions.{Chart, players, Rows}
 use Rattle.sc_live_journals.specs.charts.Definitions.{chart_at}
 use Rattle.sc_live_plain.specs.Definitions.{IsQuietJournal, AreAnswered, orders_of, IsCalm, IsCalmAtBudget}
 use Rattle.sc_live_answers.specs.LineEnds.{AreCharted}
+use Rattle.sc_live_answers.specs.ReportedOrders.{SettledJournalsReport}
 
 -- in each lawful journal of a valid calm scenario at its budget no line of deliveries is cut off with mail pending
 abbrev pub CalmLinesSettle : Type 0
@@ -56,9 +57,10 @@ charts_of words scenario = chart_at (orders_of scenario + 1) (length scenario.gr
 abbrev pub CalmJournalsAreCharted : Type 0
 CalmJournalsAreCharted = (words : ℕ → ℕ → ℕ × ℕ) (scenario : Scenario) → IsValid scenario → IsCalmAtBudget scenario → 1 ≤ orders_of scenario → AreCharted words scenario (charts_of words scenario)
 
--- calm journals have charts by which the potential falls with each delivery, and each of them with no mail pending is a quiet journal
+-- calm journals have charts by which the potential falls with each delivery, each of them with no mail pending is a quiet journal, and where no line was cut off the results of its orders are reported
 pub record CalmJournalsGoOn : Type 0 where
   pub charted : CalmJournalsAreCharted
   pub rests : CalmJournalsRest
   pub settled : SettledJournalsRest
   pub timely : TimelyJournalsRest
+  pub reported : SettledJournalsReport

@@ -75,7 +75,7 @@ pub use Rattle.sc_live_answers.specs.RequestLineStarts.{LawfulReplicasAreNamedOn
 pub use Rattle.sc_live_answers.specs.LogStates.{state_at, ReplicasRunLogs, LeaversFree}
 pub use Rattle.sc_live_answers.specs.UnknownReceivers.{NoMailForStrangers}
 pub use Rattle.sc_live_answers.specs.NodeDeliveries.{TakersAreNodes}
-pub use Rattle.sc_live_answers.specs.OrderTasks.{Task, Creates, CreatesBy, SaysWork, IsOff, is_split, IsNoSplit, DoesSplit, DoesOther, DoesBy, SplitsInto, LockSplits, LockOther, IsBy, Does, IsAtWork}
+pub use Rattle.sc_live_answers.specs.OrderTasks.{Task, Creates, CreatesBy, SaysWork, IsOff, is_split, IsNoSplit, DoesSplit, DoesOther, DoesBy, SplitsInto, LockSplits, LockOther, IsBy, HasNumber, LockNumber, Does, IsAtWork}
 pub use Rattle.sc_live_answers.specs.EntryLearners.{GroupsBeginTaught, GroupsAreTaught}
 pub use Rattle.sc_live_answers.specs.SlotLeaders.{GroupsAreLed, slot_leaders_at, GroupsAreBornOrNot, AreFew, LedRowsGoOn, has_executed, first_to, GroupsBeginLed, slot_leader_of}
 pub use Rattle.sc_live_answers.specs.GroupReplicas.{AreBorn, IsBornOn, ChildrenAreMade, PrefixMembersHaveReplicas, PrefixGroupsHaveReplicas}
@@ -91,3 +91,4 @@ pub use Rattle.sc_live_answers.specs.PlayerViews.{ViewsAgree}
 pub use Rattle.sc_live_answers.specs.LeaderVotes.{IsTrueEntry, IsOrdersAlone, StagesExpectWork, VotesAreFound, WorkExpects}
 pub use Rattle.sc_live_answers.specs.WaitingWork.{DeliveriesKeepWork, OrdersBeginWork, WorkStandsAlone, IsGuidedRow, AreAtWork, IsTaskOf}
 pub use Rattle.sc_live_answers.specs.YoungGroups.{YoungGroupsStay, IsUnanswered}
+pub use Rattle.sc_live_answers.specs.ReportedOrders.{IsReported, AreOrdersReported, SettledOrdersAreReported, SettledJournalsReport, IsGiven, AreReported, HoldsOrder, Waits, Coordinates, IsOrderHeld}

@@ -92,3 +92,4 @@ pub mod LeaderVotes
 pub mod WaitingWork
 pub mod YoungGroups
 pub mod Definitions
+pub mod ReportedOrders

@@ -1,5 +1,5 @@
 -- All that holds while an order is under way since a quiet prefix of a calm journal, and that each delivery keeps it.
-use Rattle.std.specs.Prelude.{◌≡◌, ℕ, ◌+◌, true, ◌++◌, Some}
+use Rattle.std.specs.Prelude.{◌≡◌, ◌⊎◌, ℕ, ◌+◌, true, ◌++◌, Some}
 use Rattle.sc_base.specs.Definitions.{Among, Each}
 use Rattle.sc_node_table.specs.Values.{Draw, Base, OrderLine, Mail, Client, Seat, Deliver}
 use Rattle.sc_actor.specs.declared.rows.Event.TheVariants.{Told}
@@ -13,7 +13,7 @@ use Rattle.sc_live_steps.specs.calm.Definitions.{players, FindsCalm, Rows}
 use Rattle.sc_live_journals.specs.rows.Definitions.{IsSeat, with_event}
 use Rattle.sc_live_journals.specs.charts.Definitions.{chart_at, quiet_prefix}
 use Rattle.sc_live_steps.specs.orders.Definitions.{Still}
-use Rattle.sc_live_journals.specs.scenes.Definitions.{StageAfter}
+use Rattle.sc_live_journals.specs.scenes.Definitions.{StageAfter, scene_at}
 use Rattle.sc_live_plain.specs.Definitions.{replicas_after, DoHintsRise}
 use Rattle.sc_live_journals.specs.logs.Definitions.{logged_sets}
 use Rattle.sc_live_answers.specs.SlotLeaders.{slot_leaders_at}
@@ -30,14 +30,16 @@ use Rattle.sc_live_answers.specs.EndingGroups.{IsGoingSince}
 use Rattle.sc_live_answers.specs.RedirectBounds.{HasNamesSince}
 use Rattle.sc_live_answers.specs.WaitingActs.{HaveNoneWaiting}
 use Rattle.sc_live_answers.specs.CreatedGroups.{AreCreatedByOrder}
+use Rattle.sc_policy.specs.Definitions.{is_told}
 use Rattle.sc_live_answers.specs.OrderTasks.{Task}
+use Rattle.sc_live_answers.specs.ReportedOrders.{IsGiven, IsReported, IsOrderHeld}
 use Rattle.sc_live_answers.specs.WaitingWork.{AreAtWork, IsTaskOf}
 
 -- if the mail names a group, a group of the journal has that name
 abbrev pub IsOfJournal : Scenario → Rows → Mail → Type 0
 IsOfJournal scenario journal mail = (name : Draw) → group_of_mail mail.body ≡ Some name → IsNamedGroup scenario journal name
 
--- what holds while one order is under way since a quiet prefix that rests: its stage and the groups that it has not touched, hints and rounds of each group, what its leaders have executed, the groups that go, its coordinator and whom it asks, the commands that wait at groups, the child that it makes and the names of groups; clients are as they were, each mail under way is of a group of the journal, errands go to nodes, and no act waits with nothing in flight
+-- what holds while one order is under way since a quiet prefix that rests: its stage and the groups that it has not touched, hints and rounds of each group, what its leaders have executed, the groups that go, its coordinator and whom it asks, the commands that wait at groups, the child that it makes and the names of groups; clients are as they were, each mail under way is of a group of the journal, errands go to nodes, no act waits with nothing in flight; and the order's result is reported, or a group holds it
 pub record IsOrderedSince (words : ℕ → ℕ → ℕ × ℕ) (scenario : Scenario) (first : Base) (journal quiet rows : Rows) : Type 0 where
   pub behind : Rows
   pub rows_are : rows ≡ quiet ++ behind
@@ -50,6 +52,9 @@ pub record IsOrderedSince (words : ℕ → ℕ → ℕ × ℕ) (scenario : Scena
   pub settled : AreSettled words scenario rows under.stage
   pub hinted : IsHinted scenario quiet rows under.stage
   pub line : OrderLine
+  pub only : (other : OrderLine) → IsGiven rows other → IsGiven quiet other ⊎ (other ≡ line)
+  pub told : is_told line.number ≡ true
+  pub result : IsReported (mails rows) line.number ⊎ IsOrderHeld (scene_at (births as_nodes scenario) rows)
   pub task : Task
   pub is_task : IsTaskOf (births as_nodes scenario) quiet line task
   pub work : AreAtWork task words (births as_nodes scenario) rows

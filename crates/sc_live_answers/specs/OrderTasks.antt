@@ -1,5 +1,5 @@
 -- Which commands may wait at groups while an order is under way, and in which states the groups may be, by what the order is to do.
-use Rattle.std.specs.Prelude.{◌≡◌, Bool, true, false, List, []}
+use Rattle.std.specs.Prelude.{◌≡◌, ℕ, Bool, true, false, List, []}
 use Rattle.std.specs.List.{list_any}
 use Rattle.sc_base.specs.Definitions.{Each, same_draw}
 use Rattle.sc_node_table.specs.Values.{Draw, Body, Command, Noop, Call, Join, Leave, Split, Begin, Prepared, RecordVote, GiveUp, Finish, Watched, RecordWatch, Base, Core, Lock, Free, Coordinating, Promised, Watching, Order, MailBody, Request, Answer, Prepare, Promise, Accept, Accepted, Nack, Learn, Ask, Install, TxPrepare, TxVote, TxOutcome, TxElsewhere, TxWatch, TxWatched, Told}
@@ -7,8 +7,9 @@ use Rattle.sc_cmd.specs.declared.bodies.Body.TheVariants as At
 use Rattle.sc_cmd.specs.declared.orders.Order.TheVariants as An
 use Rattle.sc_node_table.specs.Definitions.{ReplicaState}
 
--- what an order is to do: the group that it is given to, the name that it draws, and whether it splits that group
+-- what an order is to do: its number, the group that it is given to, the name that it draws, and whether it splits that group
 pub record Task : Type 0 where
+  pub number : ℕ
   pub group : Draw
   pub name : Draw
   pub splits : Bool
@@ -75,9 +76,24 @@ abbrev pub DoesBy : Bool → Draw → Draw → Draw → Command → Type 0
 DoesBy true told child name command = DoesSplit told child name command
 DoesBy false told child name command = DoesOther command
 
+-- the command is no request, and if an order gives it, the order has this number
+abbrev pub HasNumber : ℕ → Command → Type 0
+HasNumber number (Join node order) = order ≡ number
+HasNumber number (Leave node order) = order ≡ number
+HasNumber number (Split at child order) = order ≡ number
+HasNumber number (Begin tx body order) = order ≡ number
+HasNumber number (Call client seq op) = ⊥
+HasNumber number Noop = Unit {0}
+HasNumber number (Prepared tx offer) = Unit {0}
+HasNumber number (RecordVote tx vote by) = Unit {0}
+HasNumber number (GiveUp tx) = Unit {0}
+HasNumber number (Finish tx outcome) = Unit {0}
+HasNumber number (Watched tx watch) = Unit {0}
+HasNumber number (RecordWatch tx vote by) = Unit {0}
+
 -- a command that may wait, be in flight or be ready at the group `name` while an order with this task is under way
 abbrev pub Does : Task → Draw → Command → Type 0
-Does task name command = DoesBy task.splits task.group task.name name command
+Does task name command = DoesBy task.splits task.group task.name name command × HasNumber task.number command
 
 -- ---- states
 
@@ -107,9 +123,16 @@ abbrev pub IsBy : Bool → Draw → Draw → Draw → Core → Type 0
 IsBy true told child name core = LockSplits told child name core.born core.lock
 IsBy false told child name core = LockOther core.lock
 
+-- if a group with this lock coordinates a transaction, the order that began it has this number
+abbrev pub LockNumber : ℕ → Lock → Type 0
+LockNumber number (Coordinating tx body order heard) = order ≡ number
+LockNumber number Free = Unit {0}
+LockNumber number (Promised tx offer) = Unit {0}
+LockNumber number (Watching tx watch) = Unit {0}
+
 -- a state that the group `name` may have while an order with this task is under way
 abbrev pub Is : Task → Draw → Core → Type 0
-Is task name core = IsBy task.splits task.group task.name name core
+Is task name core = IsBy task.splits task.group task.name name core × LockNumber task.number core.lock
 
 -- ---- children
 

@@ -23,8 +23,9 @@ pub record AreAtWork (task : Task) (words : ℕ → ℕ → ℕ × ℕ) (births 
   pub replicas : (name : Draw) (who : ℕ) (r : ReplicaState) → view_at births rows name who ≡ Some r → IsAtWork task name r
   pub mail : (who : ℕ) → is_born (players words births) who ≡ true → Each (λ mail. SaysWork task mail.body) (rest (players words births) rows who)
 
--- the task of an order that is given after these rows: it is at the order's own group; and where it splits that group, the group has a replica, and no group had the name that the order draws, or lists it as a child's
+-- the task of an order that is given after these rows: it has the order's number and is at the order's own group; and where it splits that group, the group has a replica, and no group had the name that the order draws, or lists it as a child's
 pub record IsTaskOf (births : List (Seat Player)) (quiet : Rows) (line : OrderLine) (task : Task) : Type 0 where
+  pub number : task.number ≡ line.number
   pub group : task.group ≡ group_of_order line.order
   pub there : task.splits ≡ true → IsThere births quiet task.group
   pub new : task.splits ≡ true → IsNowhere births quiet task.name

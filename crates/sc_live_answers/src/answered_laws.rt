@@ -1,6 +1,7 @@
 //! Calm scenarios are answered, at their budget or where no line was cut off. Definitions and laws, no logic.
 ghost use Rattle.sc_live_answers.specs.AnsweredRequests.{CalmJournalsGoOn, CalmLinesSettle, CalmRequestsAreAnswered, SettledRequestsAreAnswered};
 ghost use Rattle.sc_live_plain.specs.LastLine.{LastLinesAnswer};
+ghost use Rattle.sc_live_answers.specs.ReportedOrders.{SettledOrdersAreReported};
 ghost use Rattle.sc_live_plain.specs.Laws.{PlainRequestsAreAnswered};
 
 use sc_law_groups::valid_journals_are_sound;
@@ -48,6 +49,16 @@ pub fn settled_requests_are_answered()
 {
     valid_scenarios_are_bounded();
     valid_journals_are_sound();
+    calm_journals_go_on();
+}
+
+/// Proves that in each whole lawful journal of a valid calm scenario in which no line of deliveries
+/// was cut off, and that has at most 2^28 rows, the result of each order is reported to the desk:
+/// done, committed, aborted, or refused with its cause. No order stays open.
+pub fn settled_orders_are_reported()
+    ensures { SettledOrdersAreReported }
+{
+    valid_scenarios_are_bounded();
     calm_journals_go_on();
 }
 
