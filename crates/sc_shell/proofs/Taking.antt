@@ -1,7 +1,7 @@
 -- A turn is a fetch and an act.
-use Rattle.std.proofs.Common.{◌≡◌, ℕ, ◌+◌, ◌<◌, ◌≤◌, false, List, [], ◌∷◌, ◌++◌, refl, sym, ap, ◌∙◌, subst, append_assoc, Option, Some}
+use Rattle.std.proofs.Common.{◌≡◌, ℕ, ◌+◌, ◌<◌, ◌≤◌, false, List, [], ◌∷◌, ◌++◌, refl, sym, ap, ◌∙◌, subst, append_assoc, Option, None, Some}
 use Rattle.std.proofs.lemmas.List.{append-nil}
-use Rattle.sc_turn.specs.Turn.{StartsWith}
+use Rattle.sc_turn.specs.Turn.{StartsWith, StartsWith as Begins}
 use Rattle.sc_turn.proofs.Lists.{starts_trans}
 use Rattle.sc_actor.specs.declared.actors.Actor.{Ghosts}
 use Rattle.sc_actor.specs.declared.actors.Parcel.{Ghosts as MailGhosts}
@@ -21,7 +21,7 @@ use Rattle.sc_exchange.proofs.Knowing.{stays_trans, looked_trans}
 use Rattle.sc_shell.specs.declared.turns.Turn.{Turn}
 use Rattle.sc_shell.specs.declared.turns.Turn.TheVariants.{Did, Empty, Full, Spent, OutOfMemory}
 use Rattle.sc_shell.specs.Answers.{MayHappen}
-use Rattle.sc_shell.specs.Shells.{State, Acts, Takes, Happens, row_at}
+use Rattle.sc_shell.specs.Shells.{State, Acts, Takes, Happens, Finds, row_at}
 
 -- the input of an event that is no delivery does not depend on the mail
 pub input_steady : {M O : Type 0} (event : Event O) → MayHappen event → (sent : List M) → input_of sent event ≡ input_of [] event
@@ -79,3 +79,17 @@ module _ {A M O : Type 0} {g : Ghosts A M O} {h : MailGhosts M} where
       )
   takes_acts s m t k number mail free actor l true_own kth is Spent x = absurd x
   takes_acts s m t k number mail free actor l true_own kth is OutOfMemory x = (free, looked_trans s.port m.port t.port l x.0, x.1)
+
+module _ {M O : Type 0} {h : MailGhosts M} where
+  -- some mail was pending at a turn, and then the port may have seen more
+  pub finds_at : (p m q : Port M O h) (k : ℕ) → Looked p m → Begins (seen q) (seen m) → (kth_pending h.receiver p.actors (seen m) p.who k ≡ None → ⊥) → Finds p q k
+  finds_at p m q k l later some = record { rows = seen m; later = l.later; before = later; some = some }
+
+module _ {A M O : Type 0} {g : Ghosts A M O} {h : MailGhosts M} where
+  -- what an act that ran out of memory leaves the port: it may have seen more
+  pub acts_later : (s t : State A M O g h) (event : Event O) (input : Option (Input M O)) (r : Turn) → r ≡ OutOfMemory → Acts s t event input r → Begins (seen t.port) (seen s.port)
+  acts_later s t event input OutOfMemory e x = x.0.later
+  acts_later s t event input (Did at) e x = (let bad : ⊥ = cc in absurd bad)
+  acts_later s t event input (Empty told) e x = absurd x
+  acts_later s t event input (Full bytes) e x = (let bad : ⊥ = cc in absurd bad)
+  acts_later s t event input Spent e x = absurd x

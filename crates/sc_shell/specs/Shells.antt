@@ -33,6 +33,13 @@ module _ {M O : Type 0} {h : MailGhosts M} where
     pub kth : kth_pending h.receiver p.actors rows p.who k ≡ Some number
     pub mail_is : numbered (mails rows) number ≡ Some mail
 
+  -- Between the ports `p` and `q`, after some rows, at least k mails were pending for the port's actor. These rows begin with what the port had seen before, and are a prefix of what the port has seen after.
+  pub record Finds (p q : Port M O h) (k : ℕ) : Type 0 where
+    pub rows : List (Row M O)
+    pub later : Begins rows (seen p)
+    pub before : Begins (seen q) rows
+    pub some : kth_pending h.receiver p.actors rows p.who k ≡ None → ⊥
+
 -- What a shell is made of, without its last answer.
 pub record State (A M O : Type 0) (g : Ghosts A M O) (h : MailGhosts M) : Type 0 where
   pub actor : A

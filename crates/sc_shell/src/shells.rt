@@ -1,5 +1,5 @@
 //! The shells, each with an actor and its port.
-ghost use Rattle.std.specs.Prelude.{◌≡◌, ◌<◌, ◌++◌, [], ◌||◌, List, not, true, false, None, Some, IfOk};
+ghost use Rattle.std.specs.Prelude.{◌≡◌, ◌<◌, ◌++◌, [], ◌||◌, List, not, true, false, None, Some, IfOk, IsOk};
 ghost use Rattle.sc_turn.specs.Turn.{StartsWith as Begins};
 ghost use Rattle.sc_actor.specs.declared.rows.Row.{Row};
 ghost use Rattle.sc_actor.specs.Mail.{mails};
@@ -30,7 +30,7 @@ pub struct Shell<A: Actor> {
 }
 
 impl<A: Actor> Shell<A> {
-    ghost use Rattle.sc_shell.specs.Shells.{actor_of, port_of, is_spent, last_of, Replays, KeepsReplay, HasRested, HasVouched, Acts, Takes, Happens, state};
+    ghost use Rattle.sc_shell.specs.Shells.{actor_of, port_of, is_spent, last_of, Replays, KeepsReplay, Finds, HasRested, HasVouched, Acts, Takes, Happens, state};
 
     /// Returns a shell of the actor with its port, which must have made no row. The actor is taken
     /// as it is at its birth.
@@ -110,6 +110,7 @@ impl<A: Actor> Shell<A> {
     fn take_turn<G: Gate, R: Wait>(&mut self, rt: &R, alloc: Global, k: u32, gate: &G) -> Turn
         requires { 0 < k }
         ensures takes { Takes (state self.old) (state self.new) k result }
+        ensures memory { result ≡ Turn.OutOfMemory → Finds (port_of self.old) (port_of self.new) k }
         ensures stays { Stays (port_of self.old) (port_of self.new) }
         ensures replay { KeepsReplay self.old self.new }
     {
@@ -131,10 +132,11 @@ impl<A: Actor> Shell<A> {
 
     /// Fetches the k-th pending mail, counted from 1, passes the gate, lets the actor step, and
     /// posts the row. The answer is `Empty` where fewer mails are pending; then the actor makes no
-    /// step, and the gate is not passed.
+    /// step, the gate is not passed, and no memory is taken.
     pub fn turn<G: Gate, R: Wait>(&mut self, rt: &R, alloc: Global, k: u32, gate: &G) -> Turn
         requires { 0 < k }
         ensures takes { Takes (state self.old) (state self.new) k result }
+        ensures memory { result ≡ Turn.OutOfMemory → Finds (port_of self.old) (port_of self.new) k }
         ensures stays { Stays (port_of self.old) (port_of self.new) }
         ensures replay { KeepsReplay self.old self.new }
         ensures last { last_of self.new ≡ Some result }
@@ -238,7 +240,8 @@ fn sent_at<A: Actor>(
     actor: &mut A,
     input: &Option<Input<A::Mail, A::Order>>,
 ) -> Result<Sequence<A::Mail>, OutOfMemory>
-    ensures { IfOk result (λ sent. acted A.table actor.old input.now ≡ (actor.new, sent)) }
+    ensures sent { IfOk result (λ sent. acted A.table actor.old input.now ≡ (actor.new, sent)) }
+    ensures none { input.now ≡ None → IsOk result }
 {
     match input {
         None => Ok(Sequence::new(alloc)),
@@ -249,7 +252,8 @@ fn sent_at<A: Actor>(
 // Returns the input of an event that is no delivery; a crash has none.
 fn input_at<M, O: Dup>(alloc: Global, event: &Event<O>) -> Result<Option<Input<M, O>>, OutOfMemory>
     requires { MayHappen event.now }
-    ensures { IfOk result (λ input. input ≡ input_of [] event.now) }
+    ensures input { IfOk result (λ input. input ≡ input_of [] event.now) }
+    ensures none { ((order : O) → event.now ≡ Event.Told order → ⊥) → IsOk result }
 {
     match event {
         Event::Tick => Ok(Some(Input::Tick)),

@@ -1,12 +1,16 @@
-use Rattle.std.proofs.Common.{rules, ◌≡◌, refl, ap, sym, ◌∙◌, ⊎_elim, inl, inr, false, Some}
+use Rattle.std.proofs.Common.{rules, ◌≡◌, refl, ap, sym, subst, ◌∙◌, ⊎_elim, inl, inr, [], false, Some}
+use Rattle.std.proofs.lemmas.Bool.{false≢true}
+use Rattle.std.specs.Prelude.{IsOk}
+use Rattle.std.proofs.lemmas.List.{append-nil}
 use Rattle.std.specs.Option.{option_map}
 use Rattle.sc_actor.specs.Mail.{mails, numbered}
+use Rattle.sc_actor.specs.declared.rows.Event.TheVariants.{Deliver}
 use Rattle.sc_actor.specs.declared.rows.Input.TheVariants.{Got}
 use Rattle.sc_ledger.specs.Pending.{kth_pending}
 use Rattle.sc_exchange.specs.Ports.{seen}
 use Rattle.sc_shell.specs.Shells.{state}
 use Rattle.sc_shell.proofs.Replaying.{replay_looked, numbered_more}
-use Rattle.sc_shell.proofs.Taking.{takes_acts}
+use Rattle.sc_shell.proofs.Taking.{takes_acts, finds_at, acts_later}
 use Rattle.sc_shell.proofs.shells.Shell.take_turn.Goals as goal
 
 pub act-requires-clause-input : goal.act-requires-clause-input
@@ -29,3 +33,15 @@ returns-in-Ok-Mail-clause-takes g c =
     let is : numbered (mails (seen c.fetch.new.self)) c.in-Ok-Mail.number ≡ Some c.in-Ok-Mail.mail = search rules in
     let kth : kth_pending g.A.Mail.Parcel.receiver c.args.self.now.port.actors (seen c.fetch.new.self) c.args.self.now.port.who c.args.k ≡ Some c.in-Ok-Mail.number = search rules in
     takes_acts (state c.args.self.now) (record { actor = c.args.self.now.actor; port = c.fetch.new.self; spent = c.args.self.now.spent }) (state c.act.new.self) c.args.k c.in-Ok-Mail.number c.in-Ok-Mail.mail free refl c.fetch.ensures.looked.looked c.fetch.ensures.looked.rows.own kth is c.act.result (rw c.in-Ok-Mail.field-0-is at c.act.ensures.acts)
+
+pub returns-in-Err-clause-memory : goal.returns-in-Err-clause-memory
+returns-in-Err-clause-memory g c = λ out.
+    finds_at c.args.self.now.port c.fetch.new.self c.fetch.new.self c.args.k c.fetch.ensures.looked.looked ([], sym (append-nil (seen c.fetch.new.self)))
+    (λ none. false≢true (subst IsOk c.in-Err.is (c.fetch.ensures.none none)))
+
+pub returns-in-Ok-Mail-clause-memory : goal.returns-in-Ok-Mail-clause-memory
+returns-in-Ok-Mail-clause-memory g c = λ out.
+    let kth : kth_pending g.A.Mail.Parcel.receiver c.args.self.now.port.actors (seen c.fetch.new.self) c.args.self.now.port.who c.args.k ≡ Some c.in-Ok-Mail.number = search rules in
+    finds_at c.args.self.now.port c.fetch.new.self c.act.new.self.port c.args.k c.fetch.ensures.looked.looked
+    (acts_later (record { actor = c.args.self.now.actor; port = c.fetch.new.self; spent = c.args.self.now.spent }) (state c.act.new.self) (Deliver c.in-Ok-Mail.number) (Some (Got c.in-Ok-Mail.mail)) c.act.result out (rw c.in-Ok-Mail.field-0-is at c.act.ensures.acts))
+    (λ none. cc)
