@@ -16,8 +16,10 @@ use sc_replica_parts::{answer_command, dismiss_all, ready_at};
 use std::collections::BTreeMap;
 
 impl Replica {
-    /// Runs with the next ballot of its own, and asks the members of the open slots to promise it
-    /// (Paxos Made Simple, section 2.2, phase 1a). Does nothing after the last round, 2^32 - 1.
+    /// Runs with the next ballot of its own node, and asks the members of the open slots to promise
+    /// it (Paxos Made Simple, section 2.2, phase 1a). Does nothing after the last round, 2^32 - 1.
+    /// Mails are appended to those that are there. After `Err(OutOfMemory)` the replica may only be
+    /// dropped.
     #[tactic(auto, unfolding(sc_node_table::specs::Election::elected))]
     pub fn elect(&mut self, out: &mut Sequence<Mail>) -> Result<(), OutOfMemory>
         ensures row { OnOk result ((self.new, out.new) ≡ elected (self.old, out.old)) }

@@ -36,8 +36,9 @@ fn answer_of(effect: Effect) -> Option<AnswerBody>
 }
 
 impl Replica {
-    /// Applies the command of the next slot and keeps it in the log, opens one more slot, and
-    /// forgets what is not above the floor. Returns the effect.
+    /// Applies the command of the next slot to the group and keeps it in the log, opens one more
+    /// slot, and forgets the entries and accepted commands that are not above the floor. Returns
+    /// the effect. After `Err(OutOfMemory)` the replica may only be dropped.
     #[tactic(auto, unfolding(sc_node_table::specs::Execute::entered))]
     pub fn enter(&mut self, command: &Command) -> Result<Effect, OutOfMemory>
         requires { next self.old < last_slot + slots_ahead }
@@ -105,8 +106,11 @@ impl Replica {
         }
     }
 
-    /// Answers the client of a request, or puts it back, where its entry was counted here. Does
-    /// nothing for one that was learnt.
+    /// Answers the client of an executed request by its effect, or puts the request back into its queue
+    /// where it has to wait. Does nothing for another command, or for one that was not counted.
+    /// `counted`: this replica led, and counted the votes for the command; else it learnt the
+    /// command from another node. Mails are appended to those that are there. After
+    /// `Err(OutOfMemory)` the replica may only be dropped.
     pub fn tell_counted(
         &mut self,
         counted: bool,
@@ -127,8 +131,9 @@ impl Replica {
         self.tell_call(effect, command, out)
     }
 
-    /// Reports to the desk the result of an executed order, if there is one and the order has a
-    /// number.
+    /// Reports to the desk the result of an executed order, if there is a result and the order has
+    /// a number. Mails are appended to those that are there; after `Err(OutOfMemory)` they may only
+    /// be dropped.
     #[tactic(auto, unfolding(sc_node_table::specs::Execute::told_effect))]
     pub fn tell_effect(
         &self,
@@ -146,8 +151,11 @@ impl Replica {
         }
     }
 
-    /// Sends a counted command to the other members of the state before it, so that they learn it.
-    /// Does nothing for one that was learnt.
+    /// Sends an executed command to the other members of the state before it, so that they learn it
+    /// (Paxos Made Simple, section 2.3). Does nothing for one that was not counted. `counted`: this
+    /// replica led, and counted the votes for the command; else it learnt the command from another
+    /// node. Mails are appended to those that are there; after `Err(OutOfMemory)` they may only be
+    /// dropped.
     #[tactic(auto, unfolding(sc_node_table::specs::Execute::learnt_to))]
     pub fn teach_members(
         &self,
@@ -181,8 +189,11 @@ impl Replica {
         not_among(self.alloc, members.as_slice(), before)
     }
 
-    /// Sends the executed state to each member that a counted command added, and asks it to promise
-    /// the leader's ballot. Does nothing for a command that was learnt.
+    /// Sends the executed state to each member that the last command added, and asks it to promise
+    /// the leader's ballot. Does nothing for a command that was not counted. `counted`: this
+    /// replica led, and counted the votes for the command; else it learnt the command from another
+    /// node. Mails are appended to those that are there; after `Err(OutOfMemory)` they may only be
+    /// dropped.
     #[tactic(auto, unfolding(sc_node_table::specs::Execute::welcomed))]
     pub fn welcome(
         &self,
@@ -223,7 +234,9 @@ impl Replica {
     }
 
     /// Drops what is in flight or ready at a slot that is executed. A command in flight that lost
-    /// the slot to a learnt one goes back to its queue.
+    /// the slot to another, learnt one goes back to its queue. `counted`: this replica led, and
+    /// counted the votes for the command; else it learnt the command from another node. After
+    /// `Err(OutOfMemory)` the replica may only be dropped.
     #[tactic(auto, unfolding(sc_node_table::specs::Execute::landed))]
     pub fn land(
         &mut self,
@@ -242,8 +255,10 @@ impl Replica {
         self.lose(counted, command, other)
     }
 
-    /// Ends the run where the group is gone, and stops where the node is no longer a member. Does
-    /// nothing for a replica that does not run.
+    /// Stops a replica that runs, where its group is gone or its node is no longer a member:
+    /// clients with a call in flight, ready or queued are answered so, and the desk is told of each
+    /// queued order. Does nothing for a replica that does not run. Mails are appended to those that
+    /// are there. After `Err(OutOfMemory)` the replica may only be dropped.
     #[tactic(auto, unfolding(sc_node_table::specs::Execute::left))]
     pub fn leave(&mut self, out: &mut Sequence<Mail>) -> Result<(), OutOfMemory>
         ensures row { OnOk result ((self.new, out.new) ≡ left (self.old, out.old)) }
@@ -279,8 +294,10 @@ impl Replica {
         }
     }
 
-    /// Takes the least member for the leader where the replica does not run and its hint is no
-    /// member. Where that member is its own node, it is elected.
+    /// Takes the least member for the leader where the replica does not run, its group is not gone,
+    /// and the node that it takes for the leader is no member. Where that member is its own node,
+    /// asks to be elected. Mails are appended to those that are there. After `Err(OutOfMemory)` the
+    /// replica may only be dropped.
     #[tactic(auto, unfolding(sc_node_table::specs::Execute::looked))]
     pub fn look(&mut self, out: &mut Sequence<Mail>) -> Result<(), OutOfMemory>
         ensures row { OnOk result ((self.new, out.new) ≡ looked (self.old, out.old)) }
@@ -297,7 +314,8 @@ impl Replica {
         Ok(())
     }
 
-    /// Returns whether a counted command may be executed at the next slot.
+    /// Returns whether a command may be executed at the next slot: it is below `LAST_SLOT` and the
+    /// number of open slots together.
     pub fn has_room(&self) -> bool
         ensures same { result ≡ has_room self.now }
         ensures room { result ≡ true → next self.now < last_slot + slots_ahead }

@@ -67,7 +67,9 @@ impl Replica {
             .settled(self.acceptor.promised(), self.sets.at(i))
     }
 
-    /// Returns whether the replica runs and its leader may offer at the next slot.
+    /// Returns whether the replica runs and may offer at the next slot: its node has promised no
+    /// higher ballot, and its ballot is the group's first or a majority of the slot's members has
+    /// promised it.
     pub fn is_settled(&self) -> bool
         ensures { result ≡ settled self.now }
     {
@@ -251,7 +253,10 @@ impl Replica {
         Ok(())
     }
 
-    /// Offers what the replica has at its open slots. Does nothing where it is not settled.
+    /// Offers queued commands, or what the promises oblige the leader to offer, at the open slots
+    /// in their order (Paxos Made Simple, section 3). Does nothing where the replica is not settled
+    /// (`is_settled`). Mails are appended to those that are there. After `Err(OutOfMemory)` the
+    /// replica may only be dropped.
     #[tactic(auto, unfolding(sc_node_table::specs::Pump::pumped))]
     pub fn pump(&mut self, out: &mut Sequence<Mail>) -> Result<(), OutOfMemory>
         ensures row { OnOk result ((self.new, out.new) ≡ pumped (self.old, out.old)) }

@@ -141,40 +141,42 @@ impl Replica {
         self.me
     }
 
-    /// Returns the allocator.
+    /// Returns the allocator with which the replica was created.
     pub fn alloc(&self) -> Global {
         self.alloc
     }
 
-    /// Returns the node that it takes for the leader.
+    /// Returns the node that the replica takes for the leader of its group, if it takes one.
     pub fn hint(&self) -> Option<u16>
         ensures { result ≡ self.now.hint }
     {
         self.hint
     }
 
-    /// Returns whether the replica runs.
+    /// Returns whether the replica runs: it has begun as the leader or was elected, or waits for
+    /// the promises that elect it, and has not stopped since.
     pub fn is_running(&self) -> bool
         ensures { result ≡ self.now.running }
     {
         self.running
     }
 
-    /// Returns the number of ticks that a transaction has waited.
+    /// Returns the number of ticks for which the group's transaction has waited at this replica: 0
+    /// where the group has none.
     pub fn waits(&self) -> u32
         ensures { result ≡ self.now.waits }
     {
         self.waits
     }
 
-    /// Sets the number of ticks that a transaction has waited.
+    /// Sets the number of ticks for which the group's transaction has waited at this replica.
     pub fn set_waits(&mut self, waits: u32)
         ensures { self.new ≡ with_waits waits self.old }
     {
         self.waits = waits;
     }
 
-    /// Returns the executed state.
+    /// Returns the state of the group after the executed entries.
     pub fn machine(&self) -> &Machine
         ensures { result.now ≡ self.now.group }
     {

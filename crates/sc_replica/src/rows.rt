@@ -46,7 +46,9 @@ impl Replica {
         self.pump(out)
     }
 
-    /// Handles a Request: answers why it is not taken, or queues it.
+    /// Handles a Request: answers the client why it is not taken, or queues it and offers what may
+    /// be offered. Mails are appended to those that are there. After `Err(OutOfMemory)` the replica
+    /// may only be dropped.
     #[tactic(auto, unfolding(sc_node_table::specs::Rows::request_row, sc_node_table::specs::Rows::requested))]
     pub fn on_request(
         &mut self,
@@ -66,7 +68,8 @@ impl Replica {
         }
     }
 
-    /// Asks a node for the entries from a slot on.
+    /// Asks a node for the entries of the group's log from a slot on. Mails are appended to those
+    /// that are there; after `Err(OutOfMemory)` they may only be dropped.
     pub fn ask(
         &self,
         from: u16,
@@ -134,7 +137,8 @@ impl Replica {
         }
     }
 
-    /// Returns whether the group is not gone and the node is a member.
+    /// Returns whether the group is not gone and the replica's node is a member of it in the
+    /// executed state.
     pub fn takes_part(&self) -> bool
         ensures { result
             ≡ not
@@ -147,8 +151,10 @@ impl Replica {
         core.members.has(self.me)
     }
 
-    /// Sends the accepts again whose votes are lacking. Where nothing is in flight or ready, sends
-    /// the last executed entry to the other members.
+    /// Sends each command in flight again to the members of its slot whose votes were not counted.
+    /// Where nothing is in flight or ready, sends the last executed entry, if it is held, to the
+    /// other members. Mails are appended to those that are there; after `Err(OutOfMemory)` they may
+    /// only be dropped.
     pub fn repeat(&self, out: &mut Sequence<Mail>) -> Result<(), OutOfMemory>
         ensures mails { OnOk result (out.new ≡ repeated self.now out.old) }
         ensures none { repeated self.now [] ≡ [] → IsOk result }
@@ -159,7 +165,9 @@ impl Replica {
         self.ask_again(out)
     }
 
-    /// Handles a mail of a round of votes, but for the votes themselves.
+    /// Handles a mail of a round of votes: a Prepare, Promise, Accept, Nack, Ask or Install. Votes
+    /// are counted by `count_vote`. Mails are appended to those that are there. After
+    /// `Err(OutOfMemory)` the replica may only be dropped.
     #[tactic(auto, unfolding(sc_node_table::specs::Rows::mailed, sc_node_table::specs::Voting::nack_row))]
     pub fn on_round(
         &mut self,

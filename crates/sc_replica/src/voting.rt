@@ -174,7 +174,9 @@ impl Replica {
         self.pump(out)
     }
 
-    /// Counts a vote at an open slot among the slot's members, and returns the count.
+    /// Counts a node's vote for the command in flight at a slot among these members, each node's
+    /// once (Paxos Made Simple, section 2.2). Returns the command, which is no longer in flight
+    /// then, where a majority has voted for it, and else the number of votes.
     pub fn count_vote(
         &mut self,
         from: u16,
@@ -189,14 +191,15 @@ impl Replica {
         self.leader.on_accepted(from, ballot, slot, set)
     }
 
-    /// Makes a command ready at its slot, since a majority was counted.
+    /// Keeps a copy of a command as ready: a majority has voted for it at this slot, and it waits
+    /// until the slot is the next one. After `Err(OutOfMemory)` the replica may only be dropped.
     pub fn make_ready(&mut self, slot: u32, command: &Command) -> Result<(), OutOfMemory>
         ensures { OnOk result (self.new ≡ with_ready slot command.now self.old) }
     {
         put_ready(&mut self.ready, slot, command.dup(self.alloc)?)
     }
 
-    /// Returns the members of a slot, if it is open.
+    /// Returns the members that vote at a slot, if the slot is open.
     pub fn set_at(&self, slot: u32) -> Option<&Members>
         ensures { option_copied result ≡ set_at slot self.now }
     {

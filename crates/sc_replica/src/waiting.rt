@@ -47,8 +47,8 @@ impl Replica {
         has_kind(act, &self.acts) || self.is_under_way(act)
     }
 
-    /// Appends a command of a transaction to its queue, unless there is one of its kind and
-    /// transaction.
+    /// Appends a command of a transaction to its queue, unless one of its kind and transaction is
+    /// queued, in flight or ready. After `Err(OutOfMemory)` the replica may only be dropped.
     pub fn put_act(&mut self, act: Command) -> Result<(), OutOfMemory>
         ensures row { OnOk result (self.new ≡ with_act act self.old) }
         ensures known { has_act act self.old ≡ true → IsOk result }
@@ -59,8 +59,9 @@ impl Replica {
         push_back(&mut self.acts, act)
     }
 
-    /// Appends a command of a transaction to its queue, unless there is one of its kind and
-    /// transaction, and pumps.
+    /// Appends a command of a transaction to its queue, unless one of its kind and transaction is
+    /// queued, in flight or ready, and offers what may be offered. Mails are appended to those that
+    /// are there. After `Err(OutOfMemory)` the replica may only be dropped.
     #[tactic(auto, unfolding(sc_node_table::specs::Acts::act_queued))]
     pub fn queue_act(&mut self, act: Command, out: &mut Sequence<Mail>) -> Result<(), OutOfMemory>
         ensures row { OnOk result ((self.new, out.new) ≡ act_queued act (self.old, out.old)) }
@@ -79,7 +80,8 @@ impl Replica {
         is_at_rest(idle, &self.acts, &self.calls, &self.machine.core().lock)
     }
 
-    /// Appends the command of an order to the queue of requests and orders.
+    /// Appends the command of an order to the queue of requests and orders. After `Err(OutOfMemory)`
+    /// the replica may only be dropped.
     pub fn put_order(&mut self, command: Command) -> Result<(), OutOfMemory>
         ensures { OnOk result (self.new ≡ with_call command self.old) }
     {
