@@ -16,7 +16,7 @@ use std::alloc::Global;
 /// A row that decides entries of logs.
 #[derive(Drop)]
 pub struct DecidingRow {
-    /// Its number, from 1.
+    /// The number of the row, from 1.
     pub row: u64,
     /// The entries that it decides, at least one, by group and then by slot.
     pub entries: Sequence<LogEntry>,

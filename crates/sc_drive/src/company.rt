@@ -15,7 +15,7 @@ pub struct Score {
     pub skipped: u64,
     /// Whether a line of many deliveries ended with mail pending.
     pub unsettled: bool,
-    /// The actors that have gone by a `go` line.
+    /// The actors that have started by a `go` line.
     pub gone: Vec<u32>,
 }
 

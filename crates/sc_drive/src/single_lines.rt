@@ -80,7 +80,7 @@ fn is_listed(list: &[u32], who: u32) -> bool
     list.iter().any(|number| who == *number)
 }
 
-/// Runs a `go` line of an actor that has not crashed. Where the actor has gone before, no row is
+/// Runs a `go` line of an actor that has not crashed. Where the actor has started before, no row is
 /// made, and the line is counted as skipped.
 pub(crate) fn run_go<A: Actor, R: Wait>(
     rt: &R,

@@ -18,15 +18,15 @@ pub enum Hold {
 /// What a `record` line says of a group: its record by its own log.
 #[derive(Clone, Copy)]
 pub struct GroupRecord {
-    /// Its arc of the circle.
+    /// The arc of the group on the circle.
     pub arc: RingArc,
-    /// The group that took it over, if one did.
+    /// The group that took this one over, if one did.
     pub gone: Option<Draw>,
-    /// How its lock binds it.
+    /// How the lock binds the group.
     pub lock: Hold,
-    /// Its members.
+    /// The members of the group.
     pub members: Members,
-    /// Its name.
+    /// The name of the group.
     pub name: Draw,
     /// The group before it on the circle.
     pub pred: Draw,
@@ -37,11 +37,11 @@ pub struct GroupRecord {
 /// What a `group` line says of a group of the ring: its effective record, in short.
 #[derive(Clone, Copy)]
 pub struct RingGroup {
-    /// Its arc of the circle.
+    /// The arc of the group on the circle.
     pub arc: RingArc,
-    /// Its name.
+    /// The name of the group.
     pub name: Draw,
-    /// The number of its pairs.
+    /// The number of pairs of the group.
     pub pairs: u64,
     /// The group before it on the circle.
     pub pred: Draw,

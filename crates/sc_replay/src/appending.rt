@@ -105,7 +105,7 @@ fn note_event<A, M: Parcel, O>(
     Ok(())
 }
 
-// Adds the actor of a Go to those that have gone.
+// Adds the actor of a Go to those that have started.
 fn note_go<O>(gone: &mut Vec<u32>, who: u32, event: &Event<O>) -> Result<(), OutOfMemory>
     ensures gone { OnOk result
         ((number : ℕ) → list_any (λ n. n == number) gone.new.items
