@@ -10,8 +10,8 @@ pub(crate) struct OpenCopy {
 
 /// What a check keeps of the rows that it has taken: the actors as they are then, the rows, their
 /// mail, and what the walk has counted. The pending copies are kept in ascending order of their
-/// mail, and the actors that have started or crashed in the order of their rows, so that no row needs
-/// a look at all rows before it.
+/// mail, and the actors that have started or crashed in the order of their rows, so that no row
+/// needs a look at all rows before it.
 #[derive(Drop)]
 pub(crate) struct Stage<A, M, O> {
     pub seats: Vec<Seat<A>>,
