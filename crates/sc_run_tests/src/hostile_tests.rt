@@ -60,7 +60,7 @@ const SINK_FAILS: &[Case] = &[
 ];
 
 #[test]
-fn a_failing_sink_wins_over_each_status(rt: HostRuntime) {
+fn a_failing_sink_overrides_each_status(rt: HostRuntime) {
     check_all(&rt, rt.alloc(), SINK_FAILS);
 }
 
