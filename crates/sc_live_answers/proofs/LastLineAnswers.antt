@@ -7,7 +7,7 @@ use Rattle.sc_actor.specs.declared.schedules.Line.TheVariants as line
 use Rattle.sc_actor.specs.Definitions.{System}
 use Rattle.sc_node_table.specs.Definitions.{numbers_from}
 use Rattle.sc_paxos_law.proofs.Lemmas.{Among-right}
-use Rattle.sc_live_orderly.proofs.Lemmas.{has_started, plain_in_time, seat_found}
+use Rattle.sc_live_orderly.proofs.Lemmas.{started_when_whole, plain_in_time, seat_found}
 use Rattle.sc_scenario.specs.Definitions.{ValidScenariosAreBounded}
 use Rattle.sc_scenario.specs.declared.scenarios.SchedLine.TheVariants.{Go}
 use Rattle.sc_sound.specs.Definitions.{Player, node_seat, client_seat, route_of, births, line_of, schedule, system_of, as_nodes}
@@ -30,5 +30,5 @@ last_lines_answer all_bounded sound_law quiet_law rest_law words scenario journa
     let born = seat_found (births as_nodes scenario) seat s.seats_apart there in
     let lines : map line_of served.before ++ line.Go (client_actor asks.client) ∷ map line_of served.after ≡ schedule scenario = sym (ap (map line_of) served.lines_are ∙ map-append line_of served.before (Go asks.client ∷ served.after)) in
     let told : Among (line.Go (client_actor asks.client)) (schedule scenario) = subst (λ (ls : List (Line OrderLine)). Among (line.Go (client_actor asks.client)) ls) lines (Among-right (line.Go (client_actor asks.client)) (map line_of served.before) (line.Go (client_actor asks.client) ∷ map line_of served.after) (inl refl)) in
-    let gone = has_started sys (client_actor asks.client) seat born (schedule scenario) told journal lawful whole in
+    let gone = started_when_whole sys (client_actor asks.client) seat born (schedule scenario) told journal lawful whole in
     answered_since sound_law words scenario s journal valid lawful asks a journal [] (sym (append-nil journal)) quiet gone first others groups

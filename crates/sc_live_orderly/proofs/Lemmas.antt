@@ -12,5 +12,5 @@ pub use Rattle.sc_live_orderly.proofs.SpacedLines.{rows_in_time, deliveries_and_
 pub use Rattle.sc_live_orderly.proofs.SettledInTime.{settled_in_time}
 pub use Rattle.sc_live_orderly.proofs.UncutPrefixes.{uncut_before}
 pub use Rattle.sc_live_orderly.proofs.LastLineQuiet.{ends_quiet_at_last}
-pub use Rattle.sc_live_orderly.proofs.StartedActors.{has_started}
+pub use Rattle.sc_live_orderly.proofs.StartedActors.{started_when_whole}
 pub use Rattle.sc_live_orderly.proofs.PlainRowsInTime.{plain_in_time}

@@ -62,8 +62,8 @@ module _ {A M O : Type 0} (s : System A M O) (who : ℕ) (seat : Seat A) (born :
     told (line ∷ first) (inr a) = among_right (tasks_of s.words line) (flat_map (tasks_of s.words) first) (told first a)
 
     -- in a whole journal it has started
-    pub has_started : Among (GoLine who) lines → (journal : List (Row M O)) → IsLawful s lines journal → IsWhole s lines journal → has_gone journal who ≡ true
-    has_started a journal lawful whole =
+    pub started_when_whole : Among (GoLine who) lines → (journal : List (Row M O)) → IsLawful s lines journal → IsWhole s lines journal → has_gone journal who ≡ true
+    started_when_whole a journal lawful whole =
         elim (by_rows s lines (λ rows. Goes rows (place_after s lines rows).tasks) (onward_goes [] (flat_map (tasks_of s.words) lines) 0 false (inr (told lines a))) row_goes journal lawful) [
           | inl gone ↦ gone
           | inr ahead ↦ absurd (subst (λ (tasks : List (Task O)). Among (Once (GoLine who)) tasks) whole ahead)
