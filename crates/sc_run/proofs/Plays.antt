@@ -69,6 +69,7 @@ module _ (law : ValidJournalsAreSound) (causes : ValidJournalsRefuseWithCause) (
         answered = λ within. budgets.answered two_words scenario journal valid within allowed through;
         uncut = λ calm settled short. budgets.uncut two_words scenario journal valid calm allowed through (sym same_cut ∙ settled) short;
         last = λ ends short. budgets.last two_words scenario journal valid ends allowed through short;
+        reported = λ calm settled short. budgets.reported two_words scenario journal valid calm allowed through (sym same_cut ∙ settled) short;
       }
 
   -- a journal that a driver has filled is a play's
@@ -101,6 +102,7 @@ comes_ended Shows scenario cut quiet skips journal parties text e lines journal_
   settled = λ within. ap said_of (e.settled within);
   answered = λ calm ended. e.uncut calm (ended_uncut cut ended) (let counts = journal_counts mail_weight journal in let within = e.within in omega (arith, counts, within));
   last = λ ends. e.last ends (let counts = journal_counts mail_weight journal in let within = e.within in omega (arith, counts, within));
+  reported = λ calm ended. e.reported calm (ended_uncut cut ended) (let counts = journal_counts mail_weight journal in let within = e.within in omega (arith, counts, within));
 })
 
 -- the text of a run whose journal is full

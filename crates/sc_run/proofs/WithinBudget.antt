@@ -22,6 +22,7 @@ use Rattle.sc_live_plain.proofs.Lemmas.{roomy_scenarios_are_calm}
 use Rattle.sc_live_plain.specs.LastLine.{LastLinesAnswer}
 use Rattle.sc_live_plain.specs.Laws.{PlainLinesEndQuiet, PlainRequestsAreAnswered, PlainJournalsAreLight}
 use Rattle.sc_live_answers.specs.AnsweredRequests.{CalmLinesSettle, CalmRequestsAreAnswered, SettledRequestsAreAnswered}
+use Rattle.sc_live_answers.specs.ReportedOrders.{AreOrdersReported, SettledOrdersAreReported}
 use Rattle.sc_command_line.specs.Subcommands.{subcommand_by}
 use Rattle.sc_command_line.specs.declared.subcommands.Subcommand.{Subcommand}
 use Rattle.sc_command_line.specs.declared.subcommands.Subcommand.TheVariants as ask
@@ -33,8 +34,8 @@ use Rattle.sc_run.specs.Run.{Comes, Ends, PlaysUntilFull, Refuses, SaysFor, Show
 use Rattle.sc_run.specs.Shown.{ShowsScan}
 
 -- the laws of plain and of calm journals, together
-pub suffice : PlainLinesEndQuiet → PlainRequestsAreAnswered → PlainJournalsAreLight → CalmLinesSettle → CalmRequestsAreAnswered → SettledRequestsAreAnswered → LastLinesAnswer → BudgetsSuffice
-suffice plain_quiet plain_answered light calm_quiet calm_answered settled_answered last_answered = record {
+pub suffice : PlainLinesEndQuiet → PlainRequestsAreAnswered → PlainJournalsAreLight → CalmLinesSettle → CalmRequestsAreAnswered → SettledRequestsAreAnswered → LastLinesAnswer → SettledOrdersAreReported → BudgetsSuffice
+suffice plain_quiet plain_answered light calm_quiet calm_answered settled_answered last_answered settled_reported = record {
   settled = λ words scenario journal valid within lawful. elim within [
     | inl plain ↦ plain_quiet words scenario journal valid plain lawful
     | inr calm ↦ calm_quiet words scenario journal valid calm lawful
@@ -46,6 +47,7 @@ suffice plain_quiet plain_answered light calm_quiet calm_answered settled_answer
   light = light;
   uncut = settled_answered;
   last = last_answered;
+  reported = settled_reported;
 }
 
 -- what was said, and the journal of the text
@@ -54,6 +56,7 @@ record IsAnswered (scenario : Scenario) (said : Said) (text : Text) : Type 0 whe
   journal : List (Row Mail OrderLine)
   journal_is : text.journal ≡ Some journal
   answers : AreAnswered scenario journal
+  reports : AreOrdersReported scenario journal
 
 -- the input is no other scenario, and has no bad line
 same_text : (source : SourceUse) (one other : Scenario) → IsText source one → IfSome source.left (λ input. verdict_of input ≡ Ok other) → other ≡ one
@@ -79,7 +82,7 @@ calm_within scenario (inr calm) = roomy_scenarios_are_calm.calm (calm_budget_of 
 comes_answered : (Shows : List (Row Mail OrderLine) → List (List ℕ) → Type 0) (scenario : Scenario) (said : Said) (text : Text) → IsWithinBudget scenario → Comes Shows scenario said text → IsOver scenario said text
 comes_answered Shows scenario said text within (inl plays) =
     let ended = plays.settled within in
-    inl (record { status = ap status_of ended; journal = plays.journal; journal_is = plays.reports.journal_is; answers = plays.answered (calm_within scenario within) ended })
+    inl (record { status = ap status_of ended; journal = plays.journal; journal_is = plays.reports.journal_is; answers = plays.answered (calm_within scenario within) ended; reports = plays.reported (calm_within scenario within) ended })
 comes_answered Shows scenario said text within (inr full) = inr full
 
 -- what follows from each outcome of the scenario that was asked for, and from each refusal of its text, follows from what a run says
@@ -115,12 +118,8 @@ says_answered what source scenario said text asked within still says =
 comes_zero : (Shows : List (Row Mail OrderLine) → List (List ℕ) → Type 0) (scenario : Scenario) (said : Said) (text : Text) → IsCalm scenario → status_of said ≡ 0 → Comes Shows scenario said text → IsAnswered scenario said text
 comes_zero Shows scenario said text calm zero_is (inr full) = (let seven = ap status_of full.said_is in absurd (omega (arith, zero_is, seven)))
 comes_zero Shows scenario said text calm zero_is (inl plays) =
-    record {
-      status = zero_is;
-      journal = plays.journal;
-      journal_is = plays.reports.journal_is;
-      answers = plays.answered calm (ended (unsettled (system_of as_nodes two_words scenario) (schedule scenario) plays.journal) plays.said_is);
-    }
+    let over = ended (unsettled (system_of as_nodes two_words scenario) (schedule scenario) plays.journal) plays.said_is in
+    record { status = zero_is; journal = plays.journal; journal_is = plays.reports.journal_is; answers = plays.answered calm over; reports = plays.reported calm over }
   where
     ended : (cut : Bool) → said ≡ said_of cut → said ≡ Ended
     ended true is = (let six = ap status_of is in absurd (omega (arith, zero_is, six)))
@@ -141,7 +140,7 @@ module _ (words : List (List ℕ)) (source : SourceUse) (sink : SinkUse) (done :
       let either = says_answered (subcommand_by words) source scenario printed.said printed.text asked (within scenario such) calm printed.says in
       elim (printed.prints) [
         | inl whole ↦ elim either [
-          | inl a ↦ inl (record { status = whole.0 ∙ a.status; journal = a.journal; journal_is = printed.journal ∙ a.journal_is; answered = a.answers })
+          | inl a ↦ inl (record { status = whole.0 ∙ a.status; journal = a.journal; journal_is = printed.journal ∙ a.journal_is; answered = a.answers; reported = a.reports })
           | inr filled ↦ inr (subst May (sym whole.0) (full scenario printed.said printed.text such filled))
         ]
         | inr failed ↦ absurd (still failed.3)
@@ -155,7 +154,7 @@ module _ (words : List (List ℕ)) (source : SourceUse) (sink : SinkUse) (done :
         let zero_said : status_of printed.said ≡ 0 = sym whole.0 ∙ zero_is in
         let a = says_follows scenario printed.said printed.text (IsAnswered scenario printed.said printed.text) (λ Shows comes. comes_zero Shows scenario printed.said printed.text calm zero_said comes) (subcommand_by words) source asked
         (λ is refuses. absurd (refused_other source printed.said printed.text zero_said refuses)) printed.says in
-        record { status = zero_is; journal = a.journal; journal_is = printed.journal ∙ a.journal_is; answered = a.answers })
+        record { status = zero_is; journal = a.journal; journal_is = printed.journal ∙ a.journal_is; answered = a.answers; reported = a.reports })
     | inr failed ↦ (let five = failed.0 in absurd (omega (arith, zero_is, five)))
   ]
 

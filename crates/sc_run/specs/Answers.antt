@@ -10,6 +10,7 @@ use Rattle.sc_scenario.specs.Made.{made_scenario}
 use Rattle.sc_scenario.specs.declared.scenarios.Scenario.{Scenario}
 use Rattle.sc_live_plain.specs.Budget.{IsAtBudget, AreAnswered}
 use Rattle.sc_live_plain.specs.CalmBudget.{IsCalm, IsCalmAtBudget}
+use Rattle.sc_live_answers.specs.ReportedOrders.{AreOrdersReported}
 use Rattle.sc_command_line.specs.Subcommands.{subcommand_by}
 use Rattle.sc_command_line.specs.declared.subcommands.Subcommand.{Subcommand}
 use Rattle.sc_command_line.specs.declared.subcommands.Subcommand.TheVariants as ask
@@ -31,12 +32,13 @@ IsAskedFor (Some ask.Explain) source scenario = ⊥
 IsAskedFor (Some (ask.Scan sight)) source scenario = IsText source scenario
 IsAskedFor (Some (ask.Make n seed)) source scenario = scenario ≡ made_scenario n seed
 
--- the status is 0, and in the journal that is handed back every request of a client whose `go` line is followed by a line of deliveries is answered
+-- the status is 0, and in the journal that is handed back every request of a client whose `go` line is followed by a line of deliveries is answered, and the result of each order is reported
 pub record AnswersAll (scenario : Scenario) (done : Done) : Type 0 where
   pub status : done.status ≡ 0
   pub journal : List (Row Mail OrderLine)
   pub journal_is : done.journal ≡ Some journal
   pub answered : AreAnswered scenario journal
+  pub reported : AreOrdersReported scenario journal
 
 -- Where the arguments ask for a scenario of this kind, and no read or write error came, a run answers all; or its status is one of these.
 abbrev pub AnswersWhere : (Scenario → Type 0) → (ℕ → Type 0) → List (List ℕ) → SourceUse → SinkUse → Done → Type 0
@@ -53,7 +55,7 @@ AnswersWithinBudget words source sink done = AnswersWhere IsAtBudget (λ status.
 abbrev pub AnswersCalmly : List (List ℕ) → SourceUse → SinkUse → Done → Type 0
 AnswersCalmly words source sink done = AnswersWhere IsCalmAtBudget (λ status. (status ≡ 7) ⊎ (status ≡ 8)) words source sink done
 
--- Where the arguments ask for a calm scenario, a run with status 0 answers every request of each client whose `go` line is followed by a line of deliveries.
+-- Where the arguments ask for a calm scenario, a run with status 0 answers every request of each client whose `go` line is followed by a line of deliveries, and reports the result of each order.
 abbrev pub AnswersOnStatusZero : List (List ℕ) → SourceUse → Done → Type 0
 AnswersOnStatusZero words source done =
     (scenario : Scenario) → IsAskedFor (subcommand_by words) source scenario → IsCalm scenario → done.status ≡ 0 → AnswersAll scenario done

@@ -24,6 +24,7 @@ use Rattle.sc_world.specs.Summary.{summary_of}
 use Rattle.sc_live_plain.specs.Budget.{IsAtBudget, AreAnswered}
 use Rattle.sc_live_plain.specs.CalmBudget.{IsCalm}
 use Rattle.sc_live_plain.specs.LastLine.{EndsAtBudget}
+use Rattle.sc_live_answers.specs.ReportedOrders.{AreOrdersReported}
 use Rattle.sc_run.specs.Budgets.{IsWithinBudget}
 use Rattle.sc_run.specs.Played.{mail_weight, HasFilled}
 use Rattle.sc_run.specs.Shown.{ShowsScan}
@@ -84,7 +85,7 @@ pub record ReportsJournal (Shows : List (Row Mail OrderLine) → List (List ℕ)
   pub journal_is : text.journal ≡ Some journal
   pub parties_are : text.parties ≡ parties as_nodes scenario journal
 
--- The text shows some journal of the scenario, and says whether a line was cut off with mail pending. Within the scenario's budget none was. Where the scenario is calm and none was, every request of a client whose `go` line is followed by a line of deliveries is answered; and where it is plain and its last line is at the budget, whatever lines before it were cut off.
+-- The text shows some journal of the scenario, and says whether a line was cut off with mail pending. Within the scenario's budget none was. Where the scenario is calm and none was, every request of a client whose `go` line is followed by a line of deliveries is answered, and the result of each order is reported; where it is plain and its last line is at the budget such requests are answered, whatever lines before it were cut off.
 pub record Plays (Shows : List (Row Mail OrderLine) → List (List ℕ) → Type 0) (scenario : Scenario) (said : Said) (text : Text) : Type 0 where
   pub journal : List (Row Mail OrderLine)
   pub reports : ReportsJournal Shows scenario journal text
@@ -92,6 +93,7 @@ pub record Plays (Shows : List (Row Mail OrderLine) → List (List ℕ) → Type
   pub settled : IsWithinBudget scenario → said ≡ Ended
   pub answered : IsCalm scenario → said ≡ Ended → AreAnswered scenario journal
   pub last : EndsAtBudget scenario → AreAnswered scenario journal
+  pub reported : IsCalm scenario → said ≡ Ended → AreOrdersReported scenario journal
 
 -- The text reports of some journal of the scenario that it is full: a row that may come next passes the limit. No journal of a plain scenario at its budget is.
 pub record PlaysUntilFull (scenario : Scenario) (said : Said) (text : Text) : Type 0 where

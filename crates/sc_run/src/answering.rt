@@ -3,7 +3,7 @@ ghost use Rattle.sc_run.specs.Budgets.{BudgetsSuffice};
 
 use sc_live_answers::{
     calm_lines_settle, calm_requests_are_answered, last_lines_answer, plain_journals_are_answered,
-    settled_requests_are_answered,
+    settled_orders_are_reported, settled_requests_are_answered,
 };
 use sc_live_plain::{plain_journals_are_light, plain_lines_end_quiet};
 
@@ -11,8 +11,9 @@ use sc_live_plain::{plain_journals_are_light, plain_lines_end_quiet};
 /// is cut off with mail pending; in each whole one every request of a client whose `go` line is
 /// followed by a line of deliveries is answered; and no journal of a plain one counts more than
 /// 2^30 bytes. In each whole journal of a calm one in which no line was cut off such requests are
-/// answered too, and in each whole journal of a plain one whose last line alone is at the budget,
-/// whatever lines before it were cut off.
+/// answered too, and the result of each order is reported; and in each whole journal of a plain
+/// one whose last line alone is at the budget, whatever lines before it were cut off, such requests
+/// are answered.
 pub(crate) fn budgets_suffice()
     ensures { BudgetsSuffice }
 {
@@ -23,4 +24,5 @@ pub(crate) fn budgets_suffice()
     calm_requests_are_answered();
     settled_requests_are_answered();
     last_lines_answer();
+    settled_orders_are_reported();
 }
