@@ -1,2 +1,3 @@
 pub mod QueueProofs
 pub mod RefusalProofs
+pub mod PatienceProofs

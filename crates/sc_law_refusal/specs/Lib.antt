@@ -1,2 +1,3 @@
 pub mod queue
 pub mod refusal
+pub mod patience
