@@ -83,6 +83,17 @@ module _ (W : Draw → Type 0) where
   order_gives Noop q = tt
   order_gives _ q = tt
 
+  -- ---- parts that hold no command
+
+  pub with_top : (r : ReplicaState) (top : Ballot) → Holds r → Holds (record r { top = top })
+  with_top r top h = record { calls = h.calls; acts = h.acts; flights = h.flights; ready = h.ready; reports = h.reports; accepted = h.accepted; log = h.log }
+
+  pub with_hint : (r : ReplicaState) (hint : Option ℕ) → Holds r → Holds (record r { hint = hint })
+  with_hint r hint h = record { calls = h.calls; acts = h.acts; flights = h.flights; ready = h.ready; reports = h.reports; accepted = h.accepted; log = h.log }
+
+  pub with_waits : (r : ReplicaState) (waits : ℕ) → Holds r → Holds (record r { waits = waits })
+  with_waits r waits h = record { calls = h.calls; acts = h.acts; flights = h.flights; ready = h.ready; reports = h.reports; accepted = h.accepted; log = h.log }
+
   -- ---- queues
 
   pub with_calls : (r : ReplicaState) (commands : List Command) → Commands commands → Holds r → Holds (record r { calls = commands })

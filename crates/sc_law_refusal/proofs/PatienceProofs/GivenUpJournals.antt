@@ -105,7 +105,7 @@ module _ (ahead : Ahead) (open_slots : ahead.slots ≡ slots_ahead) (words : ℕ
       client_acts : (client : ClientState) (input : Input Mail OrderLine) → Acted (player_table (Client client) input)
       client_acts client input = (tt, elim (sends_in_turn client input).sends [
         | inl none ↦ subst (λ (ms : List Mail). Mails ms) (sym none) tt
-        | inr one ↦ subst (λ (ms : List Mail). Mails ms) (sym one.2.2.2.1) (tt, tt)
+        | inr one ↦ subst (λ (ms : List Mail). Mails ms) (sym one.4) (tt, tt)
       ])
 
       got : (p : Player) (o : Option Mail) → Opt (λ (mail : Mail). MailGives F mail.body) o → PlayerGives seat.who p → Acted (acted player_table p (option_map Got o))

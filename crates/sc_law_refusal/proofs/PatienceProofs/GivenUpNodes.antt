@@ -7,13 +7,13 @@ use Rattle.sc_base.proofs.Lemmas.{draw_is}
 use Rattle.sc_node_table.specs.Values.{Draw, Input, Got, Base, Body, Lock, Free, Coordinating, Promised, Watching, Command, GiveUp, Heard, OrderLine, Mail, MailBody, Request, Answer, Prepare, Promise, Accept, Accepted, Nack, Learn, Ask, Install, TxPrepare, TxVote, TxOutcome, TxElsewhere, TxWatch, TxWatched, Told as ToldMail}
 use Rattle.sc_actor.specs.declared.rows.Input.TheVariants.{Tick, Go, Told}
 use Rattle.sc_paxos_words.proofs.Lemmas.{Each-append, Each-among, Each-weaker, find_found}
-use Rattle.sc_node_table.specs.Definitions.{NodeState, ReplicaState, Place, name_of, slots_ahead, last_slot, born_replica, installed_replica, made_by, named, replica_of, with_replica, is_before, with_new, with_born, with_children, with_made, unknown, absent, may_come, taken_by, routed, group_of_mail, group_of_order, ordered_of, ordered_row, mailed, ticked, tick_row, names_after_tick, node_table, settled, waited_in, with_act, has_act, one_tick_more, patience}
+use Rattle.sc_node_table.specs.Definitions.{NodeState, ReplicaState, Place, name_of, slots_ahead, last_slot, born_replica, installed_replica, forgotten, made_by, named, replica_of, with_replica, is_before, with_new, with_born, with_children, with_made, unknown, may_come, taken_by, routed, group_of_mail, group_of_order, ordered_of, ordered_row, mailed, ticked, tick_row, names_after_tick, node_table, settled, waited_in, with_act, has_act, one_tick_more, patience}
 use Rattle.sc_law_walks.proofs.Ways.{either_way}
 use Rattle.sc_law_walks.proofs.PlaceWalks.{Before, After, Hears}
 use Rattle.sc_law_walks.proofs.PlaceRows.{takes_mail, orders, looks_up}
 use Rattle.sc_law_walks.proofs.PlaceTicks.{ticks_where}
 use Rattle.sc_law_walks.specs.Definitions.{IsKept}
-use Rattle.sc_law_refusal.proofs.PatienceProofs.GivenUpCommands.{Gives, MailGives, Holds, with_acts, Commands, forgotten_gives}
+use Rattle.sc_law_refusal.proofs.PatienceProofs.GivenUpCommands.{Gives, MailGives, Holds, with_acts, with_waits, forgotten_gives}
 use Rattle.sc_law_refusal.proofs.PatienceProofs.GivenUpRows.{Said, Stands, given_facts, given_walk, given_agains}
 
 -- a replica with the name of a group
@@ -50,7 +50,7 @@ module _ (F : Draw → Draw → Type 0) (me : ℕ) where
   add new [] n k = (n, tt)
   add new (r ∷ replicas) n k = either_way All (is_before (name_of r) (name_of new)) (r ∷ with_new new replicas) (new ∷ r ∷ replicas) (k.0, add new replicas n k.1) (n, k)
 
-  born : (base : Base) → Keeps (born_replica slots_ahead me base)
+  pub born : (base : Base) → Keeps (born_replica slots_ahead me base)
   born base = ((refl, refl, ((λ off. (refl, refl, refl)), tt, tt)), record { calls = tt; acts = tt; flights = tt; ready = tt; reports = tt; accepted = tt; log = tt })
 
   child_step : (child : Base) (node : NodeState) (mails : List Mail) → Step (node, mails) → Step (with_born child node, mails)
@@ -65,26 +65,17 @@ module _ (F : Draw → Draw → Type 0) (me : ℕ) where
 
   -- ---- a mail
 
-  absents : (from : ℕ) (body : MailBody) → Mails (absent me from body)
-  absents from (Request group client seq op) = (tt, tt)
-  absents from (Prepare group ballot from_slot) = (tt, tt)
-  absents from (Accept group ballot slot command) = (tt, tt)
-  absents from (Learn group slot command) = (tt, tt)
-  absents from (TxPrepare tx offer) = (tt, tt)
-  absents from (TxWatch tx watch) = (tt, tt)
-  absents from _ = tt
+  installed_kept : (group : Draw) (slot : ℕ) (base : Base) (sets : List (List ℕ)) → length sets ≡ slots_ahead → IsKept me (installed_replica me slot (named group base) sets)
+  unfolding forgotten
+  installed_kept group slot base sets many = (refl, many, ((λ off. (refl, refl, refl)), tt, tt))
+
+  installed_name : (group : Draw) (slot : ℕ) (base : Base) (sets : List (List ℕ)) → name_of (installed_replica me slot (named group base) sets) ≡ group
+  unfolding forgotten
+  installed_name group slot base sets = refl
 
   installed : (group : Draw) (slot : ℕ) (base : Base) (sets : List (List ℕ)) → length sets ≡ slots_ahead → Before (given_facts F me group) (installed_replica me slot (named group base) sets, [])
   installed group slot base sets many =
-      (kept, (name, forgotten_gives (F group) slot _ (record { calls = tt; acts = tt; flights = tt; ready = tt; reports = tt; accepted = tt; log = tt }), tt))
-    where
-      kept : IsKept me (installed_replica me slot (named group base) sets)
-      unfolding forgotten
-      kept = (refl, many, ((λ off. (refl, refl, refl)), tt, tt))
-
-      name : name_of (installed_replica me slot (named group base) sets) ≡ group
-      unfolding forgotten
-      name = refl
+      (installed_kept group slot base sets many, (installed_name group slot base sets, forgotten_gives (F group) slot _ (record { calls = tt; acts = tt; flights = tt; ready = tt; reports = tt; accepted = tt; log = tt }), tt))
 
   installed_off : (group : Draw) (slot : ℕ) (base : Base) (sets : List (List ℕ)) → (installed_replica me slot (named group base) sets).running ≡ false
   unfolding forgotten
@@ -94,9 +85,6 @@ module _ (F : Draw → Draw → Type 0) (me : ℕ) where
   unfolding made_by
   makes from group slot base sets many =
       out group (made_by me from group slot base sets) (looks_up (given_walk F me group) from (installed_replica me slot (named group base) sets, []) (installed_off group slot base sets) (installed group slot base sets many))
-
-  none_sent : (node : NodeState) (from : ℕ) (body : MailBody) → (node.me ≡ me) × All node.replicas → Step (node, absent node.me from body)
-  none_sent node from body k = (k.0, k.1, subst (λ (n : ℕ). Mails (absent n from body)) (sym k.0) (absents from body))
 
   unknown_step : (from : ℕ) (body : MailBody) (node : NodeState) → (node.me ≡ me) × All node.replicas → Step (unknown from body node)
   unknown_step from (Install group slot base sets) node k = by (eqb (length sets) slots_ahead) refl
@@ -109,8 +97,13 @@ module _ (F : Draw → Draw → Type 0) (me : ℕ) where
       by : (c : Bool) → eqb (length sets) slots_ahead ≡ c → Step (cond {A = NodeState × List Mail} (not c || nat_lt last_slot slot) (node, []) (with_made (made_by node.me from group slot base sets) node))
       by false e = (k.0, k.1, tt)
       by true e = either_way Step (nat_lt last_slot slot) (node, []) (with_made (made_by node.me from group slot base sets) node) (k.0, k.1, tt) (made (eqb-true (length sets) slots_ahead e))
-  unknown_step from (Request group client seq op) node k = none_sent node from (Request group client seq op) k
-  unknown_step from _ node k = none_sent node from _ k
+  unknown_step from (Request group client seq op) node k = (k.0, k.1, (tt, tt))
+  unknown_step from (Prepare group ballot from_slot) node k = (k.0, k.1, (tt, tt))
+  unknown_step from (Accept group ballot slot command) node k = (k.0, k.1, (tt, tt))
+  unknown_step from (Learn group slot command) node k = (k.0, k.1, (tt, tt))
+  unknown_step from (TxPrepare tx offer) node k = (k.0, k.1, (tt, tt))
+  unknown_step from (TxWatch tx watch) node k = (k.0, k.1, (tt, tt))
+  unknown_step from _ node k = (k.0, k.1, tt)
 
   hears : (group : Draw) (body : MailBody) → group_of_mail body ≡ Some group → MailGives F body → Hears (given_facts F me group) body
   hears group (Accept of ballot slot command) e g = (let same : of ≡ group = cc in (tt, subst (λ (name : Draw). Gives (F name) command) same g))
@@ -160,9 +153,10 @@ module _ (F : Draw → Draw → Type 0) (me : ℕ) where
   waits (Coordinating tx body order heard) r mails e leads may k =
       let longer : ReplicaState = record r { waits = one_tick_more r.waits } in
       let after : ReplicaState = record longer { acts = longer.acts ++ GiveUp tx ∷ [] } in
+      let more : Holds (F (name_of r)) longer = with_waits (F (name_of r)) r longer.waits k.1 in
       cond_both (nat_le patience (one_tick_more r.waits)) (with_act (GiveUp tx) longer) longer (λ (x : ReplicaState). Stands F me (name_of r) (x, mails))
-      (λ long. cond_both (has_act (GiveUp tx) longer) longer after (λ (x : ReplicaState). Stands F me (name_of r) (x, mails)) (λ _. (k.0, k.1, k.2))
-      (λ none. (k.0, with_acts (F (name_of r)) longer after.acts (Each-append (Gives (F (name_of r))) longer.acts (GiveUp tx ∷ []) k.1.acts (may tx body order heard leads e long none, tt)) k.1, k.2))) (λ _. (k.0, k.1, k.2))
+      (λ long. cond_both (has_act (GiveUp tx) longer) longer after (λ (x : ReplicaState). Stands F me (name_of r) (x, mails)) (λ _. (k.0, more, k.2))
+      (λ none. (k.0, with_acts (F (name_of r)) longer after.acts (Each-append (Gives (F (name_of r))) longer.acts (GiveUp tx ∷ []) k.1.acts (may tx body order heard leads e long none, tt)) more, k.2))) (λ _. (k.0, more, k.2))
   waits (Promised tx offer) r mails e leads may k = k
   waits (Watching tx watch) r mails e leads may k = k
 

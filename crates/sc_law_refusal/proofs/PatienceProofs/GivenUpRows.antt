@@ -14,7 +14,7 @@ use Rattle.sc_law_walks.proofs.PlaceEntries.{EntryParts, entry_kept}
 use Rattle.sc_law_walks.proofs.Talks.{all_sent, one_answered, all_answered, all_dismissed}
 use Rattle.sc_law_walks.specs.Definitions.{IsKept}
 use Rattle.sc_law_refusal.proofs.RefusalProofs.Executing.{entered_name}
-use Rattle.sc_law_refusal.proofs.PatienceProofs.GivenUpCommands.{Gives, MailGives, Holds, Commands, Reports, filed_gives, order_gives, with_calls, with_acts, without_gives, back_gives, with_leader, with_ready, landed_gives, flying_gives, polled_gives, count_gives, chosen_gives, must_gives, entry_gives, forgotten_gives, with_acceptor}
+use Rattle.sc_law_refusal.proofs.PatienceProofs.GivenUpCommands.{Gives, MailGives, Holds, Commands, Reports, filed_gives, order_gives, with_top, with_hint, with_calls, with_acts, without_gives, back_gives, with_leader, with_ready, landed_gives, flying_gives, polled_gives, count_gives, chosen_gives, must_gives, entry_gives, forgotten_gives, with_acceptor}
 
 -- what goes back leaves the group as it is
 back_name : (command : Command) (r : ReplicaState) → name_of (put_back command r) ≡ name_of r
@@ -156,19 +156,19 @@ module _ (F : Draw → Draw → Type 0) (me : ℕ) (group : Draw) where
     Behind = λ slot. Unit {0};
   }
 
-  given_states : PlaceStates given_facts
+  pub given_states : PlaceStates given_facts
   given_states = record {
     late = λ place k. k;
     again = λ command r mails on e k. (k, subst (λ (o : Option Command). Opt (Gives W) o) e (opt_slot (Gives W) r.ready (next r) k.1.ready));
     counted_entry = λ command r mails kept on e good k. entry_at_slot true command r mails (λ t. on) kept good k;
     learnt_entry = λ command r mails kept good k. entry_at_slot false command r mails (λ t. absurd (true≢false (sym t))) kept good k;
     jumped = λ slot base sets r mails many good later off k. (jumped_name slot base sets r ∙ k.0, jumps slot base sets r k.1, k.2);
-    hinted = λ hint r mails off k. (k.0, k.1, k.2);
+    hinted = λ hint r mails off k. (k.0, with_hint W r hint k.1, k.2);
     ended = λ hint answer r mails kept on k. ends hint answer r mails k;
     overtaken = λ ballot r mails kept good on t k. ends (Some ballot.node) (NotLeader (Some ballot.node)) (cond (below r.top ballot) (record r { top = ballot }) r) mails
-        (either_way (λ (x : ReplicaState). Stands (x, mails)) (below r.top ballot) (record r { top = ballot }) r (k.0, k.1, k.2) k);
+        (either_way (λ (x : ReplicaState). Stands (x, mails)) (below r.top ballot) (record r { top = ballot }) r (k.0, with_top W r ballot k.1, k.2) k);
     elected = λ r mails kept k. elects r mails k;
-    seen = λ ballot r mails good t on k. (k.0, k.1, k.2);
+    seen = λ ballot r mails good t on k. (k.0, with_top W r ballot k.1, k.2);
     polled = λ from ballot reports r mails on good k. (k.0, polled_gives W from ballot reports r (reported reports good) k.1, k.2);
     counts = λ from ballot slot set count r mails on e k. (k.0, counts from ballot slot set r k.1, k.2);
     chosen = λ from ballot slot set command r mails on e voted k. (let c = is_chosen from ballot slot set command r e k.1 in
@@ -204,7 +204,7 @@ module _ (F : Draw → Draw → Type 0) (me : ℕ) (group : Draw) where
   recalled : (to slot : ℕ) (command : Command) (r : ReplicaState) (mails : List Mail) → entry_at slot r.log ≡ Some command → Stands (r, mails) → Stands (r, sent r.me to (Learn (name_of r) slot command) mails)
   recalled to slot command r mails e k = (k.0, k.1, say r.me to (Learn (name_of r) slot command) mails (own r command k.0 (subst (λ (o : Option Command). Opt (Gives W) o) e (entry_gives W slot r k.1))) k.2)
 
-  given_says : PlaceSays given_facts
+  pub given_says : PlaceSays given_facts
   given_says = record {
     early = λ r same. talk r;
     late = λ r same. talk r;
