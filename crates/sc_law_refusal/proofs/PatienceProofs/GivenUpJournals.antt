@@ -1,10 +1,10 @@
 -- Every lawful journal gives up in time: wherever a GiveUp stands, a replica of its group first queued it at a tick after it had waited long enough.
-use Rattle.std.proofs.Common.{◌≡◌, ℕ, zero, suc, ◌+◌, ◌-◌, ◌^◌, ◌≤◌, nat_le, eqb, cond, Bool, true, false, refl, sym, ◌∙◌, ap, subst, arith, List, [], ◌∷◌, ◌++◌, append_assoc, filter, map, Option, Some, None, ◌⊎◌, inl, inr}
+use Rattle.std.proofs.Common.{◌≡◌, ℕ, zero, suc, ◌+◌, ◌-◌, ◌^◌, ◌≤◌, eqb, true, refl, sym, ◌∙◌, ap, subst, arith, List, [], ◌∷◌, ◌++◌, append_assoc, filter, map, Option, Some, None, inl, inr}
 use Rattle.std.specs.Option.{option_map}
 use Rattle.std.specs.List.{find}
 use Rattle.std.proofs.lemmas.Bool.{cond_both, cond-true, eqb-true, eq-eqb, leb-true}
 use Rattle.sc_base.specs.Definitions.{Among, Each, is_member}
-use Rattle.sc_node_table.specs.Values.{Draw, Seat, Row, Event, Deliver, Drop, Again, Crash, Input, Got, Base, Body, Lock, Coordinating, Route, Command, GiveUp, Heard, OrderLine, Mail, MailBody, Request, Answer, Prepare, Promise, Accept, Accepted, Nack, Learn, Ask, Install, TxPrepare, TxVote, TxOutcome, TxElsewhere, TxWatch, TxWatched, Told as ToldMail, Report, Flight, Node, Client}
+use Rattle.sc_node_table.specs.Values.{Draw, Seat, Row, Event, Deliver, Drop, Again, Crash, Input, Got, Base, Body, Lock, Coordinating, Command, GiveUp, Heard, OrderLine, Mail, MailBody, Request, Promise, Accept, Learn, Report, Flight, Node, Client}
 use Rattle.sc_actor.specs.declared.rows.Event.TheVariants.{Tick as TickEvent, Go as GoEvent, Told as ToldEvent}
 use Rattle.sc_actor.specs.declared.rows.Input.TheVariants.{Tick, Go, Told}
 use Rattle.sc_actor.specs.Definitions.{mails, numbered, acted, input_of, value, IsStep}
@@ -103,10 +103,13 @@ module _ (ahead : Ahead) (open_slots : ahead.slots ≡ slots_ahead) (words : ℕ
       before = value player_table seat rows
 
       client_acts : (client : ClientState) (input : Input Mail OrderLine) → Acted (player_table (Client client) input)
-      client_acts client input = (tt, elim (sends_in_turn client input).sends [
-        | inl none ↦ subst (λ (ms : List Mail). Mails ms) (sym none) tt
-        | inr one ↦ subst (λ (ms : List Mail). Mails ms) (sym one.4) (tt, tt)
-      ])
+      client_acts client input = (
+        tt,
+        elim (sends_in_turn client input).sends [
+          | inl none ↦ subst (λ (ms : List Mail). Mails ms) (sym none) tt
+          | inr one ↦ subst (λ (ms : List Mail). Mails ms) (sym one.4) (tt, tt)
+        ],
+      )
 
       got : (p : Player) (o : Option Mail) → Opt (λ (mail : Mail). MailGives F mail.body) o → PlayerGives seat.who p → Acted (acted player_table p (option_map Got o))
       got p None m k = (k, tt)
@@ -233,7 +236,7 @@ lawful_give_up ahead open_slots words scenario rows lawful =
     let all : AllGive ahead open_slots words scenario F rows = all_give ahead open_slots words scenario F rows (λ group tx w. w) lawful in
     record {
       held = λ seat is_of node is r stands tx at. (let k = subst (λ (p : Player). PlayerGives ahead open_slots words scenario F seat.who p) is (all.players seat is_of) in
-        stands_at (F (name_of r)) r tx (Each-among (Keeps F seat.who) node.replicas r k.1 stands).1 at);
+          stands_at (F (name_of r)) r tx (Each-among (Keeps F seat.who) node.replicas r k.1 stands).1 at);
       sent = λ mail among group tx at. stands_in F group tx mail.body (Each-among (λ (m : Mail). MailGives F m.body) (mails rows) mail all.sent among) at;
       decided = λ base tx among. Each-among (Gives (F base.core.id)) (decided_log ahead base rows) (GiveUp tx) (decided_gives F ahead base rows all.sent) among;
     }

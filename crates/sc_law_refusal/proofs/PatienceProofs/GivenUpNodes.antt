@@ -1,10 +1,10 @@
 -- What holds of each GiveUp that stands at a node, and in its mail, is kept by the node's step.
-use Rattle.std.proofs.Common.{◌≡◌, ℕ, ◌||◌, ◌&&◌, not, nat_le, nat_lt, eqb, Bool, true, false, cond, refl, sym, ◌∙◌, subst, List, [], ◌∷◌, ◌++◌, length, Option, Some, None, inl, inr}
+use Rattle.std.proofs.Common.{◌≡◌, ℕ, ◌||◌, not, nat_le, nat_lt, eqb, Bool, true, false, cond, refl, sym, subst, List, [], ◌∷◌, ◌++◌, length, Option, Some, None}
 use Rattle.std.specs.Prelude.{is_some}
 use Rattle.std.proofs.lemmas.Bool.{cond_both, eqb-true}
-use Rattle.sc_base.specs.Definitions.{Among, Drawer, Each, same_draw}
+use Rattle.sc_base.specs.Definitions.{Drawer, Each, same_draw}
 use Rattle.sc_base.proofs.Lemmas.{draw_is}
-use Rattle.sc_node_table.specs.Values.{Draw, Input, Got, Base, Body, Lock, Free, Coordinating, Promised, Watching, Command, GiveUp, Heard, OrderLine, Mail, MailBody, Request, Answer, Prepare, Promise, Accept, Accepted, Nack, Learn, Ask, Install, TxPrepare, TxVote, TxOutcome, TxElsewhere, TxWatch, TxWatched, Told as ToldMail}
+use Rattle.sc_node_table.specs.Values.{Draw, Input, Got, Base, Body, Lock, Free, Coordinating, Promised, Watching, GiveUp, Heard, OrderLine, Mail, MailBody, Request, Prepare, Promise, Accept, Accepted, Nack, Learn, Install, TxPrepare, TxWatch}
 use Rattle.sc_actor.specs.declared.rows.Input.TheVariants.{Tick, Go, Told}
 use Rattle.sc_paxos_words.proofs.Lemmas.{Each-append, Each-among, Each-weaker, find_found}
 use Rattle.sc_node_table.specs.Definitions.{NodeState, ReplicaState, Place, name_of, slots_ahead, last_slot, born_replica, installed_replica, forgotten, made_by, named, replica_of, with_replica, is_before, with_new, with_born, with_children, with_made, unknown, may_come, taken_by, routed, group_of_mail, group_of_order, ordered_of, ordered_row, mailed, ticked, tick_row, names_after_tick, node_table, settled, waited_in, with_act, has_act, one_tick_more, patience}
@@ -14,7 +14,7 @@ use Rattle.sc_law_walks.proofs.PlaceRows.{takes_mail, orders, looks_up}
 use Rattle.sc_law_walks.proofs.PlaceTicks.{ticks_where}
 use Rattle.sc_law_walks.specs.Definitions.{IsKept}
 use Rattle.sc_law_refusal.proofs.PatienceProofs.GivenUpCommands.{Gives, MailGives, Holds, with_acts, with_waits, forgotten_gives}
-use Rattle.sc_law_refusal.proofs.PatienceProofs.GivenUpRows.{Said, Stands, given_facts, given_walk, given_agains}
+use Rattle.sc_law_refusal.proofs.PatienceProofs.GivenUpRows.{Stands, given_facts, given_walk, given_agains}
 
 -- a replica with the name of a group
 by_name : (F : Draw → Draw → Type 0) (group : Draw) (r : ReplicaState) → name_of r ≡ group → Holds (F (name_of r)) r → Holds (F group) r

@@ -1,7 +1,7 @@
 -- What holds of each GiveUp that stands at a replica of a group, and in its mail, is kept by the rows of the replica: an instance of the walk by places.
 use Rattle.std.proofs.Common.{◌≡◌, ℕ, ◌-◌, ◌+◌, nat_le, nat_lt, eqb, cond, Bool, true, false, true≢false, refl, sym, ◌∙◌, subst, List, [], ◌∷◌, ◌++◌, Option, Some, None}
 use Rattle.sc_base.specs.Definitions.{Each}
-use Rattle.sc_node_table.specs.Values.{Ballot, Draw, Op, Command, Noop, Call, Base, AnswerBody, NotLeader, Mail, MailBody, Prepare, Promise, Accept, Accepted, Nack, Learn, Chosen, Flight, Report}
+use Rattle.sc_node_table.specs.Values.{Ballot, Draw, Command, Noop, Call, Base, AnswerBody, NotLeader, Mail, MailBody, Prepare, Promise, Accept, Accepted, Learn, Chosen, Flight, Report}
 use Rattle.sc_paxos_words.specs.declared.answers.Learnt.{Learnt}
 use Rattle.sc_paxos_words.proofs.Lemmas.{Each-append, Each-filter, Each-weaker}
 use Rattle.sc_paxos_words.specs.Definitions.{below, counted, entry_at, LogState, learnt, next_of, reports_from, with_flight_at, after_accept, after_promise}
@@ -9,7 +9,7 @@ use Rattle.sc_node_table.specs.Definitions.{ReplicaState, Place, name_of, next, 
 use Rattle.sc_law_entries.specs.names.Definitions.{Opt}
 use Rattle.sc_law_entries.proofs.NamesProofs.Lists.{opt_slot, report_with}
 use Rattle.sc_law_walks.proofs.Ways.{either_way}
-use Rattle.sc_law_walks.proofs.PlaceWalks.{PlaceFacts, PlaceStates, PlaceSays, PlaceAgains, PlaceWalk, Talk, IsReported, elected_replica, elected_place, entered_place, ended_replica}
+use Rattle.sc_law_walks.proofs.PlaceWalks.{PlaceFacts, PlaceStates, PlaceSays, PlaceAgains, PlaceWalk, Talk, IsReported, elected_place, entered_place, ended_replica}
 use Rattle.sc_law_walks.proofs.PlaceEntries.{EntryParts, entry_kept}
 use Rattle.sc_law_walks.proofs.Talks.{all_sent, one_answered, all_answered, all_dismissed}
 use Rattle.sc_law_walks.specs.Definitions.{IsKept}
@@ -172,13 +172,13 @@ module _ (F : Draw → Draw → Type 0) (me : ℕ) (group : Draw) where
     polled = λ from ballot reports r mails on good k. (k.0, polled_gives W from ballot reports r (reported reports good) k.1, k.2);
     counts = λ from ballot slot set count r mails on e k. (k.0, counts from ballot slot set r k.1, k.2);
     chosen = λ from ballot slot set command r mails on e voted k. (let c = is_chosen from ballot slot set command r e k.1 in
-      (c, (k.0, with_ready W (record r { leader = (counted from ballot slot set r.leader).1 }) slot command c (counts from ballot slot set r k.1), k.2)));
+        (c, (k.0, with_ready W (record r { leader = (counted from ballot slot set r.leader).1 }) slot command c (counts from ballot slot set r k.1), k.2)));
     promised = λ from ballot from_slot r mails same good asked top t k. (
       k.0,
       with_acceptor W r (after_promise ballot r.acceptor) k.1.accepted k.1,
       say r.me from (Promise (name_of r) ballot (reports_from from_slot r.acceptor.accepted)) mails
-      (subst (λ (name : Draw). Each (λ (report : Report Command). Gives (F name) report.value) (reports_from from_slot r.acceptor.accepted)) (sym k.0)
-      (Each-filter (λ (report : Report Command). Gives W report.value) (λ (report : Report Command). nat_le from_slot report.slot) r.acceptor.accepted k.1.accepted)) k.2,
+          (subst (λ (name : Draw). Each (λ (report : Report Command). Gives (F name) report.value) (reports_from from_slot r.acceptor.accepted)) (sym k.0)
+          (Each-filter (λ (report : Report Command). Gives W report.value) (λ (report : Report Command). nat_le from_slot report.slot) r.acceptor.accepted k.1.accepted)) k.2,
     );
     accepted = λ from report r mails same good top t k. (
       k.0,
@@ -194,7 +194,7 @@ module _ (F : Draw → Draw → Type 0) (me : ℕ) (group : Draw) where
       k.2,
     );
     turned = λ command answer calls r mails same on e no k. (let after : ReplicaState = record r { calls = calls } in
-      one_answered r.me (λ ms. Stands (after, ms)) (talk after) r.group.core.id answer command mails (k.0, with_calls W r calls (first_call r command calls e k.1).1 k.1, k.2));
+        one_answered r.me (λ ms. Stands (after, ms)) (talk after) r.group.core.id answer command mails (k.0, with_calls W r calls (first_call r command calls e k.1).1 k.1, k.2));
     offers_value = λ slot set command r mails same on near free e k. offers slot set command r mails (must_gives W slot r command e k.1) k;
     offers_noop = λ slot set r mails same on near free k. offers slot set Noop r mails tt k;
     offers_act = λ slot set act acts r mails same on near free e k. (let first = first_act r act acts e k.1 in offers slot set act (record r { acts = acts }) mails first.0 (k.0, with_acts W r acts first.1 k.1, k.2));

@@ -1,5 +1,5 @@
 -- When a coordinator gives a transaction up: wherever a GiveUp stands, a replica of its group first queued it at a tick, after it had ticked often enough as the leader under that lock.
-use Rattle.std.specs.Prelude.{◌≡◌, ◌==◌, ◌++◌, List, ◌∷◌, map, Some, ◌⊎◌}
+use Rattle.std.specs.Prelude.{◌≡◌, ◌==◌, ◌++◌, ◌∷◌, map, Some, ◌⊎◌}
 use Rattle.std.specs.List.{find}
 use Rattle.sc_base.specs.Definitions.{Among}
 use Rattle.sc_node_table.specs.Values.{Draw, Seat, Row, Base, Command, GiveUp, OrderLine, Mail, MailBody, Request, Answer, Prepare, Promise, Accept, Accepted, Nack, Learn, Ask, Install, TxPrepare, TxVote, TxOutcome, TxElsewhere, TxWatch, TxWatched, Told, Node}
