@@ -1,13 +1,13 @@
 -- What the parts of a replica's table report of an order was decided.
-use Rattle.std.proofs.Common.{◌≡◌, ℕ, Bool, true, false, refl, sym, ap, ◌∙◌, subst, List, [], ◌∷◌, ◌++◌, Option, Some, None, inl, inr}
+use Rattle.std.proofs.Common.{◌≡◌, ℕ, Bool, true, false, refl, sym, ap, ◌∙◌, subst, List, [], ◌∷◌, Option, Some, None, inl, inr}
 use Rattle.std.proofs.lemmas.Bool.{cond_both}
 use Rattle.std.specs.Prelude.{if◌then◌else◌}
 use Rattle.sc_base.specs.Definitions.{Among, Drawer, least_of, next_name}
-use Rattle.sc_node_table.specs.Values.{Draw, Body, Offer, Watch, Command, Noop, Call, Join, Leave, Split, Begin, Prepared, RecordVote, GiveUp, Finish, Watched, RecordWatch, Core, Lock, Free, Coordinating, Promised, Watching, Effect, Link, Route, OrderLine, OrderRefusal, ToldResult, Heard, Outcome, Past, Vote, AnswerBody, Mail, MailBody, TxPrepare, TxOutcome}
+use Rattle.sc_node_table.specs.Values.{Draw, Body, Offer, Watch, Command, Noop, Call, Join, Leave, Split, Begin, Prepared, RecordVote, GiveUp, Watched, RecordWatch, Core, Lock, Free, Coordinating, Promised, Watching, Effect, Link, Route, OrderLine, OrderRefusal, ToldResult, Heard, Outcome, Past, Vote, AnswerBody, Mail, MailBody, TxPrepare, TxOutcome}
 use Rattle.sc_cmd.specs.declared.bodies.Body.TheVariants as At
 use Rattle.sc_cmd.specs.declared.effects.Effect.TheVariants as Was
 use Rattle.sc_cmd.specs.declared.orders.OrderRefusal.TheVariants.{NotLeader}
-use Rattle.sc_cmd.specs.declared.orders.ToldResult.TheVariants.{Done, Committed, Aborted, Refused}
+use Rattle.sc_cmd.specs.declared.orders.ToldResult.TheVariants.{Done, Refused}
 use Rattle.sc_cmd.specs.declared.votes.Outcome.TheVariants as Is
 use Rattle.sc_cmd.specs.declared.votes.Past.TheVariants as Cast
 use Rattle.sc_cmd.specs.declared.votes.Vote.TheVariants as Says
@@ -16,10 +16,10 @@ use Rattle.sc_machine_table.specs.Definitions.{Group, applied, begun_group, has_
 use Rattle.sc_paxos_words.proofs.Lemmas.{Each-append}
 use Rattle.sc_policy.specs.Definitions.{is_told}
 use Rattle.sc_node_table.specs.declared.Before.{Before}
-use Rattle.sc_node_table.specs.Definitions.{ReplicaState, Place, name_of, under_way, sent, sent_all, answer_to, answered, answered_all, answer_of, told_call, order_result, told_effect, announced, entered, before_of, before_in, begun_result, decided_result, dismissed, dismissed_all, ended, order_number, ordered_row, outcome_result, put_back, spoken, spoken_mails, spoken_number, told_begun, told_desk, told_order, told_result, untaken, taken_or_told, ordered_command, offer_of, union_watch, split_watch, heard_question, question, asked_first, voted_to, watched_to, told_outcome, asked_on, begun_asks, vote_sent, watch_sent, aborted_to, aborted_watcher, given_up_by, vote_answered, released_to, watch_answered_by, went_on}
+use Rattle.sc_node_table.specs.Definitions.{ReplicaState, Place, name_of, under_way, sent, answered, answered_all, answer_of, told_call, order_result, told_effect, announced, entered, before_of, before_in, begun_result, decided_result, dismissed, dismissed_all, ended, order_number, ordered_row, outcome_result, spoken, spoken_mails, spoken_number, told_begun, told_desk, told_order, told_result, untaken, taken_or_told, ordered_command, offer_of, heard_question, question, asked_first, told_outcome, asked_on, begun_asks, vote_sent, watch_sent, aborted_to, aborted_watcher, given_up_by, vote_answered, released_to, watch_answered_by, went_on}
 use Rattle.sc_law_walks.proofs.Ways.{either_way}
 use Rattle.sc_law_walks.proofs.Talks.{all_sent}
-use Rattle.sc_law_refusal.specs.results.Definitions.{IsAtOnce, CarriesOut, DecidesFor, FindsCause, RefusesOrder, EndsOrder, IfTold, TellAs, said_of_entry, IsGivenBack, ReportsAreDecided}
+use Rattle.sc_law_refusal.specs.results.Definitions.{IsOf, IsAtOnce, IsCommit, DecidesFor, FindsCause, EndsOrder, IfTold, TellAs, said_of_entry, IsGivenBack, ReportsAreDecided}
 
 module _ (me : ℕ) (Fact : ℕ → ToldResult → Type 0) where
   abbrev Q : List Mail → Type 0
@@ -122,13 +122,13 @@ module _ (me : ℕ) (Fact : ℕ → ToldResult → Type 0) where
   all_answered group answer [] mails m = m
   all_answered group answer (command ∷ commands) mails m = all_answered group answer commands (answered me group answer command mails) (one_answered group answer command mails m)
 
-  one_dismissed : (group : Draw) (hint : Option ℕ) (answer : AnswerBody) (command : Command) (mails : List Mail) → Fact (order_number command) (Refused (NotLeader hint)) → Q mails → Q (dismissed me group hint answer command mails)
+  one_dismissed : (group : Draw) (hint : Option ℕ) (answer : AnswerBody) (command : Command) (mails : List Mail) → (is_told (order_number command) ≡ true → Fact (order_number command) (Refused (NotLeader hint))) → Q mails → Q (dismissed me group hint answer command mails)
   unfolding dismissed
   one_dismissed group hint answer (Call client seq op) mails fact m = puts _ _ mails tt m
-  one_dismissed group hint answer Noop mails fact m = reported _ _ mails (λ _. fact) m
-  one_dismissed group hint answer _ mails fact m = reported _ _ mails (λ _. fact) m
+  one_dismissed group hint answer Noop mails fact m = reported _ _ mails fact m
+  one_dismissed group hint answer _ mails fact m = reported _ _ mails fact m
 
-  all_dismissed : (group : Draw) (hint : Option ℕ) (answer : AnswerBody) (commands : List Command) (mails : List Mail) → ((command : Command) → Among command commands → Fact (order_number command) (Refused (NotLeader hint))) → Q mails → Q (dismissed_all me group hint answer commands mails)
+  all_dismissed : (group : Draw) (hint : Option ℕ) (answer : AnswerBody) (commands : List Command) (mails : List Mail) → ((command : Command) → Among command commands → is_told (order_number command) ≡ true → Fact (order_number command) (Refused (NotLeader hint))) → Q mails → Q (dismissed_all me group hint answer commands mails)
   unfolding dismissed_all
   all_dismissed group hint answer [] mails fact m = m
   all_dismissed group hint answer (command ∷ commands) mails fact m =
@@ -155,32 +155,32 @@ module _ (group : Group) (command : Command) (number : ℕ) where
   abbrev HasCause : Type 0
   HasCause = (why : OrderRefusal) → (applied group command).1 ≡ Was.Refused why → FindsCause group.core command why
 
-  at_once_ends : order_number command ≡ number → IsAtOnce group.core command → HasCause → (effect : Effect) → (applied group command).1 ≡ effect → (result : ToldResult) → result_of effect ≡ Some result → EndsOrder group command number result
+  at_once_ends : IsOf number command → IsAtOnce group.core command → HasCause → (effect : Effect) → (applied group command).1 ≡ effect → (result : ToldResult) → result_of effect ≡ Some result → EndsOrder group command number result
   at_once_ends own at_once cause Was.Changed e result f =
       let same : Done ≡ result = cc in subst (λ (x : ToldResult). EndsOrder group command number x) same (record { own = own; at_once = at_once; effect = e })
   at_once_ends own at_once cause (Was.Refused why) e result f =
       let same : Refused why ≡ result = cc in subst (λ (x : ToldResult). EndsOrder group command number x) same (record { own = own; cause = cause why e; effect = e })
   at_once_ends own at_once cause _ e result f = cc
 
-  refused_ends : order_number command ≡ number → HasCause → (effect : Effect) → (applied group command).1 ≡ effect → (result : ToldResult) → refused_result effect ≡ Some result → EndsOrder group command number result
+  refused_ends : IsOf number command → HasCause → (effect : Effect) → (applied group command).1 ≡ effect → (result : ToldResult) → refused_result effect ≡ Some result → EndsOrder group command number result
   refused_ends own cause (Was.Refused why) e result f =
       let same : Refused why ≡ result = cc in subst (λ (x : ToldResult). EndsOrder group command number x) same (record { own = own; cause = cause why e; effect = e })
   refused_ends own cause Was.Changed e result f = cc
   refused_ends own cause _ e result f = cc
 
   -- an outcome stands for a commit or an abort
-  stands_for : (outcome : Outcome) → ((result : ToldResult) → outcome_result outcome ≡ result → DecidesFor group command number result) → EndsOrder group command number (outcome_result outcome)
-  stands_for Is.Abort decides = decides Aborted refl
-  stands_for (Is.Merged into) decides = decides Committed refl
-  stands_for (Is.Moved at gift) decides = decides Committed refl
-  stands_for (Is.Migrated node) decides = decides Committed refl
-  stands_for Is.Divided decides = decides Committed refl
+  stands_for : (outcome : Outcome) → ((Such : Outcome → Type 0) → Such outcome → DecidesFor group command number Such) → EndsOrder group command number (outcome_result outcome)
+  stands_for Is.Abort decides = decides (λ other. other ≡ Is.Abort) refl
+  stands_for (Is.Merged into) decides = decides IsCommit tt
+  stands_for (Is.Moved at gift) decides = decides IsCommit tt
+  stands_for (Is.Migrated node) decides = decides IsCommit tt
+  stands_for Is.Divided decides = decides IsCommit tt
 
   decided_ends : (tx : Draw) (body : Body) (heard : Option Heard) → group.core.lock ≡ Coordinating tx body number heard → (effect : Effect) → (applied group command).1 ≡ effect → (result : ToldResult) → decided_result effect ≡ Some result → EndsOrder group command number result
   decided_ends tx body heard locked (Was.Decided outcome) e result f =
       let same : outcome_result outcome ≡ result = cc in
       subst (λ (x : ToldResult). EndsOrder group command number x) same
-      (stands_for outcome (λ other is. record { tx = tx; body = body; heard = heard; locked = locked; outcome = outcome; effect = e; stands_for = is }))
+      (stands_for outcome (λ Such is. record { tx = tx; body = body; heard = heard; locked = locked; outcome = outcome; effect = e; such = is }))
   decided_ends tx body heard locked Was.Changed e result f = cc
   decided_ends tx body heard locked _ e result f = cc
 
@@ -268,10 +268,19 @@ entries_end counted command r =
     spoken_said Fact counted (before_of r.group.core) effect command (announced counted effect command (entered command r, [])) (λ result e t. begun_ends r.group command result e t)
     (announced_said Fact counted effect command (entered command r, []) (λ result e. order_ends r.group command result e) tt)
 
+-- what has a number that is reported is the command of that order
+is_of : (command : Command) → is_told (order_number command) ≡ true → IsOf (order_number command) command
+is_of (Join node order) t = refl
+is_of (Leave node order) t = refl
+is_of (Split at child order) t = refl
+is_of (Begin tx body order) t = refl
+is_of Noop t = cc
+is_of _ t = cc
+
 queues_end : (hint : Option ℕ) (answer : AnswerBody) (r : ReplicaState) → TellAs (IsGivenBack r hint) (ended hint answer (r, [])).1
 unfolding ended
 queues_end hint answer r =
-    all_dismissed r.me (IsGivenBack r hint) (name_of r) hint answer r.calls (answered_all r.me (name_of r) answer (under_way r) []) (λ command a. record { command = command; queued = a; own = refl; result_is = refl })
+    all_dismissed r.me (IsGivenBack r hint) (name_of r) hint answer r.calls (answered_all r.me (name_of r) answer (under_way r) []) (λ command a t. record { command = command; queued = a; own = is_of command t; result_is = refl })
     (all_answered r.me (IsGivenBack r hint) (name_of r) answer (under_way r) [] tt)
 
 orders_end : (drawer : Drawer) (line : OrderLine) (r : ReplicaState) (why : OrderRefusal) → untaken drawer line r ≡ Some why → ordered_row drawer line (r, []) ≡ (r, told_desk r.me line.number (Refused why) [])

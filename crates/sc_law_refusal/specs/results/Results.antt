@@ -5,11 +5,27 @@ use Rattle.sc_node_table.specs.Values.{Draw, Body, Command, Noop, Call, Join, Le
 use Rattle.sc_cmd.specs.declared.effects.Effect.TheVariants as Was
 use Rattle.sc_cmd.specs.declared.orders.OrderRefusal.TheVariants.{NotLeader}
 use Rattle.sc_cmd.specs.declared.orders.ToldResult.TheVariants.{Done, Committed, Aborted, Refused}
+use Rattle.sc_cmd.specs.declared.votes.Outcome.TheVariants as Is
 use Rattle.sc_cmd.specs.Definitions.{is_alone}
 use Rattle.sc_machine_table.specs.Definitions.{Group, applied, refusal_of}
-use Rattle.sc_node_table.specs.Definitions.{ReplicaState, announced, before_of, ended, entered, order_number, ordered_row, outcome_result, spoken, told_desk, untaken}
+use Rattle.sc_node_table.specs.Definitions.{ReplicaState, announced, before_of, ended, entered, ordered_row, spoken, told_desk, untaken}
 
 -- ---- how an entry ends an order
+
+-- the command is that of an order
+abbrev pub IsOf : ℕ → Command → Type 0
+IsOf number (Join node order) = order ≡ number
+IsOf number (Leave node order) = order ≡ number
+IsOf number (Split at child order) = order ≡ number
+IsOf number (Begin tx body order) = order ≡ number
+IsOf number Noop = ⊥
+IsOf number (Call client seq op) = ⊥
+IsOf number (Prepared tx offer) = ⊥
+IsOf number (RecordVote tx vote by) = ⊥
+IsOf number (GiveUp tx) = ⊥
+IsOf number (Finish tx outcome) = ⊥
+IsOf number (Watched tx watch) = ⊥
+IsOf number (RecordWatch tx vote by) = ⊥
 
 -- an order that a group carries out alone: a join, a leave, or the split of a group that is its own successor
 abbrev pub IsAtOnce : Core → Command → Type 0
@@ -28,19 +44,27 @@ IsAtOnce core (RecordWatch tx vote by) = ⊥
 
 -- an entry carries an order out in the group that it meets: it is the order's own, the group does it alone, and its effect is Changed
 pub record CarriesOut (group : Group) (command : Command) (order : ℕ) : Type 0 where
-  pub own : order_number command ≡ order
+  pub own : IsOf order command
   pub at_once : IsAtOnce group.core command
   pub effect : (applied group command).1 ≡ Was.Changed
 
--- an entry decides the transaction that the group coordinates for an order, by an outcome that stands for this result
-pub record DecidesFor (group : Group) (command : Command) (order : ℕ) (result : ToldResult) : Type 0 where
+-- an outcome by which a transaction is carried out: any but an abort
+abbrev pub IsCommit : Outcome → Type 0
+IsCommit Is.Abort = ⊥
+IsCommit (Is.Merged into) = Unit {0}
+IsCommit (Is.Moved at gift) = Unit {0}
+IsCommit (Is.Migrated node) = Unit {0}
+IsCommit Is.Divided = Unit {0}
+
+-- an entry decides the transaction that the group coordinates for an order, by such an outcome
+pub record DecidesFor (group : Group) (command : Command) (order : ℕ) (Such : Outcome → Type 0) : Type 0 where
   pub tx : Draw
   pub body : Body
   pub heard : Option Heard
   pub locked : group.core.lock ≡ Coordinating tx body order heard
   pub outcome : Outcome
   pub effect : (applied group command).1 ≡ Was.Decided outcome
-  pub stands_for : outcome_result outcome ≡ result
+  pub such : Such outcome
 
 -- why a group refuses the command of an order: it is gone, or the first cause that it finds
 abbrev pub FindsCause : Core → Command → OrderRefusal → Type 0
@@ -48,15 +72,15 @@ FindsCause core command why = ((into : Route) × (core.gone ≡ Some into) × (w
 
 -- an entry, the order's own, is refused in the group that it meets, for the first cause
 pub record RefusesOrder (group : Group) (command : Command) (order : ℕ) (why : OrderRefusal) : Type 0 where
-  pub own : order_number command ≡ order
+  pub own : IsOf order command
   pub cause : FindsCause group.core command why
   pub effect : (applied group command).1 ≡ Was.Refused why
 
 -- an entry ends an order with a result, in the group that it meets
 abbrev pub EndsOrder : Group → Command → ℕ → ToldResult → Type 0
 EndsOrder group command order Done = CarriesOut group command order
-EndsOrder group command order Committed = DecidesFor group command order Committed
-EndsOrder group command order Aborted = DecidesFor group command order Aborted
+EndsOrder group command order Committed = DecidesFor group command order IsCommit
+EndsOrder group command order Aborted = DecidesFor group command order (λ outcome. outcome ≡ Is.Abort)
 EndsOrder group command order (Refused why) = RefusesOrder group command order why
 
 -- ---- what is reported
@@ -94,7 +118,7 @@ said_of_entry counted command r =
 pub record IsGivenBack (r : ReplicaState) (hint : Option ℕ) (order : ℕ) (result : ToldResult) : Type 0 where
   pub command : Command
   pub queued : Among command r.calls
-  pub own : order_number command ≡ order
+  pub own : IsOf order command
   pub result_is : result ≡ Refused (NotLeader hint)
 
 -- What each part of a replica's table that reports results reports.
