@@ -1,2 +1,4 @@
 pub mod QueueProofs
 pub mod RefusalProofs
+pub mod PatienceProofs
+pub mod ResultsProofs

@@ -1,2 +1,4 @@
 pub mod queue
 pub mod refusal
+pub mod patience
+pub mod results

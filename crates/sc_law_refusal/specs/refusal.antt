@@ -1,5 +1,6 @@
 pub mod Causes
 pub mod ClientTurns
+pub mod RowCauses
 pub mod Journals
 pub mod NodeCauses
 pub mod Definitions

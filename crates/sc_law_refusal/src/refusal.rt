@@ -48,8 +48,10 @@ pub fn running_replicas_take_requests()
 /// cause, and a row that brings a request to a replica that runs sends no answer NotLeader. A
 /// coordinator queues a new GiveUp only at a tick that is at least the `patience`-th of its
 /// leadership under the lock of that transaction, as the rows of its node show; besides, a GiveUp
-/// may go back to the queue from a flight. A queue has at most one request of each client. A client
-/// sends its requests one after another, each again while it waits, and ends only with the last.
+/// may go back to the queue from a flight. Wherever a GiveUp stands after some of the rows, at a
+/// replica, in mail or in a log, a replica of its group has so queued it at a tick in one of them.
+/// A queue has at most one request of each client. A client sends its requests one after another,
+/// each again while it waits, and ends only with the last.
 pub fn valid_journals_refuse_with_cause()
     ensures { ValidJournalsRefuseWithCause }
 {

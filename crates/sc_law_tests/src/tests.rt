@@ -19,8 +19,8 @@ use sc_law_groups::{
     valid_journals_are_sound, valid_scenarios_begin_well,
 };
 use sc_law_refusal::{
-    nodes_have_causes, queues_keep_one_call, refusals_have_causes, running_replicas_take_requests,
-    steps_keep_one_call, valid_journals_refuse_with_cause,
+    nodes_have_causes, queues_keep_one_call, refusals_have_causes, reports_are_decided,
+    running_replicas_take_requests, steps_keep_one_call, valid_journals_refuse_with_cause,
 };
 use sc_live_answers::{
     calm_lines_settle, calm_requests_are_answered, last_lines_answer, plain_journals_are_answered,
@@ -130,6 +130,11 @@ fn the_laws_of_refusals_are_called() {
     nodes_have_causes();
     running_replicas_take_requests();
     valid_journals_refuse_with_cause();
+}
+
+#[test]
+fn the_law_of_results_is_called() {
+    reports_are_decided();
 }
 
 #[test]

@@ -12,8 +12,8 @@ use Rattle.sc_paxos_words.proofs.Lemmas.{at_least_itself}
 use Rattle.sc_paxos_words.specs.Definitions.{IsAtLeast, below, must}
 use Rattle.sc_law_walks.proofs.Calls.{next_found}
 use Rattle.sc_law_walks.proofs.Ways.{either_way}
-use Rattle.sc_law_walks.specs.Definitions.{IsFiled, IsKept, IfThere}
-use Rattle.sc_law_walks.proofs.Queues.{waiting, one_filed}
+use Rattle.sc_law_walks.specs.Definitions.{IsFiled, IsFiledOnMail, IsKept, IfThere}
+use Rattle.sc_law_walks.proofs.Queues.{waiting, one_filed, mail_files}
 use Rattle.sc_law_walks.proofs.PlaceWalks.{PlaceWalk, Before, After, AfterAll, entered_place}
 use Rattle.sc_law_walks.proofs.PlaceEntries.{entry_stands}
 
@@ -112,12 +112,12 @@ module _ (w : PlaceWalk) where
       (λ t. (from_pumps (next place.0) (next place.0) place.0.sets place (omega (arith, open_)) (k, (and_parts place.0.running (may_offer place.0 (first_set place.0.sets)) (and_parts (settled place.0) (nat_le (next place.0) last_slot) t).0).0, refl)).0) (λ _. k)
 
   -- a command of a transaction waits last, unless there is one of its kind
-  pub act_waits : (act : Command) (r : ReplicaState) (mails : List Mail) → IsFiled act → r.running ≡ true → After w.facts (r, mails) → After w.facts (with_act act r, mails)
+  act_waits : (act : Command) (r : ReplicaState) (mails : List Mail) → IsFiledOnMail act → r.running ≡ true → After w.facts (r, mails) → After w.facts (with_act act r, mails)
   act_waits act r mails good on k =
       cond_both (has_act act r) r (record r { acts = r.acts ++ act ∷ [] }) (λ (x : ReplicaState). After w.facts (x, mails)) (λ _. k)
-      (λ f. (waiting w.facts.me r (r.acts ++ act ∷ []) r.calls on (one_filed r.acts act good k.0.2.1) k.0.2.2 k.0, w.states.filed act r mails on good f k.1))
+      (λ f. (waiting w.facts.me r (r.acts ++ act ∷ []) r.calls on (one_filed r.acts act (mail_files act good) k.0.2.1) k.0.2.2 k.0, w.states.filed act r mails on good f k.1))
 
-  pub acts_pump : (act : Command) (place : Place) → IsFiled act → place.0.running ≡ true → Before w.facts place → After w.facts (act_queued act place)
+  pub acts_pump : (act : Command) (place : Place) → IsFiledOnMail act → place.0.running ≡ true → Before w.facts place → After w.facts (act_queued act place)
   unfolding act_queued
   acts_pump act (r, mails) good on k = pumps (with_act act r, mails) (act_waits act r mails good on (on_late (r, mails) k))
 

@@ -15,7 +15,7 @@ use Rattle.sc_paxos_words.specs.Definitions.{IsAtLeast, prepared, accepted as ac
 use Rattle.sc_node_table.specs.Definitions.{act_queued, ended, stopped, saw, looked, executed, has_room, named, jumped, sent, answer_to, ordered_command, untaken, taken_or_told, ordered_row, pumped, call_of, without_call, ReplicaState, Place, childless, name_of, next, members, settled, set_at, last_slot, forgotten, may_offer, first_set, born_replica, installed_replica, refused_at, queued, requested, request_row, learn_row, taught, most_taught, ask_row, looked_up, took_over, install_row, mailed, call_refusal, made_by, slots_ahead, at_slot, with_slot, asked_next, noted_outcome, standing_vote, sent_elsewhere, offered_by, offer_row, watched_by, watch_row, awaits_vote, awaits_watch, told_outcome, vote_met, vote_row, watch_met, watched_row, elsewhere_row, is_bound, outcome_row, hinted, promise_to, prepare_row, accepted_to, took, accept_row, leads, promise_row, readied, vote_tallied, voted, accepted_row, nack_row}
 use Rattle.sc_law_walks.proofs.Places.{promised_place, asked_place}
 use Rattle.sc_law_walks.proofs.Ways.{either_way}
-use Rattle.sc_law_walks.specs.Definitions.{IsFiled, IsAsked, IsOrder, IsKept}
+use Rattle.sc_law_walks.specs.Definitions.{IsFiledOnMail, IsAsked, IsOrder, IsKept}
 use Rattle.sc_law_walks.proofs.Queues.{without_asked, waiting, one_asked, order_is_asked}
 use Rattle.sc_law_walks.proofs.Talks.{client_reported, vote_reported, watch_reported, outcome_said, next_one_asked}
 use Rattle.sc_law_walks.proofs.PlaceParts.{on_late, hinted_at, seen_top, pumps, acts_pump, leader_ends, sees_ballot, state_sent, looks, execution}
@@ -252,7 +252,7 @@ module _ (w : PlaceWalk) where
   watches from tx watch (r, mails) k = watches_by (standing_vote r.group.core tx) from tx watch (r, mails) k
 
   -- a command of a transaction is filed by one that runs
-  files : (act : Command) (wanted : Bool) (place : Place) → IsFiled act → Before w.facts place → After w.facts (cond (place.0.running && wanted) (act_queued act place) place)
+  files : (act : Command) (wanted : Bool) (place : Place) → IsFiledOnMail act → Before w.facts place → After w.facts (cond (place.0.running && wanted) (act_queued act place) place)
   files act wanted place filed k = cond_both (place.0.running && wanted) (act_queued act place) place (After w.facts) (λ t. acts_pump w act place filed (and_parts place.0.running wanted t).0 k) (λ _. on_late w place k)
 
   ends_said : (from : ℕ) (tx part : Draw) (outcome : Outcome) (place : Place) → Before w.facts place → After w.facts (place.0, told_outcome place.0.me from tx part outcome place.1)

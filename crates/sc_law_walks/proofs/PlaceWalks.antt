@@ -1,12 +1,12 @@
 -- What an invariant of a replica together with the mails of its row needs: what holds before a row and after it, that each part of a row keeps it, and that it holds with each mail put behind. Where a part changes the replica and sends what belongs to the change, the two are one part, and the invariant need not hold between. The theorems of the walk carry it through all rows of a replica's table.
 use Rattle.std.proofs.Common.{◌≡◌, ℕ, ◌+◌, ◌-◌, ◌<◌, ◌≤◌, nat_le, cond, Bool, true, false, List, [], ◌∷◌, ◌++◌, length, Option, Some, None}
-use Rattle.sc_node_table.specs.Values.{Ballot, Draw, Op, Offer, Watch, Command, Noop, Call, Base, Effect, ToldResult, Outcome, Past, Vote, AnswerBody, Mail, MailBody, Request, Answer, Prepare, Promise, Accept, Accepted, Nack, Learn, Ask, Install, TxPrepare, TxVote, TxOutcome, TxElsewhere, TxWatch, TxWatched, Told, Chosen, NotYet, Report}
+use Rattle.sc_node_table.specs.Values.{Ballot, Draw, Op, Offer, Watch, Command, Noop, Call, GiveUp, Base, Effect, ToldResult, Outcome, Past, Vote, AnswerBody, Mail, MailBody, Request, Answer, Prepare, Promise, Accept, Accepted, Nack, Learn, Ask, Install, TxPrepare, TxVote, TxOutcome, TxElsewhere, TxWatch, TxWatched, Told, Chosen, NotYet, Report}
 use Rattle.sc_base.specs.Definitions.{Each, client_actor}
 use Rattle.sc_paxos_words.specs.declared.answers.Must.TheVariants.{Value}
 use Rattle.sc_machine_table.specs.Definitions.{base_of, applied}
 use Rattle.sc_paxos_words.specs.Definitions.{IsAtLeast, reports_from, after_promise, after_accept, may_promise, may_accept, new_leader, promise_counted, entry_at, counted, must, below}
 use Rattle.sc_node_table.specs.Definitions.{named, jumped, ReplicaState, Place, Executed, name_of, members, next, slots_ahead, at_slot, with_slot, taken_at, flying, call_of, without_call, has_act, born_replica, installed_replica, sent, sent_all, open_nodes, stopped, ended, answered, turned_down, offered, entered, announced, before_of, spoken, learnt_to, welcomed, landed}
-use Rattle.sc_law_walks.specs.Definitions.{GoesOn, IsFiled, IsOrder, IsKept}
+use Rattle.sc_law_walks.specs.Definitions.{GoesOn, IsFiledOnMail, IsOrder, IsKept}
 
 -- a replica that ran with the next ballot of its own, and one that runs no longer
 abbrev pub elected_replica : ReplicaState → ReplicaState
@@ -80,7 +80,7 @@ pub record PlaceStates (f : PlaceFacts) : Type 0 where
   pub accepted : (from : ℕ) (report : Report Command) (r : ReplicaState) (mails : List Mail) → r.me ≡ f.me → IsReported f.Round f.Entry report → IsAtLeast r.top report.ballot → may_accept r.acceptor report.ballot ≡ true → f.Early (r, mails)
       → f.Early (record r { acceptor = after_accept report r.acceptor }, sent r.me from (Accepted (name_of r) report.ballot report.slot) mails)
   -- queues
-  pub filed : (act : Command) (r : ReplicaState) (mails : List Mail) → r.running ≡ true → IsFiled act → has_act act r ≡ false → f.Late (r, mails) → f.Late (record r { acts = r.acts ++ act ∷ [] }, mails)
+  pub filed : (act : Command) (r : ReplicaState) (mails : List Mail) → r.running ≡ true → IsFiledOnMail act → has_act act r ≡ false → f.Late (r, mails) → f.Late (record r { acts = r.acts ++ act ∷ [] }, mails)
   pub ordered : (order : Command) (r : ReplicaState) (mails : List Mail) → r.running ≡ true → IsOrder order → f.Late (r, mails) → f.Late (record r { calls = r.calls ++ order ∷ [] }, mails)
   pub requested : (client seq : ℕ) (op : Op) (r : ReplicaState) (mails : List Mail) → r.running ≡ true → call_of r.calls client ≡ None → f.Late (r, mails) → f.Late (record r { calls = r.calls ++ Call client seq op ∷ [] }, mails)
   pub requested_again : (client seq other : ℕ) (op : Op) (r : ReplicaState) (mails : List Mail) → r.running ≡ true → call_of r.calls client ≡ Some other → nat_le seq other ≡ false → f.Late (r, mails) → f.Late (record r { calls = without_call r.calls client ++ Call client seq op ∷ [] }, mails)
@@ -111,11 +111,16 @@ pub record PlaceWalk : Type 1 where
   pub states : PlaceStates facts
   pub says : PlaceSays facts
 
--- That ticks keep the invariant.
-pub record PlaceTicks (f : PlaceFacts) : Type 0 where
-  pub waited : (waits : ℕ) (r : ReplicaState) (mails : List Mail) → f.Late (r, mails) → f.Late (record r { waits = waits }, mails)
+-- That what a tick says again keeps the invariant.
+pub record PlaceAgains (f : PlaceFacts) : Type 0 where
   pub reasks : (to slot : ℕ) (command : Command) (r : ReplicaState) (mails : List Mail) → r.me ≡ f.me → r.running ≡ true → flying r slot ≡ Some command → f.Late (r, mails) → f.Late (r, sent r.me to (Accept (name_of r) r.leader.ballot slot command) mails)
   pub relearns : (to : ℕ) (command : Command) (r : ReplicaState) (mails : List Mail) → r.me ≡ f.me → entry_at (next r - 1) r.log ≡ Some command → f.Late (r, mails) → f.Late (r, sent r.me to (Learn (name_of r) (next r - 1) command) mails)
+
+-- That ticks keep the invariant, however long a coordinator has waited when it gives up.
+pub record PlaceTicks (f : PlaceFacts) : Type 0 where
+  pub waited : (waits : ℕ) (r : ReplicaState) (mails : List Mail) → f.Late (r, mails) → f.Late (record r { waits = waits }, mails)
+  pub gives_up : (tx : Draw) (r : ReplicaState) (mails : List Mail) → r.running ≡ true → has_act (GiveUp tx) r ≡ false → f.Late (r, mails) → f.Late (record r { acts = r.acts ++ GiveUp tx ∷ [] }, mails)
+  pub agains : PlaceAgains f
 
 -- Where the invariant begins, and what holds of the mails of a node's row alone: with them it holds of each replica that has said no more of its own, and of a node without a replica of a group they may be its answer.
 pub record PlaceBirths (f : PlaceFacts) : Type 1 where

@@ -5,7 +5,7 @@ use Rattle.sc_node_table.specs.Values.{Command, Noop, Call, Join, Leave, Split, 
 use Rattle.sc_base.specs.Definitions.{Each}
 use Rattle.sc_paxos_words.proofs.Lemmas.{Each-append}
 use Rattle.sc_node_table.specs.Definitions.{call_of, call_before, is_call_of, without_call, put_back, rest_of, slots_ahead, ReplicaState}
-use Rattle.sc_law_walks.specs.Definitions.{IsFiled, IsAsked, IsOrder, IsKept}
+use Rattle.sc_law_walks.specs.Definitions.{IsFiled, IsFiledOnMail, IsAsked, IsOrder, IsKept}
 use Rattle.sc_law_walks.proofs.Ways.{either_way}
 
 -- one set goes and one comes
@@ -27,6 +27,16 @@ order_is_asked (Split at child order) q = tt
 order_is_asked (Begin tx body order) q = tt
 order_is_asked (Call client seq op) q = tt
 order_is_asked _ q = q
+
+-- what a mail files is filed
+pub mail_files : (act : Command) → IsFiledOnMail act → IsFiled act
+mail_files (Prepared tx offer) q = tt
+mail_files (RecordVote tx vote by) q = tt
+mail_files (GiveUp tx) q = tt
+mail_files (Finish tx outcome) q = tt
+mail_files (Watched tx watch) q = tt
+mail_files (RecordWatch tx vote by) q = tt
+mail_files _ q = q
 
 -- a request less, and one that goes back
 pub without_asked : (calls : List Command) (client : ℕ) → Each IsAsked calls → Each IsAsked (without_call calls client)

@@ -85,7 +85,7 @@ module _ (me : ℕ) (P : ReplicaState → Type 0) (parts : StateParts me P) wher
   state_births begins = record { born = λ base. begins.born base; made = λ slot base sets many good. begins.made slot base sets; wants_all = λ to group. tt }
 
   abbrev pub state_ticks : Ticks state_facts
-  state_ticks = record { waited = λ waits r k. parts.waited waits r k; reasks = λ to slot command r same on e k. tt; relearns = λ to command r e k. tt }
+  state_ticks = record { waited = λ waits r k. parts.waited waits r k; gives_up = λ tx r on f k. parts.queues r _ r.calls k; reasks = λ to slot command r same on e k. tt; relearns = λ to command r e k. tt }
 
   -- any mail is heard
   pub state_hears : (body : MailBody) → Hears state_walk body

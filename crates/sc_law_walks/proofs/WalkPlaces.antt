@@ -31,10 +31,12 @@ module _ (w : Walk) (Q : List Mail → Type 0) (puts : (me to : ℕ) (body : Mai
 
   -- ---- the parts that change a replica and send
 
-  entry_parts : EntryParts w.facts.me f.Early w.facts.Entry
+  entry_parts : EntryParts w.facts.me f.Early w.facts.Entry (λ command. Unit {0})
   entry_parts = record {
     entered = λ command r mails kept low k. (w.states.entered command r kept low k.0, k.1);
-    back = λ command r mails on k. (w.states.back command r on k.0, k.1);
+    flown = λ slot command r mails e k. tt;
+    asked = λ client seq op. tt;
+    back = λ command r mails on good k. (w.states.back command r on k.0, k.1);
     landed = λ slot r mails k. (w.states.landed slot r k.0, k.1);
     talks = λ r same. talk (w.facts.Early r) r.me same;
     teaches = λ to slot command r mails same low k. (k.0, puts r.me to _ mails same (w.mails.teaches to slot command (name_of r) low) k.1);
@@ -43,7 +45,7 @@ module _ (w : Walk) (Q : List Mail → Type 0) (puts : (me to : ℕ) (body : Mai
   }
 
   pub entry_at : (counted : Bool) (command : Command) (r : ReplicaState) (mails : List Mail) → (counted ≡ true → r.running ≡ true) → IsKept w.facts.me r → w.facts.Entry (next r) command → f.Early (r, mails) → f.Early (entered_place counted command (r, mails))
-  entry_at counted command r mails on kept low k = (entry_kept w.facts.me f.Early w.facts.Entry entry_parts counted command r mails on low kept k).1
+  entry_at counted command r mails on kept low k = (entry_kept w.facts.me f.Early w.facts.Entry (λ c. Unit {0}) entry_parts counted command r mails on low kept k).1
 
   pub ends_at : (hint : Option ℕ) (answer : AnswerBody) (r : ReplicaState) (mails : List Mail) → r.me ≡ w.facts.me → w.facts.Early (ended_replica hint r) → Q mails → f.Early (ended hint answer (r, mails))
   unfolding ended
@@ -101,8 +103,11 @@ module _ (w : Walk) (Q : List Mail → Type 0) (puts : (me to : ℕ) (body : Mai
   abbrev pub placed_ticks : Ticks w.facts → PlaceTicks f
   placed_ticks t = record {
     waited = λ waits r mails k. (t.waited waits r k.0, k.1);
-    reasks = λ to slot command r mails same on e k. (k.0, puts r.me to _ mails same (t.reasks to slot command r same on e k.0) k.1);
-    relearns = λ to command r mails same e k. (k.0, puts r.me to _ mails same (t.relearns to command r e k.0) k.1);
+    gives_up = λ tx r mails on f k. (t.gives_up tx r on f k.0, k.1);
+    agains = record {
+      reasks = λ to slot command r mails same on e k. (k.0, puts r.me to _ mails same (t.reasks to slot command r same on e k.0) k.1);
+      relearns = λ to command r mails same e k. (k.0, puts r.me to _ mails same (t.relearns to command r e k.0) k.1);
+    };
   }
 
 module _ (w : Walk) where

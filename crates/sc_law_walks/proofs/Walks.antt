@@ -1,12 +1,12 @@
 -- What an invariant of replicas and of the mail that they send needs: what holds before a row and after it, and that each part of a row keeps it. The theorems of the walk carry it through all rows of a replica's table.
 use Rattle.std.proofs.Common.{◌≡◌, ℕ, ◌+◌, ◌-◌, ◌<◌, ◌≤◌, nat_le, cond, true, false, List, [], ◌∷◌, ◌++◌, length, Option, Some, None, refl}
-use Rattle.sc_node_table.specs.Values.{Ballot, Draw, Op, Offer, Watch, Command, Noop, Call, Base, ToldResult, Outcome, Past, Vote, AnswerBody, Mail, MailBody, Answer, Prepare, Promise, Accept, Accepted, Nack, Learn, Ask, Install, TxPrepare, TxVote, TxOutcome, TxElsewhere, TxWatch, TxWatched, Told, Chosen, Report}
+use Rattle.sc_node_table.specs.Values.{Ballot, Draw, Op, Offer, Watch, Command, Noop, Call, GiveUp, Base, ToldResult, Outcome, Past, Vote, AnswerBody, Mail, MailBody, Answer, Prepare, Promise, Accept, Accepted, Nack, Learn, Ask, Install, TxPrepare, TxVote, TxOutcome, TxElsewhere, TxWatch, TxWatched, Told, Chosen, Report}
 use Rattle.sc_base.specs.Definitions.{Each, client_actor}
 use Rattle.sc_paxos_words.specs.declared.answers.Must.TheVariants.{Value}
 use Rattle.sc_machine_table.specs.Definitions.{base_of}
 use Rattle.sc_paxos_words.specs.Definitions.{IsAtLeast, reports_from, after_promise, after_accept, may_promise, may_accept, promise_counted, with_flight_at, without_flight_at, entry_at, counted, must, below}
 use Rattle.sc_node_table.specs.Definitions.{entered, named, jumped, ReplicaState, Place, Executed, name_of, next, slots_ahead, at_slot, with_slot, without_slot, put_back, call_of, without_call, has_act, born_replica, installed_replica, flying}
-use Rattle.sc_law_walks.specs.Definitions.{GoesOn, IsFiled, IsOrder, IsKept}
+use Rattle.sc_law_walks.specs.Definitions.{GoesOn, IsFiledOnMail, IsOrder, IsKept}
 pub use Rattle.sc_law_walks.proofs.PlaceWalks.{elected_replica, ended_replica, IsReported}
 use Rattle.sc_law_walks.proofs.PlaceWalks.{PlaceFacts, Hears as HearsAt}
 
@@ -47,7 +47,7 @@ pub record States (f : Facts) : Type 0 where
   pub accepted : (report : Report Command) (r : ReplicaState) → IsReported f.Round f.Entry report → IsAtLeast r.top report.ballot → may_accept r.acceptor report.ballot ≡ true → f.Early r → f.Early (record r { acceptor = after_accept report r.acceptor })
   -- queues
   pub back : (command : Command) (r : ReplicaState) → r.running ≡ true → f.Early r → f.Early (put_back command r)
-  pub filed : (act : Command) (r : ReplicaState) → r.running ≡ true → IsFiled act → has_act act r ≡ false → f.Late r → f.Late (record r { acts = r.acts ++ act ∷ [] })
+  pub filed : (act : Command) (r : ReplicaState) → r.running ≡ true → IsFiledOnMail act → has_act act r ≡ false → f.Late r → f.Late (record r { acts = r.acts ++ act ∷ [] })
   pub ordered : (order : Command) (r : ReplicaState) → r.running ≡ true → IsOrder order → f.Late r → f.Late (record r { calls = r.calls ++ order ∷ [] })
   pub requested : (client seq : ℕ) (op : Op) (r : ReplicaState) → r.running ≡ true → call_of r.calls client ≡ None → f.Late r → f.Late (record r { calls = r.calls ++ Call client seq op ∷ [] })
   pub requested_again : (client seq other : ℕ) (op : Op) (r : ReplicaState) → r.running ≡ true → call_of r.calls client ≡ Some other → nat_le seq other ≡ false → f.Late r → f.Late (record r { calls = without_call r.calls client ++ Call client seq op ∷ [] })
@@ -97,6 +97,7 @@ pub record Births (f : Facts) : Type 0 where
 -- That ticks keep the invariant.
 pub record Ticks (f : Facts) : Type 0 where
   pub waited : (waits : ℕ) (r : ReplicaState) → f.Late r → f.Late (record r { waits = waits })
+  pub gives_up : (tx : Draw) (r : ReplicaState) → r.running ≡ true → has_act (GiveUp tx) r ≡ false → f.Late r → f.Late (record r { acts = r.acts ++ GiveUp tx ∷ [] })
   pub reasks : (to slot : ℕ) (command : Command) (r : ReplicaState) → r.me ≡ f.me → r.running ≡ true → flying r slot ≡ Some command → f.Late r → f.Says to (Accept (name_of r) r.leader.ballot slot command)
   pub relearns : (to : ℕ) (command : Command) (r : ReplicaState) → entry_at (next r - 1) r.log ≡ Some command → f.Late r → f.Says to (Learn (name_of r) (next r - 1) command)
 

@@ -19,6 +19,21 @@ IsFiled (Finish tx outcome) = Unit {0}
 IsFiled (Watched tx watch) = Unit {0}
 IsFiled (RecordWatch tx vote by) = Unit {0}
 
+-- a command of a transaction that a mail makes a replica queue: any but giving up, which a tick queues
+abbrev pub IsFiledOnMail : Command → Type 0
+IsFiledOnMail Noop = ⊥
+IsFiledOnMail (Call client seq op) = ⊥
+IsFiledOnMail (Join node order) = ⊥
+IsFiledOnMail (Leave node order) = ⊥
+IsFiledOnMail (Split at child order) = ⊥
+IsFiledOnMail (Begin tx body order) = ⊥
+IsFiledOnMail (Prepared tx offer) = Unit {0}
+IsFiledOnMail (RecordVote tx vote by) = Unit {0}
+IsFiledOnMail (GiveUp tx) = ⊥
+IsFiledOnMail (Finish tx outcome) = Unit {0}
+IsFiledOnMail (Watched tx watch) = Unit {0}
+IsFiledOnMail (RecordWatch tx vote by) = Unit {0}
+
 -- the command of an order: Join, Leave, Split or Begin
 abbrev pub IsOrder : Command → Type 0
 IsOrder Noop = ⊥

@@ -27,7 +27,7 @@ use Rattle.sc_law_entries.proofs.NamesProofs.Playing.{Brings, node_names, client
 
 -- ---- a client stays one
 
-abbrev IsClient : Player → Type 0
+abbrev pub IsClient : Player → Type 0
 IsClient (Node node) = ⊥
 IsClient (Client client) = Unit {0}
 
@@ -36,13 +36,13 @@ acted_client (Node node) input c = absurd c
 acted_client (Client client) None c = tt
 acted_client (Client client) (Some input) c = tt
 
-replay_client : (who : ℕ) (p : Player) (sent : List Mail) (rows : Rows) → IsClient p → IsClient (replay player_table who p sent rows)
+pub replay_client : (who : ℕ) (p : Player) (sent : List Mail) (rows : Rows) → IsClient p → IsClient (replay player_table who p sent rows)
 replay_client who p sent [] c = c
 replay_client who p sent (row ∷ rows) c =
     replay_client who (cond (eqb row.who who) (acted player_table p (input_of sent row.event)).0 p) (sent ++ row.sent) rows
     (cond_both (eqb row.who who) (acted player_table p (input_of sent row.event)).0 p IsClient (λ _. acted_client p (input_of sent row.event) c) (λ _. c))
 
-no_node : (p : Player) (node : NodeState) → IsClient p → p ≡ Node node → ⊥
+pub no_node : (p : Player) (node : NodeState) → IsClient p → p ≡ Node node → ⊥
 no_node p node c e = subst IsClient e c
 
 -- ---- the seats
@@ -57,7 +57,7 @@ bounds from (suc more) = ((omega arith, omega arith), weaker (numbers_from (from
 
 module _ (ahead : Ahead) (scenario : Scenario) where
   -- a seat of a node of the scenario, or of a client
-  abbrev IsSeat : Seat Player → Type 0
+  abbrev pub IsSeat : Seat Player → Type 0
   IsSeat seat = ((n : ℕ) × (1 ≤ n) × (n ≤ scenario.nodes) × (seat ≡ node_seat ahead scenario.groups scenario.policy n)) ⊎ IsClient seat.actor
 
   nodes_are : (ns : List ℕ) → Each (λ n. (1 ≤ n) × (n < 1 + scenario.nodes)) ns → Each IsSeat (map (node_seat ahead scenario.groups scenario.policy) ns)
@@ -72,7 +72,7 @@ module _ (ahead : Ahead) (scenario : Scenario) where
   clients_are [] clients = tt
   clients_are (base ∷ bases) clients = some_clients (route_of base) clients
 
-  seats_are : Each IsSeat (births ahead scenario)
+  pub seats_are : Each IsSeat (births ahead scenario)
   seats_are =
       Each-append IsSeat (map (node_seat ahead scenario.groups scenario.policy) (numbers_from 1 scenario.nodes)) (client_seats scenario.groups scenario.clients)
       (nodes_are (numbers_from 1 scenario.nodes) (bounds 1 scenario.nodes)) (clients_are scenario.groups scenario.clients)

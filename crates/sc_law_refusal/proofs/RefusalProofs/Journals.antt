@@ -21,6 +21,7 @@ use Rattle.sc_law_refusal.proofs.RefusalProofs.NodeSteps.{Keeps, running_of, nod
 use Rattle.sc_law_refusal.proofs.RefusalProofs.Locking.{allowed}
 use Rattle.sc_sound.proofs.Lemmas.{any_push}
 use Rattle.sc_law_refusal.proofs.RefusalProofs.Ticking.{IsKnown, counts, node_known, no_client}
+use Rattle.sc_law_refusal.proofs.PatienceProofs.GivenUpJournals.{lawful_give_up}
 use Rattle.sc_law_refusal.proofs.RefusalProofs.Turning.{InPlace, keeps_turn, in_place}
 
 -- ---- seats
@@ -308,4 +309,5 @@ valid_refuse queues ahead open_slots words scenario valid journal lawful = recor
         | inl n ↦ queues ahead scenario n.me before node (subst (λ (s : Seat Player). value player_table s before ≡ Node node) n.is is)
         | inr c ↦ absurd (subst (Placed ahead words scenario c.first c.asks before) (subst (λ (s : Seat Player). value player_table s before ≡ Node node) c.is is) (placed ahead words scenario c.first c.asks before front))
       ]);
+  given_up = λ before later are. lawful_give_up ahead open_slots words scenario before (lawful-prefix (system_of ahead words scenario) (schedule scenario) before later (subst (Lawful ahead words scenario) are lawful));
 }

@@ -119,7 +119,7 @@ module _ (me : ℕ) where
   own_births = record { born = λ base. λ on. sym (eqb-true base.core.first me on); made = λ slot base sets many good. makes me slot base sets; wants_all = λ to group. tt }
 
   abbrev own_ticks : Ticks own_facts
-  own_ticks = record { waited = λ waits r k. k; reasks = λ to slot command r same on e k. sym same ∙ k on; relearns = λ to command r e k. tt }
+  own_ticks = record { waited = λ waits r k. k; gives_up = λ tx r on f k. k; reasks = λ to slot command r same on e k. sym same ∙ k on; relearns = λ to command r e k. tt }
 
   heard : (body : MailBody) → Hears own_walk body
   heard body = hears_all own_walk (λ ballot. (tt, tt)) (λ slot command. tt) (λ slot. (tt, tt)) body (λ group slot base sets e. (tt, tt))

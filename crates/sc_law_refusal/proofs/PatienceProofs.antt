@@ -1,0 +1,5 @@
+pub mod GivenUpCommands
+pub mod GivenUpRows
+pub mod GivenUpNodes
+pub mod DecidedCommands
+pub mod GivenUpJournals

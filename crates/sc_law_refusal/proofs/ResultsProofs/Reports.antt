@@ -1,0 +1,291 @@
+-- What the parts of a replica's table report of an order was decided.
+use Rattle.std.proofs.Common.{◌≡◌, ℕ, Bool, true, false, refl, sym, ap, ◌∙◌, subst, List, [], ◌∷◌, Option, Some, None, inl, inr}
+use Rattle.std.proofs.lemmas.Bool.{cond_both}
+use Rattle.std.specs.Prelude.{if◌then◌else◌}
+use Rattle.sc_base.specs.Definitions.{Among, Drawer, least_of, next_name}
+use Rattle.sc_node_table.specs.Values.{Draw, Body, Offer, Watch, Command, Noop, Call, Join, Leave, Split, Begin, Prepared, RecordVote, GiveUp, Watched, RecordWatch, Core, Lock, Free, Coordinating, Promised, Watching, Effect, Link, Route, OrderLine, OrderRefusal, ToldResult, Heard, Outcome, Past, Vote, AnswerBody, Mail, MailBody, TxPrepare, TxOutcome}
+use Rattle.sc_cmd.specs.declared.bodies.Body.TheVariants as At
+use Rattle.sc_cmd.specs.declared.effects.Effect.TheVariants as Was
+use Rattle.sc_cmd.specs.declared.orders.OrderRefusal.TheVariants.{NotLeader}
+use Rattle.sc_cmd.specs.declared.orders.ToldResult.TheVariants.{Done, Refused}
+use Rattle.sc_cmd.specs.declared.votes.Outcome.TheVariants as Is
+use Rattle.sc_cmd.specs.declared.votes.Past.TheVariants as Cast
+use Rattle.sc_cmd.specs.declared.votes.Vote.TheVariants as Says
+use Rattle.sc_cmd.specs.Definitions.{cast_in, decided_in, is_alone, is_changed, refused_result, result_of}
+use Rattle.sc_machine_table.specs.Definitions.{Group, applied, begun_group, has_named, ordered, refusal_of, split_group, with_node, without_node}
+use Rattle.sc_paxos_words.proofs.Lemmas.{Each-append}
+use Rattle.sc_policy.specs.Definitions.{is_told}
+use Rattle.sc_node_table.specs.declared.Before.{Before}
+use Rattle.sc_node_table.specs.Definitions.{ReplicaState, Place, name_of, under_way, sent, answered, answered_all, answer_of, told_call, order_result, told_effect, announced, entered, before_of, before_in, begun_result, decided_result, dismissed, dismissed_all, ended, order_number, ordered_row, outcome_result, spoken, spoken_mails, spoken_number, told_begun, told_desk, told_order, told_result, untaken, taken_or_told, ordered_command, offer_of, heard_question, question, asked_first, told_outcome, asked_on, begun_asks, vote_sent, watch_sent, aborted_to, aborted_watcher, given_up_by, vote_answered, released_to, watch_answered_by, went_on}
+use Rattle.sc_law_walks.proofs.Ways.{either_way}
+use Rattle.sc_law_walks.proofs.Talks.{all_sent}
+use Rattle.sc_law_refusal.specs.results.Definitions.{IsOf, IsAtOnce, IsCommit, DecidesFor, FindsCause, EndsOrder, IfTold, TellAs, said_of_entry, IsGivenBack, ReportsAreDecided}
+
+module _ (me : ℕ) (Fact : ℕ → ToldResult → Type 0) where
+  abbrev Q : List Mail → Type 0
+  Q mails = TellAs Fact mails
+
+  puts : (to : ℕ) (body : MailBody) (mails : List Mail) → IfTold Fact body → Q mails → Q (sent me to body mails)
+  puts to body mails told m = Each-append (λ (mail : Mail). IfTold Fact mail.body) mails (record { from = me; to = to; body = body } ∷ []) m (told, tt)
+
+  reported : (number : ℕ) (result : ToldResult) (mails : List Mail) → (is_told number ≡ true → Fact number result) → Q mails → Q (told_order me number result mails)
+  unfolding told_order
+  reported number result mails fact m = cond_both (is_told number) (told_desk me number result mails) mails Q (λ t. puts 0 _ mails (fact t) m) (λ _. m)
+
+  -- ---- what tells no result
+
+  heard_said : (to : ℕ) (core : Core) (tx : Draw) (body : Body) (heard : Option Heard) (mails : List Mail) → Q mails → Q (sent me to (heard_question me core tx body heard) mails)
+  heard_said to core tx body None mails m = puts to _ mails tt m
+  heard_said to core tx body (Some heard) mails m = puts to _ mails tt m
+
+  question_said : (to : ℕ) (core : Core) (tx : Draw) (body : Body) (heard : Option Heard) (mails : List Mail) → Q mails → Q (sent me to (question me core tx body heard) mails)
+  question_said to core tx At.Merge heard mails m = heard_said to core tx At.Merge heard mails m
+  question_said to core tx (At.Repart at) heard mails m = heard_said to core tx (At.Repart at) heard mails m
+  question_said to core tx (At.Migrate node) heard mails m = heard_said to core tx (At.Migrate node) heard mails m
+  question_said to core tx (At.Split at child) heard mails m = puts to _ mails tt m
+
+  first_asked : (lock : Lock) (core : Core) (mails : List Mail) → Q mails → Q (asked_first lock me core mails)
+  first_asked Free core mails m = m
+  first_asked (Coordinating tx body order heard) core mails m = question_said _ core tx body heard mails m
+  first_asked (Promised tx offer) core mails m = m
+  first_asked (Watching tx watch) core mails m = m
+
+  on_asked : (effect : Effect) (core : Core) (mails : List Mail) → Q mails → Q (asked_on effect me core mails)
+  on_asked effect core mails m = either_way Q (is_changed effect) (asked_first core.lock me core mails) mails (first_asked core.lock core mails m) m
+
+  begun_asked : (effect : Effect) (core : Core) (tx : Draw) (body : Body) (mails : List Mail) → Q mails → Q (begun_asks effect me core tx body mails)
+  begun_asked effect core tx body mails m = either_way Q (is_changed effect) (sent me (least_of core.succ.members) (TxPrepare tx (offer_of me core body)) mails) mails (puts _ _ mails tt m) m
+
+  vote_said : (o : Option Past) (group : Group) (tx : Draw) (offer : Offer) (mails : List Mail) → Q mails → Q (vote_sent o me group tx offer mails)
+  vote_said None group tx offer mails m = m
+  vote_said (Some Cast.Yes) group tx offer mails m = puts _ _ mails tt m
+  vote_said (Some (Cast.No why)) group tx offer mails m = puts _ _ mails tt m
+  vote_said (Some Cast.Ended) group tx offer mails m = m
+
+  watch_said : (o : Option Past) (tx : Draw) (watch : Watch) (mails : List Mail) → Q mails → Q (watch_sent o me tx watch mails)
+  watch_said None tx watch mails m = m
+  watch_said (Some Cast.Yes) tx watch mails m = puts _ _ mails tt m
+  watch_said (Some (Cast.No why)) tx watch mails m = puts _ _ mails tt m
+  watch_said (Some Cast.Ended) tx watch mails m = m
+
+  aborted_said : (tx : Draw) (link : Link) (mails : List Mail) → Q mails → Q (aborted_to me tx link mails)
+  aborted_said tx link mails m = all_sent me Q (TxOutcome tx link.group Is.Abort) (λ to ms q. puts to _ ms tt q) link.members mails m
+
+  watcher_said : (tx : Draw) (o : Option (ℕ × Link)) (mails : List Mail) → Q mails → Q (aborted_watcher me tx o mails)
+  watcher_said tx None mails m = m
+  watcher_said tx (Some heard) mails m = aborted_said tx heard.1 mails m
+
+  given_up_said : (o : Option Outcome) (before : Before) (tx : Draw) (mails : List Mail) → Q mails → Q (given_up_by o me before tx mails)
+  given_up_said None before tx mails m = m
+  given_up_said (Some outcome) before tx mails m = watcher_said tx before.heard (aborted_to me tx before.succ mails) (aborted_said tx before.succ mails m)
+
+  vote_replied : (o : Option Outcome) (vote : Vote) (before : Before) (tx : Draw) (by : ℕ) (mails : List Mail) → Q mails → Q (vote_answered o vote me before tx by mails)
+  vote_replied None vote before tx by mails m = m
+  vote_replied (Some outcome) (Says.Yes frozen) before tx by mails m = puts by _ mails tt m
+  vote_replied (Some outcome) (Says.No why) before tx by mails m = m
+
+  released_said : (o : Option (ℕ × Link)) (succ : Link) (tx : Draw) (by : ℕ) (outcome : Outcome) (mails : List Mail) → Q mails → Q (released_to o me succ tx by outcome mails)
+  released_said None succ tx by outcome mails m = puts by _ mails tt m
+  released_said (Some heard) succ tx by outcome mails m = puts by _ (told_outcome me heard.0 tx succ.group outcome mails) tt (puts heard.0 _ mails tt m)
+
+  watch_replied : (o : Option Outcome) (vote : Past) (before : Before) (tx : Draw) (by : ℕ) (mails : List Mail) → Q mails → Q (watch_answered_by o vote me before tx by mails)
+  watch_replied None vote before tx by mails m = m
+  watch_replied (Some outcome) Cast.Yes before tx by mails m = released_said before.heard before.succ tx by outcome mails m
+  watch_replied (Some outcome) (Cast.No why) before tx by mails m = either_way Q before.merges (aborted_to me tx before.succ mails) mails (aborted_said tx before.succ mails m) m
+  watch_replied (Some outcome) Cast.Ended before tx by mails m = m
+
+  went_said : (group : Group) (before : Before) (effect : Effect) (command : Command) (mails : List Mail) → Q mails → Q (went_on me group before effect command mails)
+  unfolding went_on
+  went_said group before effect (Split at child order) mails m = on_asked effect group.core mails m
+  went_said group before effect (Begin tx body order) mails m = begun_asked effect group.core tx body mails m
+  went_said group before effect (Prepared tx offer) mails m = vote_said (cast_in effect) group tx offer mails m
+  went_said group before effect (RecordVote tx vote by) mails m = vote_replied (decided_in effect) vote before tx by (asked_on effect me group.core mails) (on_asked effect group.core mails m)
+  went_said group before effect (GiveUp tx) mails m = given_up_said (decided_in effect) before tx mails m
+  went_said group before effect (Watched tx watch) mails m = watch_said (cast_in effect) tx watch mails m
+  went_said group before effect (RecordWatch tx vote by) mails m = watch_replied (decided_in effect) vote before tx by mails m
+  went_said group before effect _ mails m = m
+
+  -- a result, where there is one
+  begun_said : (number : ℕ) (o : Option ToldResult) (mails : List Mail) → ((result : ToldResult) → o ≡ Some result → is_told number ≡ true → Fact number result) → Q mails → Q (told_result me o number mails)
+  begun_said number None mails fact m = m
+  begun_said number (Some result) mails fact m = reported number result mails (λ t. fact result refl t) m
+
+  -- ---- who stops
+
+  one_answered : (group : Draw) (answer : AnswerBody) (command : Command) (mails : List Mail) → Q mails → Q (answered me group answer command mails)
+  unfolding answered
+  one_answered group answer (Call client seq op) mails m = puts _ _ mails tt m
+  one_answered group answer _ mails m = m
+
+  all_answered : (group : Draw) (answer : AnswerBody) (commands : List Command) (mails : List Mail) → Q mails → Q (answered_all me group answer commands mails)
+  unfolding answered_all
+  all_answered group answer [] mails m = m
+  all_answered group answer (command ∷ commands) mails m = all_answered group answer commands (answered me group answer command mails) (one_answered group answer command mails m)
+
+  one_dismissed : (group : Draw) (hint : Option ℕ) (answer : AnswerBody) (command : Command) (mails : List Mail) → (is_told (order_number command) ≡ true → Fact (order_number command) (Refused (NotLeader hint))) → Q mails → Q (dismissed me group hint answer command mails)
+  unfolding dismissed
+  one_dismissed group hint answer (Call client seq op) mails fact m = puts _ _ mails tt m
+  one_dismissed group hint answer Noop mails fact m = reported _ _ mails fact m
+  one_dismissed group hint answer _ mails fact m = reported _ _ mails fact m
+
+  all_dismissed : (group : Draw) (hint : Option ℕ) (answer : AnswerBody) (commands : List Command) (mails : List Mail) → ((command : Command) → Among command commands → is_told (order_number command) ≡ true → Fact (order_number command) (Refused (NotLeader hint))) → Q mails → Q (dismissed_all me group hint answer commands mails)
+  unfolding dismissed_all
+  all_dismissed group hint answer [] mails fact m = m
+  all_dismissed group hint answer (command ∷ commands) mails fact m =
+      all_dismissed group hint answer commands (dismissed me group hint answer command mails) (λ other a. fact other (inr a)) (one_dismissed group hint answer command mails (fact command (inl refl)) m)
+
+-- ---- how an entry ends an order
+
+-- an order is refused for its first cause
+module _ (core : Core) (command : Command) (group after : Group) where
+  abbrev Causes : Group × Effect → Type 0
+  Causes p = (why : OrderRefusal) → p.1 ≡ Was.Refused why → FindsCause core command why
+
+  ordered_cause : (gone : Option Route) (o : Option OrderRefusal) → core.gone ≡ gone → refusal_of core command ≡ o → Causes (ordered gone o after group)
+  ordered_cause (Some into) o e f why r = (let same : NotLeader None ≡ why = cc in inl (into, e, sym same))
+  ordered_cause None (Some other) e f why r = (let same : other ≡ why = cc in inr (e, f ∙ ap Some same))
+  ordered_cause None None e f why r = cc
+
+  named_cause : (b : Bool) (draw : Draw) → ((b ≡ false) → Causes (ordered core.gone (refusal_of core command) after group)) → Causes (if b then (group, Was.NoEffect draw) else ordered core.gone (refusal_of core command) after group)
+  named_cause true draw more why r = cc
+  named_cause false draw more why r = more refl why r
+
+module _ (group : Group) (command : Command) (number : ℕ) where
+  -- what the group refuses has a cause
+  abbrev HasCause : Type 0
+  HasCause = (why : OrderRefusal) → (applied group command).1 ≡ Was.Refused why → FindsCause group.core command why
+
+  at_once_ends : IsOf number command → IsAtOnce group.core command → HasCause → (effect : Effect) → (applied group command).1 ≡ effect → (result : ToldResult) → result_of effect ≡ Some result → EndsOrder group command number result
+  at_once_ends own at_once cause Was.Changed e result f =
+      let same : Done ≡ result = cc in subst (λ (x : ToldResult). EndsOrder group command number x) same (record { own = own; at_once = at_once; effect = e })
+  at_once_ends own at_once cause (Was.Refused why) e result f =
+      let same : Refused why ≡ result = cc in subst (λ (x : ToldResult). EndsOrder group command number x) same (record { own = own; cause = cause why e; effect = e })
+  at_once_ends own at_once cause _ e result f = cc
+
+  refused_ends : IsOf number command → HasCause → (effect : Effect) → (applied group command).1 ≡ effect → (result : ToldResult) → refused_result effect ≡ Some result → EndsOrder group command number result
+  refused_ends own cause (Was.Refused why) e result f =
+      let same : Refused why ≡ result = cc in subst (λ (x : ToldResult). EndsOrder group command number x) same (record { own = own; cause = cause why e; effect = e })
+  refused_ends own cause Was.Changed e result f = cc
+  refused_ends own cause _ e result f = cc
+
+  -- an outcome stands for a commit or an abort
+  stands_for : (outcome : Outcome) → ((Such : Outcome → Type 0) → Such outcome → DecidesFor group command number Such) → EndsOrder group command number (outcome_result outcome)
+  stands_for Is.Abort decides = decides (λ other. other ≡ Is.Abort) refl
+  stands_for (Is.Merged into) decides = decides IsCommit tt
+  stands_for (Is.Moved at gift) decides = decides IsCommit tt
+  stands_for (Is.Migrated node) decides = decides IsCommit tt
+  stands_for Is.Divided decides = decides IsCommit tt
+
+  decided_ends : (tx : Draw) (body : Body) (heard : Option Heard) → group.core.lock ≡ Coordinating tx body number heard → (effect : Effect) → (applied group command).1 ≡ effect → (result : ToldResult) → decided_result effect ≡ Some result → EndsOrder group command number result
+  decided_ends tx body heard locked (Was.Decided outcome) e result f =
+      let same : outcome_result outcome ≡ result = cc in
+      subst (λ (x : ToldResult). EndsOrder group command number x) same
+      (stands_for outcome (λ Such is. record { tx = tx; body = body; heard = heard; locked = locked; outcome = outcome; effect = e; such = is }))
+  decided_ends tx body heard locked Was.Changed e result f = cc
+  decided_ends tx body heard locked _ e result f = cc
+
+-- who coordinates no transaction decides none for an order
+locked_ends : (group : Group) (command : Command) (lock : Lock) → group.core.lock ≡ lock → (result : ToldResult) → decided_result (applied group command).1 ≡ Some result → is_told (before_in lock group.core).order ≡ true → EndsOrder group command (before_in lock group.core).order result
+locked_ends group command Free e result f t = cc
+locked_ends group command (Coordinating tx body order heard) e result f t = decided_ends group command order tx body heard e (applied group command).1 refl result f
+locked_ends group command (Promised tx offer) e result f t = cc
+locked_ends group command (Watching tx watch) e result f t = cc
+
+before_alone : (lock : Lock) (core : Core) → (before_in lock core).alone ≡ is_alone core
+before_alone Free core = refl
+before_alone (Coordinating tx body order heard) core = refl
+before_alone (Promised tx offer) core = refl
+before_alone (Watching tx watch) core = refl
+
+order_ends : (group : Group) (command : Command) (result : ToldResult) → order_result command (applied group command).1 ≡ Some result → EndsOrder group command (order_number command) result
+order_ends group (Join node order) result e =
+    at_once_ends group (Join node order) order refl tt (ordered_cause group.core (Join node order) group (with_node group node) group.core.gone (refusal_of group.core (Join node order)) refl refl) (applied group (Join node order)).1 refl result e
+order_ends group (Leave node order) result e =
+    at_once_ends group (Leave node order) order refl tt (ordered_cause group.core (Leave node order) group (without_node group node) group.core.gone (refusal_of group.core (Leave node order)) refl refl) (applied group (Leave node order)).1 refl result e
+order_ends group Noop result e = cc
+order_ends group _ result e = cc
+
+split_cause : (group : Group) (at : ℕ) (child : Draw) (order : ℕ) → HasCause group (Split at child order) order
+split_cause group at child order =
+    let command : Command = Split at child order in
+    let after : Group = split_group group at child order in
+    named_cause group.core command group after (has_named group.core child) child (λ _. ordered_cause group.core command group after group.core.gone (refusal_of group.core command) refl refl)
+
+begin_cause : (group : Group) (tx : Draw) (body : Body) (order : ℕ) → HasCause group (Begin tx body order) order
+begin_cause group tx body order =
+    let command : Command = Begin tx body order in
+    let after : Group = begun_group group tx body order in
+    named_cause group.core command group after (has_named group.core tx) tx (λ _. ordered_cause group.core command group after group.core.gone (refusal_of group.core command) refl refl)
+
+split_ends : (group : Group) (at : ℕ) (child : Draw) (order : ℕ) (result : ToldResult) (b : Bool) → is_alone group.core ≡ b → (if b then result_of (applied group (Split at child order)).1 else refused_result (applied group (Split at child order)).1) ≡ Some result → EndsOrder group (Split at child order) order result
+split_ends group at child order result true alone e = at_once_ends group (Split at child order) order refl alone (split_cause group at child order) (applied group (Split at child order)).1 refl result e
+split_ends group at child order result false alone e = refused_ends group (Split at child order) order refl (split_cause group at child order) (applied group (Split at child order)).1 refl result e
+
+begun_ends : (group : Group) (command : Command) (result : ToldResult) → begun_result (before_of group.core).alone (applied group command).1 command ≡ Some result → is_told (spoken_number (before_of group.core).order command) ≡ true
+    → EndsOrder group command (spoken_number (before_of group.core).order command) result
+begun_ends group (Split at child order) result e t =
+    split_ends group at child order result (is_alone group.core) refl
+    (subst (λ (b : Bool). (if b then result_of (applied group (Split at child order)).1 else refused_result (applied group (Split at child order)).1) ≡ Some result) (before_alone group.core.lock group.core) e)
+begun_ends group (Begin tx body order) result e t = refused_ends group (Begin tx body order) order refl (begin_cause group tx body order) (applied group (Begin tx body order)).1 refl result e
+begun_ends group (RecordVote tx vote by) result e t = locked_ends group (RecordVote tx vote by) group.core.lock refl result e t
+begun_ends group (GiveUp tx) result e t = locked_ends group (GiveUp tx) group.core.lock refl result e t
+begun_ends group (RecordWatch tx vote by) result e t = locked_ends group (RecordWatch tx vote by) group.core.lock refl result e t
+begun_ends group _ result e t = cc
+
+-- ---- the parts of the table
+
+module _ (Fact : ℕ → ToldResult → Type 0) where
+  call_said : (answer : Option AnswerBody) (command : Command) (place : Place) → TellAs Fact place.1 → TellAs Fact (told_call answer command place).1
+  unfolding told_call
+  call_said (Some answer) (Call client seq op) (r, mails) m = puts r.me Fact _ _ mails tt m
+  call_said None (Call client seq op) (r, mails) m = m
+  call_said (Some answer) _ place m = m
+  call_said None _ place m = m
+
+  effect_said : (o : Option ToldResult) (command : Command) (place : Place) → ((result : ToldResult) → o ≡ Some result → Fact (order_number command) result) → TellAs Fact place.1 → TellAs Fact (told_effect o command place).1
+  unfolding told_effect
+  effect_said None command place fact m = m
+  effect_said (Some result) command (r, mails) fact m = reported r.me Fact (order_number command) result mails (λ t. fact result refl) m
+
+  announced_said : (counted : Bool) (effect : Effect) (command : Command) (place : Place) → ((result : ToldResult) → order_result command effect ≡ Some result → Fact (order_number command) result) → TellAs Fact place.1 → TellAs Fact (announced counted effect command place).1
+  unfolding announced
+  announced_said counted effect command place fact m =
+      effect_said (order_result command effect) command (if counted then told_call (answer_of effect) command place else place) fact
+      (either_way (λ (p : Place). TellAs Fact p.1) counted (told_call (answer_of effect) command place) place (call_said (answer_of effect) command place m) m)
+
+  spoken_said : (counted : Bool) (before : Before) (effect : Effect) (command : Command) (place : Place) → ((result : ToldResult) → begun_result before.alone effect command ≡ Some result → is_told (spoken_number before.order command) ≡ true → Fact (spoken_number before.order command) result)
+      → TellAs Fact place.1 → TellAs Fact (spoken counted before effect command place).1
+  unfolding spoken spoken_mails told_begun
+  spoken_said counted before effect command (r, mails) fact m =
+      let told : List Mail = told_result r.me (begun_result before.alone effect command) (spoken_number before.order command) mails in
+      let said : TellAs Fact told = begun_said r.me Fact (spoken_number before.order command) (begun_result before.alone effect command) mails fact m in
+      either_way (λ (ms : List Mail). TellAs Fact ms) counted (went_on r.me r.group before effect command told) told (went_said r.me Fact r.group before effect command told said) said
+
+entries_end : (counted : Bool) (command : Command) (r : ReplicaState) → TellAs (EndsOrder r.group command) (said_of_entry counted command r)
+entries_end counted command r =
+    let Fact : ℕ → ToldResult → Type 0 = EndsOrder r.group command in
+    let effect : Effect = (applied r.group command).1 in
+    spoken_said Fact counted (before_of r.group.core) effect command (announced counted effect command (entered command r, [])) (λ result e t. begun_ends r.group command result e t)
+    (announced_said Fact counted effect command (entered command r, []) (λ result e. order_ends r.group command result e) tt)
+
+-- what has a number that is reported is the command of that order
+is_of : (command : Command) → is_told (order_number command) ≡ true → IsOf (order_number command) command
+is_of (Join node order) t = refl
+is_of (Leave node order) t = refl
+is_of (Split at child order) t = refl
+is_of (Begin tx body order) t = refl
+is_of Noop t = cc
+is_of _ t = cc
+
+queues_end : (hint : Option ℕ) (answer : AnswerBody) (r : ReplicaState) → TellAs (IsGivenBack r hint) (ended hint answer (r, [])).1
+unfolding ended
+queues_end hint answer r =
+    all_dismissed r.me (IsGivenBack r hint) (name_of r) hint answer r.calls (answered_all r.me (name_of r) answer (under_way r) []) (λ command a t. record { command = command; queued = a; own = is_of command t; result_is = refl })
+    (all_answered r.me (IsGivenBack r hint) (name_of r) answer (under_way r) [] tt)
+
+orders_end : (drawer : Drawer) (line : OrderLine) (r : ReplicaState) (why : OrderRefusal) → untaken drawer line r ≡ Some why → ordered_row drawer line (r, []) ≡ (r, told_desk r.me line.number (Refused why) [])
+unfolding ordered_row
+orders_end drawer line r why e = ap (λ (o : Option OrderRefusal). taken_or_told o line.number (ordered_command (next_name drawer) line.number line.order) (r, [])) e
+
+pub reports_are_decided : ReportsAreDecided
+reports_are_decided = record { entries = entries_end; queues = queues_end; orders = orders_end }
