@@ -1,17 +1,17 @@
 -- What a vote makes of the flights, and of those that voted.
-use Rattle.std.proofs.Common.{◌≡◌, ℕ, zero, suc, ◌+◌, ◌*◌, ◌<◌, ◌≤◌, ◌||◌, ltb, eqb, Bool, true, false, cond, List, [], ◌∷◌, ◌++◌, length, map, filter, count_by, Option, Some, None, inl, inr, refl, sym, ◌∙◌, ap, subst, arith}
+use Rattle.std.proofs.Common.{◌≡◌, ℕ, zero, suc, ◌+◌, ◌*◌, ◌<◌, ◌≤◌, ◌||◌, eqb, Bool, true, false, cond, List, [], ◌∷◌, ◌++◌, length, map, count_by, Option, Some, None, inl, inr, refl, sym, ◌∙◌, ap, subst, arith}
 use Rattle.std.specs.Prelude.{slice_get}
-use Rattle.std.proofs.lemmas.Bool.{cond_both, cond-true, cond-false, cases_Bool, cases_order, eqb-true, eq-eqb, ne_eqb, lt-ltb, both_ways, or_cases, or_parts, or_left}
+use Rattle.std.proofs.lemmas.Bool.{cond_both, cond-true, cond-false, cases_Bool, eqb-true, eq-eqb, ne_eqb, lt-ltb, both_ways, or_cases, or_parts, or_left}
 use Rattle.sc_base.specs.Definitions.{Among, Each, votes_of, is_majority, is_member, with_member, IsRoster}
 use Rattle.sc_node_table.specs.Values.{Command, Flight}
 use Rattle.sc_base.proofs.Lemmas.{length_with as with_one}
 use Rattle.sc_paxos_words.specs.Definitions.{flight_at, without_flight, kept_voters, add_voter, voters_after, with_voters}
-use Rattle.sc_paxos_words.proofs.Lemmas.{Among-filter}
 use Rattle.sc_node_table.specs.Definitions.{numbers_from}
-use Rattle.sc_paxos_law.proofs.Lemmas.{member-among, among-member}
+use Rattle.sc_paxos_law.proofs.Lemmas.{member-among}
 use Rattle.sc_live_plain.proofs.SlotCounts.{one_yes, one_no, count-cons}
 use Rattle.sc_live_plain.proofs.LeadingReplicas.{flights_at}
 use Rattle.sc_live_plain.proofs.Lists.{some_is}
+use Rattle.sc_live_steps.proofs.FollowingProofs.CountedVotes.{with_own, with_kept}
 
 -- ---- the flights
 
@@ -106,24 +106,6 @@ among_left (y ∷ xs) ys x (inr a) = inr (among_left xs ys x a)
 among_right : (xs ys : List ℕ) (x : ℕ) → Among x ys → Among x (xs ++ ys)
 among_right [] ys x a = a
 among_right (y ∷ xs) ys x a = inr (among_right xs ys x a)
-
--- a set with one more has that one, and those that it had
-pub with_own : (members : List ℕ) (node : ℕ) → is_member (with_member members node) node ≡ true
-with_own members node =
-    among-member (with_member members node) node (among_right (filter (λ member. ltb member node) members) (node ∷ filter (λ member. ltb node member) members) node (inl refl))
-
-pub with_kept : (members : List ℕ) (node who : ℕ) → is_member members who ≡ true → is_member (with_member members node) who ≡ true
-with_kept members node who m =
-    let a = member-among members who m in
-    let low : List ℕ = filter (λ member. ltb member node) members in
-    let high : List ℕ = filter (λ member. ltb node member) members in
-    among-member (with_member members node) who (elim (cases_order who node) [
-      | inl same ↦ among_right low (node ∷ high) who (inl (sym same))
-      | inr o ↦ elim o [
-        | inl lt ↦ among_left low (node ∷ high) who (Among-filter (λ member. ltb member node) members who a (lt-ltb who node lt))
-        | inr gt ↦ among_right low (node ∷ high) who (inr (Among-filter (λ member. ltb node member) members who a (lt-ltb node who gt)))
-      ]
-    ])
 
 -- what passes more tests, and one more element, counts more
 more_pass : (p q : ℕ → Bool) (x : ℕ) (xs : List ℕ) → ((y : ℕ) → p y ≡ true → q y ≡ true) → count_by p xs ≤ count_by q xs

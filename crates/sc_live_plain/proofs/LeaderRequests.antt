@@ -8,18 +8,15 @@ use Rattle.sc_node_table.specs.Values.{Op, Command, Call, Core, Route, AnswerBod
 use Rattle.sc_ideal.specs.Definitions.{key_of, holds_key}
 use Rattle.sc_mail.specs.declared.bodies.AnswerBody.TheVariants as Says
 use Rattle.sc_paxos_words.proofs.Lemmas.{Each-push}
-use Rattle.sc_node_table.specs.Definitions.{serves_calls, pumped, call_of, is_call_of, without_call, ReplicaState, Place, next, last_slot, call_refusal, queued, requested, request_row, numbers_from}
+use Rattle.sc_node_table.specs.Definitions.{serves_calls, pumped, call_of, without_call, ReplicaState, Place, next, last_slot, call_refusal, queued, requested, request_row, numbers_from}
 use Rattle.sc_live_plain.specs.Definitions.{Frame, IsFrame, replica_owes, Requests, IsPlainCommand, IsPlainCall, IsPlainLeader, IsPlainReplica, HasOffered}
 use Rattle.sc_live_plain.proofs.LeadingReplicas.{early_taken, IsHeld, Leads}
 use Rattle.sc_live_plain.proofs.LeaderExecutions.{IsRun, pumped_run}
 use Rattle.sc_live_plain.proofs.RepeatedMail.{mail_of, among_push, last_among}
 use Rattle.sc_live_plain.proofs.Lists.{some_is}
+use Rattle.sc_law_groups.proofs.GroupProofs.Parts.{Each-without_call as out_calls}
 
 -- ---- the queued requests of a client
-
-pub out_calls : (P : Command → Type 0) (calls : List Command) (client : ℕ) → Each P calls → Each P (without_call calls client)
-out_calls P [] client e = tt
-out_calls P (c ∷ calls) client e = cond_both (is_call_of client c) calls (c ∷ without_call calls client) (Each P) (λ _. e.1) (λ _. (e.0, out_calls P calls client e.1))
 
 -- one that is there is taken out
 out_one : (calls : List Command) (client seq : ℕ) → call_of calls client ≡ Some seq → length (without_call calls client) + 1 ≡ length calls

@@ -1,7 +1,7 @@
 -- How a plain journal begins: the frames of the groups of a valid scenario, and its seats.
-use Rattle.std.proofs.Common.{◌≡◌, ℕ, zero, suc, ◌+◌, ◌-◌, ◌<◌, ◌≤◌, eqb, leb, true, List, [], ◌∷◌, ◌++◌, length, map, inl, inr, refl, sym, ◌∙◌, ap, subst, arith}
-use Rattle.std.proofs.lemmas.Bool.{and_from, le-leb, eq-eqb, or_left}
-use Rattle.sc_base.specs.Definitions.{Among, most_nodes, is_member, least_of}
+use Rattle.std.proofs.Common.{◌≡◌, ℕ, zero, suc, ◌+◌, ◌-◌, ◌<◌, ◌≤◌, leb, true, List, [], ◌∷◌, ◌++◌, length, map, inl, inr, refl, sym, ◌∙◌, ap, subst, arith}
+use Rattle.std.proofs.lemmas.Bool.{and_from, le-leb}
+use Rattle.sc_base.specs.Definitions.{Among, most_nodes, is_member}
 use Rattle.sc_node_table.specs.Values.{Draw, Base}
 use Rattle.sc_actor.specs.Definitions.{are_apart}
 use Rattle.sc_paxos_words.proofs.Lemmas.{Each-among, Each-from_All, one_of_name}
@@ -14,6 +14,7 @@ use Rattle.sc_sound.specs.Definitions.{node_seat, client_seat, client_seats, rou
 use Rattle.sc_law_groups.proofs.WholeProofs.Lemmas.{all_apart, bases_from, first_and_others}
 use Rattle.sc_paxos_law.proofs.Lemmas.{Among-either, from_map, member-among}
 use Rattle.sc_live_plain.specs.Definitions.{Frame, frame_of, IsFrame, AreNamedApart}
+use Rattle.sc_live_steps.proofs.FollowingProofs.LeaderRows.{least_in}
 
 -- the frames of the groups of a scenario
 abbrev pub frames_of : Scenario → List Frame
@@ -32,10 +33,6 @@ pub record IsStage (scenario : Scenario) : Type 0 where
   pub numbered : (asks : Asks) → Among asks scenario.clients → 1 ≤ asks.client
   pub once : (one other : Asks) → Among one scenario.clients → Among other scenario.clients → one.client ≡ other.client → one ≡ other
   pub seats_apart : are_apart (births as_nodes scenario) ≡ true
-
-least_in : (members : List ℕ) → 1 ≤ length members → is_member members (least_of members) ≡ true
-least_in [] some = absurd (omega (arith, some))
-least_in (x ∷ members) some = or_left (eqb x x) (is_member members x) (eq-eqb x x refl)
 
 of_up_to : (lines : List GroupLine) (n : ℕ) (base : Base) → Among base (bases_up_to lines n) → (k : ℕ) × (k < n) × (base_at lines k ≡ base)
 of_up_to lines zero base a = absurd a

@@ -9,6 +9,7 @@ use Rattle.sc_node_table.specs.Definitions.{stopped, entered, answer_of, told_ca
 use Rattle.sc_law_walks.proofs.Lemmas.{floor_under, entered_next, cleared}
 use Rattle.sc_paxos_law.proofs.Lemmas.{among-member}
 use Rattle.sc_live_plain.specs.Definitions.{Frame, IsFrame, Requests, IsPlainGroup, IsPlainReplica}
+use Rattle.sc_live_steps.proofs.FollowingProofs.FollowerTables.{left_same as left_stopped}
 
 -- ---- members
 
@@ -93,10 +94,6 @@ left_gone_none into r mails g m =
 left_stays : (r : ReplicaState) (mails : List Mail) → r.running ≡ true → r.group.core.gone ≡ None → is_member (members r) r.me ≡ true → left (r, mails) ≡ (r, mails)
 unfolding left
 left_stays r mails t g m = cond-true r.running (left_gone r.group.core.gone (r, mails)) (r, mails) t ∙ left_gone_none r.group.core.gone r mails g m
-
-left_stopped : (r : ReplicaState) (mails : List Mail) → r.running ≡ false → left (r, mails) ≡ (r, mails)
-unfolding left
-left_stopped r mails f = cond-false r.running (left_gone r.group.core.gone (r, mails)) (r, mails) f
 
 looked_stays : (r : ReplicaState) (mails : List Mail) → r.running ≡ true → looked (r, mails) ≡ (r, mails)
 unfolding looked

@@ -23,13 +23,9 @@ use Rattle.sc_live_plain.proofs.PlainBeginnings.{frames_of, IsStage}
 use Rattle.sc_live_plain.proofs.RowViews.{Journal, replica_is}
 use Rattle.sc_live_plain.proofs.ReplicaRows.{leading_at}
 use Rattle.sc_live_plain.proofs.Lists.{map_among}
+pub use Rattle.sc_law_groups.proofs.GroupProofs.RowSteps.{among_numbers as in_numbers}
 
 -- ---- lists
-
-pub in_numbers : (from count n : ℕ) → Among n (numbers_from from count) → (from ≤ n) × (n < from + count)
-in_numbers from zero n a = absurd a
-in_numbers from (suc count) n (inl e) = (omega (arith, e), omega (arith, e))
-in_numbers from (suc count) n (inr a) = let r = in_numbers (from + 1) count n a in let low = r.0 in let high = r.1 in (omega (arith, low), omega (arith, high))
 
 pub to_numbers : (from count n : ℕ) → from ≤ n → n < from + count → Among n (numbers_from from count)
 to_numbers from zero n low high = absurd (omega (arith, low, high))

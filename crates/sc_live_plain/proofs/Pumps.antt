@@ -1,10 +1,10 @@
 -- What the leading replica of a plain group offers: its queued requests, at the slots that are free, in their order.
-use Rattle.std.proofs.Common.{◌≡◌, ℕ, zero, suc, ◌+◌, ◌*◌, ◌<◌, ◌≤◌, ◌&&◌, not, leb, eqb, Bool, true, false, List, [], ◌∷◌, ◌++◌, length, map, sum_by, Option, Some, None, ◌⊎◌, inl, inr, refl, sym, ◌∙◌, ap, subst, arith, append_assoc}
+use Rattle.std.proofs.Common.{◌≡◌, ℕ, zero, suc, ◌+◌, ◌<◌, ◌≤◌, ◌&&◌, not, leb, eqb, Bool, true, List, [], ◌∷◌, ◌++◌, length, map, sum_by, Option, Some, None, ◌⊎◌, inl, inr, refl, sym, ◌∙◌, ap, subst, arith, append_assoc}
 use Rattle.std.specs.Prelude.{is_some, nat_le}
 use Rattle.std.specs.List.{list_any}
-use Rattle.std.proofs.lemmas.Bool.{cond_both, cond-true, cond-false, cases_lt, cases_eq, le-leb, le-ltb, and_from, both_ways}
+use Rattle.std.proofs.lemmas.Bool.{cond_both, cond-true, cond-false, cases_lt, cases_eq, le-leb, and_from, both_ways}
 use Rattle.std.proofs.lemmas.List.{length_push}
-use Rattle.sc_base.specs.Definitions.{Among, Each, votes_of, is_majority}
+use Rattle.sc_base.specs.Definitions.{Among, Each, votes_of}
 use Rattle.sc_node_table.specs.Values.{Ballot, Draw, Op, Command, Call, Core, Lock, Free, Route, AnswerBody, Mail, MailBody, Accept, Must, Flight}
 use Rattle.sc_ideal.specs.Definitions.{key_of, holds_key}
 use Rattle.sc_paxos_words.proofs.Lemmas.{Each-push, Each-weaker}
@@ -14,6 +14,7 @@ use Rattle.sc_live_plain.specs.Definitions.{Frame, IsFrame, mail_owes, replica_o
 use Rattle.sc_live_plain.proofs.SlotCounts.{one_if, one_yes, one_no, count-push}
 use Rattle.sc_live_plain.proofs.LeadingReplicas.{in_range, range_yes, range_behind, range_more, takes, takes_not, no_acts, IsHeld, IsReportedOf, IsSaid, IsNew, later_row, Leads}
 use Rattle.sc_live_plain.proofs.RepeatedMail.{mail_of, all_each, all_owed, all_learns, all_kept, all_reached, among_push, last_among}
+use Rattle.sc_live_steps.proofs.FollowingProofs.LeastMembers.{none_decided}
 
 -- ---- what is found in the queue
 
@@ -52,9 +53,6 @@ by_nothing P slot set sets found place e p =
 no_votes : (members : List ℕ) → votes_of members [] ≡ 0
 no_votes [] = refl
 no_votes (x ∷ xs) = no_votes xs
-
-none_decided : (members : List ℕ) → is_majority members [] ≡ false
-none_decided members = (let none = no_votes members in le-ltb (length members) (2 * votes_of members []) (omega (arith, none)))
 
 module _ (begun : Requests) (frame : Frame) (is : IsFrame frame) (first free : ℕ) (held : List (Flight Command)) (bound : ℕ) (wanted : ℕ → ℕ → Type 0) where
   abbrev pub L : ℕ → Place → Type 0

@@ -1,6 +1,5 @@
 -- A leader at which calls alone are under way, and the group serves them: a vote lowers what is owed.
 use Rattle.std.proofs.Common.{◌≡◌, ℕ, ◌≤◌, ◌&&◌, eqb, ltb, Bool, true, false, cond, List, [], ◌∷◌, length, Option, Some, None, refl, sym, ◌∙◌, ap, subst}
-use Rattle.std.proofs.lemmas.Bool.{cond-true, cond-false, eq-eqb}
 use Rattle.sc_base.specs.Definitions.{Each, is_member}
 use Rattle.sc_node_table.specs.Values.{Op, Command, Noop, Call, Core, Flight}
 use Rattle.sc_machine_table.specs.Definitions.{Group}
@@ -11,6 +10,7 @@ use Rattle.sc_live_steps.specs.calm.Definitions.{AreBounded, IsServed, IsServedC
 use Rattle.sc_live_steps.proofs.CalmProofs.CountedEntries.{counted_ends, left_same, looked_same}
 use Rattle.sc_live_steps.proofs.CalmProofs.CallEntries.{call_core, call_leads, call_said}
 use Rattle.sc_live_steps.proofs.CalmProofs.ExecutedEntries.{near, after_counting, execution_owes}
+use Rattle.sc_live_steps.proofs.FollowingProofs.FlightSlots.{slot_in as found_with}
 
 -- ---- what holds of each holds of what is found, and without one or with one more
 
@@ -54,18 +54,6 @@ each_with P slot command (e ∷ es) p each = by (eqb e.0 slot) (ltb slot e.0) (e
     by true c more = (p, each.1)
     by false true more = (p, each)
     by false false more = (each.0, more)
-
-found_with : (slot : ℕ) (command : Command) (ready : List (ℕ × Command)) → at_slot (with_slot ready slot command) slot ≡ Some command
-found_with slot command [] = cond-true (eqb slot slot) (Some command) None (eq-eqb slot slot refl)
-found_with slot command (e ∷ es) = by (eqb e.0 slot) refl (ltb slot e.0) (found_with slot command es)
-  where
-    first : (more : List (ℕ × Command)) → at_slot ((slot, command) ∷ more) slot ≡ Some command
-    first more = cond-true (eqb slot slot) (Some command) (at_slot more slot) (eq-eqb slot slot refl)
-
-    by : (b : Bool) → eqb e.0 slot ≡ b → (c : Bool) → at_slot (with_slot es slot command) slot ≡ Some command → at_slot (cond b ((slot, command) ∷ es) (cond c ((slot, command) ∷ e ∷ es) (e ∷ with_slot es slot command))) slot ≡ Some command
-    by true is c more = first es
-    by false is true more = first (e ∷ es)
-    by false is false more = cond-false (eqb e.0 slot) (Some e.1) (at_slot (with_slot es slot command) slot) is ∙ more
 
 -- ---- one call
 

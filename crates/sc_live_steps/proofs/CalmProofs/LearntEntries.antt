@@ -8,9 +8,10 @@ use Rattle.sc_policy.specs.Definitions.{is_told}
 use Rattle.sc_paxos_words.specs.Definitions.{LeaderState, new_leader, flight_at, without_flight_at}
 use Rattle.sc_machine_table.specs.Definitions.{applied}
 use Rattle.sc_node_table.specs.declared.Before.{Before}
-use Rattle.sc_node_table.specs.Definitions.{is_in_some, nodes_to, open_nodes, elected, entered, order_result, told_effect, announced, learnt_to, welcomed, slot_lost, landed, left_gone, left, is_among, looked_for, looked, executed_one, told_order, told_desk, sent_all, order_number, ReplicaState, Place, name_of, next, members, flying, forgotten, numbers_from, without_slot, before_of, begun_result, spoken_number, told_result, told_begun, spoken_mails, spoken}
+use Rattle.sc_node_table.specs.Definitions.{is_in_some, nodes_to, open_nodes, elected, entered, order_result, told_effect, announced, learnt_to, welcomed, slot_lost, landed, is_among, looked_for, looked, executed_one, told_order, told_desk, sent_all, order_number, ReplicaState, Place, name_of, next, members, flying, forgotten, numbers_from, without_slot, before_of, begun_result, spoken_number, told_result, told_begun, spoken_mails, spoken}
 use Rattle.sc_live_steps.specs.calm.Definitions.{Ways, mail_owes, replica_owes, idle_owes, election, place_owes}
 use Rattle.sc_live_steps.proofs.CalmProofs.PotentialSums.{sent_owes, all_owe, without_flight_owes, without_slot_owes}
+use Rattle.sc_live_steps.proofs.FollowingProofs.FollowerTables.{left_same as left_learnt, learnt_same as learnt_learnt, welcomed_same as welcomed_learnt}
 
 -- ---- the nodes of an election
 
@@ -142,14 +143,6 @@ module _ (ways : Ways) where
   unfolding spoken spoken_mails
   spoken_learnt before effect command r mails = (refl, begun_owes r.me before effect command mails)
 
-  learnt_learnt : (before : List ℕ) (slot : ℕ) (command : Command) (r : ReplicaState) (mails : List Mail) → learnt_to false before slot command (r, mails) ≡ (r, mails)
-  unfolding learnt_to
-  learnt_learnt before slot command r mails = refl
-
-  welcomed_learnt : (before : List ℕ) (r : ReplicaState) (mails : List Mail) → welcomed false before (r, mails) ≡ (r, mails)
-  unfolding welcomed
-  welcomed_learnt before r mails = refl
-
   -- where nothing is in flight
   landed_learnt : (slot : ℕ) (command : Command) (r : ReplicaState) (mails : List Mail) → r.leader.flights ≡ [] →
       ((landed false slot command (r, mails)).0.running ≡ r.running) × (replica_owes ways.most (landed false slot command (r, mails)).0 ≤ replica_owes ways.most r) × ((landed false slot command (r, mails)).1 ≡ mails) × ((landed false slot command (r, mails)).0.sets ≡ r.sets)
@@ -179,14 +172,6 @@ module _ (ways : Ways) where
       by : (o : Option Command) → o ≡ None → (slot_lost false command o (record r { leader = without_flight_at slot r.leader; ready = without_slot r.ready slot })).group ≡ r.group
       by (Some other) e = cc
       by None e = refl
-
-  left_learnt : (r : ReplicaState) (mails : List Mail) → r.running ≡ false → left (r, mails) ≡ (r, mails)
-  unfolding left
-  left_learnt r mails stopped = by r.running stopped
-    where
-      by : (b : Bool) → b ≡ false → ◌≡◌ {A = Place} (cond b (left_gone r.group.core.gone (r, mails)) (r, mails)) (r, mails)
-      by false e = refl
-      by true e = absurd (true≢false e)
 
   -- ---- the whole
 

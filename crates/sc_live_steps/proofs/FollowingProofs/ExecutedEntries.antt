@@ -3,7 +3,6 @@ use Rattle.std.proofs.Common.{◌≡◌, ℕ, suc, ◌+◌, ◌<◌, ◌≤◌, 
 use Rattle.std.specs.Prelude.{is_some}
 use Rattle.std.specs.Option.{option_map}
 use Rattle.std.proofs.lemmas.Bool.{cases_eq, cases_lt}
-use Rattle.std.proofs.lemmas.List.{length_push}
 use Rattle.sc_base.specs.Definitions.{Each, is_member}
 use Rattle.sc_node_table.specs.Values.{Command, Route, Flight}
 use Rattle.sc_paxos_words.specs.Definitions.{flight_at, without_flight}
@@ -17,6 +16,7 @@ use Rattle.sc_live_steps.proofs.FollowingProofs.FlightSlots.{flight_out, slot_ou
 use Rattle.sc_live_steps.proofs.FollowingProofs.Marks.{among-left, among-right}
 use Rattle.sc_live_steps.proofs.FollowingProofs.Offers.{pumps_offer}
 use Rattle.sc_law_walks.proofs.Lemmas.{entered_next, idle_ready, idle_pump}
+use Rattle.sc_law_walks.proofs.Queues.{turned_sets as still_four}
 
 -- ---- the members of the open slots
 
@@ -27,10 +27,6 @@ are_push at slot (s ∷ sets) set are e = (are.0, are_push at (slot + 1) sets se
 pub are_next : (at : Sets) (slot : ℕ) (sets : List (List ℕ)) (set : List ℕ) → AreAt at slot sets → length sets ≡ slots_ahead → at (slot + slots_ahead) ≡ set → AreAt at (slot + 1) (rest_of sets ++ set ∷ [])
 are_next at slot [] set are len e = absurd (omega (arith, len))
 are_next at slot (s ∷ sets) set are len e = are_push at (slot + 1) sets set are.1 (ap at (omega (arith, len)) ∙ e)
-
-pub still_four : (sets : List (List ℕ)) (set : List ℕ) → length sets ≡ slots_ahead → length (rest_of sets ++ set ∷ []) ≡ slots_ahead
-still_four [] set len = (omega (arith, len))
-still_four (s ∷ sets) set len = (let l = length_push sets set in omega (arith, len, l))
 
 pub entered_sets : (command : Command) (r : ReplicaState) → (entered command r).sets ≡ rest_of r.sets ++ members (entered command r) ∷ []
 unfolding entered forgotten

@@ -50,11 +50,11 @@ module _ (name : Draw) (who : ℕ) where
 
 -- ---- the parts of an entry that is learnt
 
-learnt_same : (before : List ℕ) (slot : ℕ) (command : Command) (r : ReplicaState) (mails : List Mail) → learnt_to false before slot command (r, mails) ≡ (r, mails)
+pub learnt_same : (before : List ℕ) (slot : ℕ) (command : Command) (r : ReplicaState) (mails : List Mail) → learnt_to false before slot command (r, mails) ≡ (r, mails)
 unfolding learnt_to
 learnt_same before slot command r mails = refl
 
-welcomed_same : (before : List ℕ) (r : ReplicaState) (mails : List Mail) → welcomed false before (r, mails) ≡ (r, mails)
+pub welcomed_same : (before : List ℕ) (r : ReplicaState) (mails : List Mail) → welcomed false before (r, mails) ≡ (r, mails)
 unfolding welcomed
 welcomed_same before r mails = refl
 
@@ -65,7 +65,7 @@ landed_same slot command r mails none =
     ap (λ (o : Option Command). (slot_lost false command o (record r { leader = without_flight_at slot r.leader; ready = without_slot r.ready slot }), mails))
     (ap (λ (fs : List (Flight Command)). option_map (λ (flight : Flight Command). flight.value) (flight_at slot fs)) none)
 
-left_same : (r : ReplicaState) (mails : List Mail) → r.running ≡ false → left (r, mails) ≡ (r, mails)
+pub left_same : (r : ReplicaState) (mails : List Mail) → r.running ≡ false → left (r, mails) ≡ (r, mails)
 unfolding left
 left_same r mails off = ap (λ b. cond {A = Place} b (left_gone r.group.core.gone (r, mails)) (r, mails)) off
 

@@ -158,7 +158,7 @@ pub jumped_keeps : (slot : ℕ) (base : Base) (sets : List (List ℕ)) (r : Repl
 unfolding jumped forgotten
 jumped_keeps slot base sets r = (refl, refl, refl)
 
-jumped_floor : (slot : ℕ) (base : Base) (sets : List (List ℕ)) (r : ReplicaState) → (jumped slot base sets r).acceptor.floor ≡ max r.acceptor.floor (floor_of slot)
+pub jumped_floor : (slot : ℕ) (base : Base) (sets : List (List ℕ)) (r : ReplicaState) → (jumped slot base sets r).acceptor.floor ≡ max r.acceptor.floor (floor_of slot)
 unfolding jumped forgotten
 jumped_floor slot base sets r = refl
 

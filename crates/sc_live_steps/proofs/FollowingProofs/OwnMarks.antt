@@ -1,5 +1,5 @@
 -- Marks under way to one that leads or is to lead: what asks to promise, what promises, and the last entry to be learnt.
-use Rattle.std.proofs.Common.{◌≡◌, ℕ, zero, suc, ◌+◌, ◌<◌, ◌≤◌, eqb, cond, List, [], ◌∷◌, ◌++◌, Option, Some, None, refl, sym, ap, subst, arith}
+use Rattle.std.proofs.Common.{◌≡◌, ℕ, zero, suc, ◌+◌, ◌<◌, ◌≤◌, eqb, cond, List, [], ◌∷◌, ◌++◌, Option, Some, None, sym, subst, arith}
 use Rattle.std.proofs.lemmas.Bool.{cond_both}
 use Rattle.sc_base.specs.Definitions.{Each, is_member}
 use Rattle.sc_node_table.specs.Values.{Ballot}
@@ -8,6 +8,7 @@ use Rattle.sc_paxos_words.proofs.Lemmas.{Each-append, Each-weaker}
 use Rattle.sc_live_steps.specs.following.Definitions.{IsNoPrepare, Mark, Asks, Votes, Tells, Installs, Prepares, Promises, reached, AreFit, Course, Sets, members_at, IsOtherPrepare, IsOwnPrepare, ArePromisedLast, AreLearntLast, IsCount, IsOffer, welcome, reported_of, told_from}
 use Rattle.sc_live_steps.proofs.FollowingProofs.Marks.{reached-least, offers-each}
 pub use Rattle.sc_live_steps.proofs.FollowingProofs.PrepareSlots.{count_none}
+use Rattle.sc_live_steps.proofs.FollowingProofs.LeastMembers.{append_one as append_marks}
 
 -- ---- lists
 
@@ -149,10 +150,6 @@ pub last_told : (at : Sets) (course in_course : Course) (from who newest : ℕ) 
 last_told at course in_course from who newest offers e zero slot is = offers_last at in_course from who newest offers e
 last_told at course in_course from who newest offers e (suc more) slot is = with_later (last_told at course in_course from who newest offers e more (slot + 1) (omega (arith, is)))
   where
-    append_marks : (xs ys zs : List Mark) → (xs ++ ys) ++ zs ≡ xs ++ (ys ++ zs)
-    append_marks [] ys zs = refl
-    append_marks (x ∷ xs) ys zs = ap (λ l. x ∷ l) (append_marks xs ys zs)
-
     rest : List Mark
     rest = told_from at course (slot + 1) more who ++ offers
 
